@@ -61,6 +61,8 @@ def argument_of(made):
     for name, words in made.calls:
         if name == "long":
             it.long = words[0]
+        elif name == "short":
+            it.short = words[0]
         elif name == "value_name":
             it.value = words[0]
         elif name == "help":

@@ -37,7 +37,8 @@ def bash(program):
         for it in command.options():
             if not it.is_flag:
                 does = "compopt -o default" if takes_files(it) else ":"
-                lines += [f"        {command.name}:--{it.long})", f"            {does}", "            return", "            ;;"]
+                short = f" | {command.name}:-{it.short}" if it.short else ""
+                lines += [f"        {command.name}:--{it.long}{short})", f"            {does}", "            return", "            ;;"]
     lines += ["    esac", "    case $command in", f"        '') words='{names} {flags(program)}' ;;"]
     for command in program.commands:
         words = f"        {command.name}) words='{flags(command)}'"
@@ -72,8 +73,10 @@ def zsh_text(text):
 
 def zsh_option(it):
     text = zsh_text(first_sentence(it.help))
-    if it.short:
+    if it.short and it.is_flag:
         return f"'(- *)'{{-{it.short},--{it.long}}}'[{text}]'"
+    if it.short:
+        return f"{{-{it.short},--{it.long}=}}'[{text}]:{it.value}:{'_files' if takes_files(it) else ' '}'"
     if it.is_flag:
         return f"'--{it.long}[{text}]'"
     return f"'{'*' if it.is_repeated else ''}--{it.long}=[{text}]:{it.value}:{'_files' if takes_files(it) else ' '}'"

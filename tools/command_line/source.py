@@ -5,7 +5,7 @@ numbers and ranges. What isn't of these is an error, which names it."""
 
 import re
 
-TOKEN = re.compile(r'\s*(?://[^\n]*\n\s*)*("(?:[^"\\]|\\.)*"|\d+|[A-Za-z_]\w*(?:::\w+)*!?|\.\.=?|\S)', re.S)
+TOKEN = re.compile(r'\s*(?://[^\n]*\n\s*)*("(?:[^"\\]|\\.)*"|\'.\'|\d+|[A-Za-z_]\w*(?:::\w+)*!?|\.\.=?|\S)', re.S)
 FUNCTION = re.compile(r"^(?:pub )?fn (\w+)<'a>\(([^)]*)\) -> [^{]*\{\n(.*?)^\}", re.M | re.S)
 CONSTANT = re.compile(r"^const (\w+): &str =\s*(\"(?:[^\"\\]|\\.)*\");", re.M | re.S)
 
@@ -83,6 +83,8 @@ class Reading:
         token = self.next()
         if token.startswith('"'):
             return text_of(token)
+        if token.startswith("'"):
+            return token[1]
         if token.isdigit():
             return self.range_from(int(token))
         if self.peek() == "(":

@@ -2,6 +2,7 @@
 says more."""
 
 import difflib
+import re
 
 from .help import usage
 
@@ -23,10 +24,7 @@ class Asked:
 def read_words(program, words):
     named = {it.name: it for it in program.commands}
     called = f"{program.name} <COMMAND>"
-    if not words:
-        names = ", ".join(named)
-        raise Misread(f"'{program.name}' requires a subcommand but one was not provided\n  [subcommands: {names}]", called)
-    first, *more = words
+    first, *more = words or ["--help"]
     if first in ("--help", "-h", "--version", "-V", "help"):
         return general(program, named, first, more)
     if first in named:
@@ -52,12 +50,15 @@ def general(program, named, first, more):
 def of_command(program, command, words):
     asked, called = Asked(command), usage([program.name, command.name], command)
     flags = {f"--{it.long}": it for it in command.options()}
-    flags["-h"] = flags["--help"]
+    flags.update({f"-{it.short}": it for it in command.options() if it.short})
     most = len(command.words()) if not any(it.is_repeated for it in command.words()) else len(words)
     words, is_open = list(words), True
     while words:
         word = words.pop(0)
         head, equals, tail = word.partition("=")
+        if re.match(r"-[^-].", word) and word[:2] in flags and not flags[word[:2]].is_flag:
+            # As in -oFILE and -o=FILE.
+            head, equals, tail = word[:2], "=", word[2:].removeprefix("=")
         if is_open and word == "--":
             is_open = False
         elif is_open and word.startswith("-") and word != "-":

@@ -1,7 +1,6 @@
 -- What is told of a file that is refused.
-use Rattle.std.specs.Prelude.{ℕ, List, [], ◌++◌, codes, Option}
+use Rattle.std.specs.Prelude.{◌≡◌, ℕ, List, [], ◌++◌, codes, Option, Some, None}
 use Rattle.std.specs.Fmt.{decimal}
-use Rattle.xa_files.specs.Outputs.{AppendsBeginning}
 use Rattle.xa_files.specs.declared.fault.RunFault.{RunFault}
 use Rattle.xa_files.specs.declared.fault.RunFault.TheVariants.{NotToml, Header, Step, Job, Log, Memory, Work, Output}
 
@@ -16,7 +15,22 @@ place_text Memory = []
 place_text Work = []
 place_text Output = []
 
--- What was written tells of this fault first: where it lies, and then this reason.
-pub record Tells (fault : RunFault) (old new : Option (List ℕ)) : Type 0 where
+-- a number, as editors take it behind a path
+abbrev pub number_text : Option ℕ → List ℕ
+number_text None = []
+number_text (Some n) = codes ":" ++ decimal n
+
+-- a line and a column, likewise
+abbrev pub numbers_text : (line column : Option ℕ) → List ℕ
+numbers_text line column = number_text line ++ number_text column
+
+-- where a fault lies, and its reason
+abbrev pub reason_text : RunFault → List ℕ → List ℕ
+reason_text fault reason = place_text fault ++ codes ": " ++ reason
+
+-- What is told of the file at a path tells of this fault first: the path, perhaps a line, where the fault lies, and then a reason.
+pub record Tells (path : List ℕ) (fault : RunFault) (told : List ℕ) : Type 0 where
+  pub line : Option ℕ
+  pub column : Option ℕ
   pub reason : List ℕ
-  pub written : AppendsBeginning old new (place_text fault ++ reason)
+  pub is : told ≡ path ++ numbers_text line column ++ codes ": " ++ reason_text fault reason

@@ -2,6 +2,63 @@
 
 use xa_base::CallKind;
 
+/// The words that a key may hold, where it holds a word.
+pub fn words_at(key: &str) -> &'static [&'static str] {
+    match key {
+        "do" => &[
+            "begin",
+            "issue",
+            "call",
+            "take",
+            "hear",
+            "drain",
+            "vote",
+            "busy",
+            "heuristic",
+            "decide",
+            "recover",
+            "resolve",
+            "done",
+            "crash",
+            "restart",
+            "claim",
+            "settle",
+            "abandon",
+            "resolve-open",
+        ],
+        "xa" => &[
+            "xa_open",
+            "xa_close",
+            "xa_start",
+            "xa_end",
+            "xa_prepare",
+            "xa_commit",
+            "xa_rollback",
+            "xa_forget",
+            "xa_recover",
+        ],
+        "flags" => &[
+            "TMNOFLAGS",
+            "TMJOIN",
+            "TMENDRSCAN",
+            "TMSTARTRSCAN",
+            "TMSUCCESS",
+            "TMFAIL",
+            "TMONEPHASE",
+        ],
+        "vote" => &[
+            "ok", "ro", "100", "101", "102", "103", "104", "105", "106", "107",
+        ],
+        "votes" => &[
+            "ok", "ro", "100", "101", "102", "103", "104", "105", "106", "107", "none",
+        ],
+        "how" => &["com", "rb", "mix", "haz"],
+        "outcome" => &["commit", "rollback"],
+        "part" => &["line", "rm", "manager"],
+        _ => &[],
+    }
+}
+
 /// What a key may hold.
 pub fn allowed_at(key: &str) -> &'static str {
     match key {

@@ -1,13 +1,12 @@
-//! What is told of a file that is refused.
+//! The line that tells of a fault of a file.
 
 ghost use Rattle.std.specs.Prelude.{◌≡◌, IfOk};
 ghost use Rattle.std.specs.String.{string_bytes};
-ghost use Rattle.xa_diagnostics.specs.Explanations.{place_text};
+ghost use Rattle.xa_diagnostics.specs.Explanations.{Tells, number_text, numbers_text, place_text, reason_text};
 
-use crate::finding::InWords;
 use std::alloc::Global;
 use xa_base::Memory;
-use xa_files::{Finding, RunFault};
+use xa_files::RunFault;
 
 /// Where the fault of a file lies.
 pub fn place_text(alloc: Global, fault: RunFault) -> Result<String, Memory>
@@ -24,15 +23,50 @@ pub fn place_text(alloc: Global, fault: RunFault) -> Result<String, Memory>
     }
 }
 
-/// What is wrong, on which line, and what is allowed there.
-pub fn finding_text(
+/// A number, as editors take it behind a path.
+fn number_text(alloc: Global, number: Option<usize>) -> Result<String, Memory>
+    ensures { IfOk result (λ text. string_bytes text ≡ number_text number) }
+{
+    match number {
+        None => Ok(String::new(alloc)),
+        Some(number) => Ok(format!(in alloc; ":{number}")?),
+    }
+}
+
+/// The line and the column, likewise.
+pub fn numbers_text(
     alloc: Global,
     line: Option<usize>,
-    finding: Finding<'_>,
-) -> Result<String, Memory> {
-    let words = InWords(finding);
-    match line {
-        Some(line) => Ok(format!(in alloc; ", line {line}: {words}\n")?),
-        None => Ok(format!(in alloc; ": {words}\n")?),
-    }
+    column: Option<usize>,
+) -> Result<String, Memory>
+    ensures { IfOk result (λ text. string_bytes text ≡ numbers_text line column) }
+{
+    let mut text = number_text(alloc, line)?;
+    let column = number_text(alloc, column)?;
+    text.push_str(column.as_str())?;
+    Ok(text)
+}
+
+/// Where a fault lies, and its reason.
+fn reason_text(alloc: Global, fault: RunFault, reason: &str) -> Result<String, Memory>
+    ensures { IfOk result (λ text. string_bytes text ≡ reason_text fault reason.now) }
+{
+    let place = place_text(alloc, fault)?;
+    Ok(format!(in alloc; "{place}: {reason}")?)
+}
+
+/// What is told of the file at a path, which has this fault on a line, for a reason.
+pub fn fault_line(
+    alloc: Global,
+    path: &str,
+    fault: RunFault,
+    line: Option<usize>,
+    column: Option<usize>,
+    reason: &str,
+) -> Result<String, Memory>
+    ensures { IfOk result (λ told. Tells path.now fault (string_bytes told)) }
+{
+    let numbers = numbers_text(alloc, line, column)?;
+    let text = reason_text(alloc, fault, reason)?;
+    Ok(format!(in alloc; "{path}{numbers}: {text}")?)
 }

@@ -3,33 +3,46 @@
 ghost use Rattle.std.specs.Prelude.{◌≡◌, IfErr};
 ghost use Rattle.xa_files.specs.declared.fault.RunFault.TheVariants.{Memory};
 
+use crate::statements::{mariadb_commit, postgresql_commit};
 use std::alloc::Global;
 use xa_base::{Branch, Gtrid, How};
 use xa_files::{RunFault, gtrid_text};
 use xa_log::LogRows;
 
-/// What there is to do about a transaction that is decided to commit.
+const NOTHING: &str = "Nothing waits: the log has no row and no record.\n";
+
+/// What ends the branches that rows name.
+const ENDED_BY: &str =
+    "A service over this log commits these branches at its next start, and each as \
+    soon as its database is back. By hand it is done only where that can't wait, and where the \
+    database still lists the branch: in pg_prepared_xacts, or by XA RECOVER. Nothing waits for a \
+    row that xatm run or xatm threads left: its branches ended with that program.\n";
+
+/// What is told of a transaction that is decided to commit.
 fn decision_text(alloc: Global, g: Gtrid, count: usize) -> Result<String, RunFault>
     ensures fault { IfErr result (λ e. e ≡ Memory) }
 {
     let name = gtrid_text(alloc, g)?;
     Ok(match count {
         0 => format!(in alloc; "{name} is decided to commit, and its row names no branch.\n")?,
-        1 => format!(in alloc; "{name} is decided to commit, and its row names 1 branch:\n")?,
+        1 => format!(in alloc; "{name} is decided to commit, and its row waits for 1 branch:\n")?,
         _ => format!(in alloc;
-            "{name} is decided to commit, and its row names {count} branches:\n"
+            "{name} is decided to commit, and its row waits for {count} branches:\n"
         )?,
     })
 }
 
-/// Where a branch is that a row waits for.
-fn branch_text(alloc: Global, branch: &Branch) -> Result<String, RunFault>
+/// Where a branch is that a row waits for, and the statements that commit it.
+fn branch_text(alloc: Global, manager: &[u8], branch: &Branch) -> Result<String, RunFault>
     ensures fault { IfErr result (λ e. e ≡ Memory) }
 {
     let rm = branch.rm;
-    let name = branch.xid().text(alloc)?;
+    let xid = branch.xid();
+    let name = xid.text(alloc)?;
+    let postgresql = postgresql_commit(alloc, manager, &xid)?;
+    let mariadb = mariadb_commit(alloc, manager, &xid)?;
     Ok(format!(in alloc;
-        "    {name} at resource manager {rm}: committed by a recovery there, if it is not yet\n"
+        "    {name} at resource manager {rm}\n        PostgreSQL: {postgresql}\n        MariaDB: {mariadb}\n"
     )?)
 }
 
@@ -45,13 +58,17 @@ fn against_commit(how: How) -> &'static str {
     }
 }
 
-/// What a heuristic end is to a transaction without a row: that is over, or was rolled back.
+/// What a heuristic end is to a transaction without a row: that was rolled back, or is committed and over.
 fn without_row(how: How) -> &'static str {
     match how {
-        How::Com => "committed: look whether its transaction was, which has no row any more",
-        How::Rb => "rolled back: look whether its transaction was, which has no row any more",
-        How::Mix => "committed in part: look how its transaction ended, which has no row any more",
-        How::Haz => "perhaps ended: look what is there, and how its transaction ended",
+        How::Com => "committed. Its transaction has no row: it was rolled back, or is committed \
+            and over. If another branch of it is rolled back, undo the work of this one",
+        How::Rb => "rolled back. Its transaction has no row: it was rolled back, or is committed \
+            and over. If another branch of it is committed, do the work of this one again",
+        How::Mix => "committed in part. Its transaction has no row: it was rolled back, or is \
+            committed and over. Look how another branch of it ended, and make this one alike",
+        How::Haz => "perhaps ended. Its transaction has no row: it was rolled back, or is \
+            committed and over. Look what is there, and how another branch of it ended",
     }
 }
 
@@ -75,7 +92,12 @@ fn heuristic_text(
 }
 
 /// Adds what there is to do about the transactions.
-fn push_decisions(text: &mut String, alloc: Global, rows: &LogRows) -> Result<(), RunFault>
+fn push_decisions(
+    text: &mut String,
+    alloc: Global,
+    manager: &[u8],
+    rows: &LogRows,
+) -> Result<(), RunFault>
     ensures fault { IfErr result (λ e. e ≡ Memory) }
 {
     for g in rows.decisions.iter() {
@@ -84,7 +106,7 @@ fn push_decisions(text: &mut String, alloc: Global, rows: &LogRows) -> Result<()
         text.push_str(line.as_str())?;
         for branch in rows.participants.iter() {
             if branch.gtrid == *g {
-                let line = branch_text(alloc, branch)?;
+                let line = branch_text(alloc, manager, branch)?;
                 text.push_str(line.as_str())?;
             }
         }
@@ -92,19 +114,22 @@ fn push_decisions(text: &mut String, alloc: Global, rows: &LogRows) -> Result<()
     Ok(())
 }
 
-/// What the rows of a log ask of an operator.
-pub fn asks_text(rows: &LogRows) -> Result<String, RunFault>
+/// What the rows of a log ask of an operator. The statements name branches as the manager of this name does.
+pub fn asks_text(manager: &[u8], rows: &LogRows) -> Result<String, RunFault>
     ensures fault { IfErr result (λ e. e ≡ Memory) }
 {
     let alloc = *rows.decisions.allocator();
     let mut text = String::new(alloc);
-    push_decisions(&mut text, alloc, rows)?;
+    push_decisions(&mut text, alloc, manager, rows)?;
     for row in rows.heuristics.iter() {
         let line = heuristic_text(alloc, row, &rows.decisions)?;
         text.push_str(line.as_str())?;
     }
+    if !rows.participants.is_empty() {
+        text.push_str(ENDED_BY)?;
+    }
     if text.is_empty() {
-        text.push_str("Nothing waits: the log has no row and no record.\n")?;
+        text.push_str(NOTHING)?;
     }
     Ok(text)
 }

@@ -17,10 +17,15 @@ use xa_log::DecisionLog;
 
 /// Prints what the rows of a log ask of an operator: for each transaction that is decided to commit, the branches that
 /// its row waits for; and for each branch that is recorded as heuristic, whether that contradicts a decision, and what to
-/// look at (XA, section 2.3.3, Heuristic Branch Completion).
+/// look at (XA, section 2.3.3, Heuristic Branch Completion). The statements that commit a branch by hand name it as the manager
+/// of this name does, which is empty of one without a name.
 ///
 /// What it asks of the log changes nothing. The faults are those of `list_log`.
-pub fn explain_log<L: DecisionLog, W: Write>(log: &mut L, out: &mut W) -> Result<(), RunFault>
+pub fn explain_log<L: DecisionLog, W: Write>(
+    log: &mut L,
+    manager: &[u8],
+    out: &mut W,
+) -> Result<(), RunFault>
     ensures unwritten { IfErr result (λ e. e ≢ Output →
         Keeps (W.contents out.old) (W.contents out.new)) }
     ensures fault { IfErr result IsListFault }
@@ -44,6 +49,6 @@ pub fn explain_log<L: DecisionLog, W: Write>(log: &mut L, out: &mut W) -> Result
         ⊎ TellsFault Memory (L.says LogCall.Rows unchanged log.old log.new) }
 {
     let rows = log.rows().map_err(run_fault)?;
-    let text = asks_text(&rows)?;
+    let text = asks_text(manager, &rows)?;
     write_text(text.as_bytes(), out)
 }

@@ -10,6 +10,7 @@ mod explain;
 mod faults;
 mod lines;
 mod list;
+mod statements;
 
 pub use explain::explain_log;
 pub use faults::run_fault;

@@ -5,9 +5,10 @@
 use std::alloc::{AllocError, AllocFailed};
 use std::process::ExitCode;
 use std::{env, fs, io};
-use xa_diagnostics::explain_check;
+use xa_base::Memory;
+use xa_diagnostics::{FileKind, check_jobs, kind_of, report, warnings};
 use xa_display::{ChartFault, draw_scenario, explain_scenario};
-use xa_files::RunFault;
+use xa_files::{RunFault, write_text};
 use xa_log::MemLog;
 use xa_scenario::{check_scenario, read_scenarios, run_scenarios};
 
@@ -16,12 +17,12 @@ use xa_scenario::{check_scenario, read_scenarios, run_scenarios};
 enum Failure {
     /// The command line is none of those that it takes.
     CommandLine,
-    /// The file can't be read.
-    NotReadable,
+    /// The file at this path can't be read.
+    Unreadable(String),
     /// The work on the file ended early.
     Run(RunFault),
-    /// The same of the file at this path, one of several.
-    RunAt(RunFault, String),
+    /// A file is refused for this fault, and this text tells of all its faults.
+    Told(RunFault, String),
     /// The run of the file has more events than a picture shows.
     TooLong,
 }
@@ -40,9 +41,20 @@ impl Failure {
     fn status(&self) -> u8 {
         match self {
             Failure::CommandLine => 3,
-            Failure::NotReadable => 1,
+            Failure::Unreadable(_) => 1,
             Failure::TooLong => 2,
-            Failure::Run(fault) | Failure::RunAt(fault, _) => fault.status(),
+            Failure::Run(fault) | Failure::Told(fault, _) => fault.status(),
+        }
+    }
+
+    /// Prints the text of the failure.
+    fn print(&self, rt: &HostRuntime) -> io::Result<()> {
+        match self {
+            Failure::CommandLine => eprintln!(rt; "xatm: command line"),
+            Failure::Unreadable(path) => eprintln!(rt; "xatm: {path}: it can't be read"),
+            Failure::Run(fault) => eprintln!(rt; "{fault}"),
+            Failure::Told(_, text) => eprint!(rt; "{text}"),
+            Failure::TooLong => eprintln!(rt; "xatm: chart: more than 200 events"),
         }
     }
 }
@@ -53,12 +65,9 @@ impl From<RunFault> for Failure {
     }
 }
 
-impl From<ChartFault> for Failure {
-    fn from(fault: ChartFault) -> Failure {
-        match fault {
-            ChartFault::Run(fault) => Failure::Run(fault),
-            ChartFault::TooLong => Failure::TooLong,
-        }
+impl From<Memory> for Failure {
+    fn from(_error: Memory) -> Failure {
+        Failure::Run(RunFault::Memory)
     }
 }
 
@@ -79,13 +88,13 @@ fn main(rt: HostRuntime) -> ExitCode {
         Ok(()) => ExitCode::SUCCESS,
         Err(failure) => {
             // A text that can't be written changes no status.
-            let _unwritten = print(&rt, &failure);
+            let _unwritten = failure.print(&rt);
             ExitCode::from(failure.status())
         }
     }
 }
 
-/// Does what the command line asks: `run FILE..`, `run --trace FILE..`, `check FILE`, `check --explain FILE`, `explain FILE` or
+/// Does what the command line asks: `run FILE..`, `run --trace FILE..`, `check FILE..`, `check --explain FILE..`, `explain FILE` or
 /// `chart FILE`.
 fn work(rt: &HostRuntime) -> Result<(), Failure> {
     let alloc = rt.alloc();
@@ -96,28 +105,99 @@ fn work(rt: &HostRuntime) -> Result<(), Failure> {
         [_, command, trace, files @ ..]
             if command.as_str() == "run" && trace.as_str() == "--trace" => { run(rt, files, true) }
         [_, command, files @ ..] if command.as_str() == "run" => run(rt, files, false),
-        [_, command, explain, file]
+        [_, command, explain, files @ ..]
             if command.as_str() == "check" && explain.as_str() == "--explain" => {
-            Ok(explain_check(alloc, &text_of(rt, file)?, &mut io::writer(rt))?)
+            check(rt, files, true)
         }
+        [_, command, files @ ..] if command.as_str() == "check" => check(rt, files, false),
         [_, command, file] => look(rt, command, file),
         _ => Err(Failure::CommandLine),
     }
 }
 
-/// Checks the scenario in a file, tells its story, or draws it.
-fn look(rt: &HostRuntime, command: &str, file: &str) -> Result<(), Failure> {
-    let alloc = rt.alloc();
-    let out = &mut io::writer(rt);
-    match command {
-        "check" => Ok(check_scenario(alloc, &text_of(rt, file)?, out)?),
-        "explain" => Ok(explain_scenario(alloc, &text_of(rt, file)?, MemLog::new(alloc), out)?),
-        "chart" => Ok(draw_scenario(alloc, &text_of(rt, file)?, MemLog::new(alloc), out)?),
-        _ => Err(Failure::CommandLine),
+/// The failure of a file, behind earlier ones, that was read for this.
+fn failure(
+    rt: &HostRuntime,
+    path: &str,
+    text: &[u8],
+    earlier: &[Vec<u8>],
+    kind: FileKind,
+    fault: RunFault,
+    is_whole: bool,
+) -> Failure {
+    if fault.status() != 1 {
+        return Failure::Run(fault);
+    }
+    match report(rt.alloc(), path, text, earlier, kind, fault, is_whole) {
+        Ok(told) => Failure::Told(fault, told),
+        Err(error) => Failure::from(error),
     }
 }
 
-/// Runs the scenarios in files, each as a process. Where there are several, the path of a faulty one is told.
+/// Reads files only. The failure is that of the last faulty one.
+fn check(rt: &HostRuntime, files: &[String], is_whole: bool) -> Result<(), Failure> {
+    let mut checked = Ok(());
+    for path in files {
+        if let Err(failure) = check_one(rt, path, files.len() > 1, is_whole) {
+            if let Err(earlier) = &checked {
+                let _unwritten = earlier.print(rt);
+            }
+            checked = Err(failure);
+        }
+    }
+    checked
+}
+
+/// Reads one file only.
+fn check_one(
+    rt: &HostRuntime,
+    path: &str,
+    is_one_of_several: bool,
+    is_whole: bool,
+) -> Result<(), Failure> {
+    let alloc = rt.alloc();
+    let text = text_of(rt, path)?;
+    let kind = kind_of(alloc, &text);
+    let mut line = Vec::new(alloc);
+    let checked = match kind {
+        FileKind::Scenario => check_scenario(alloc, &text, &mut line),
+        FileKind::Jobs => check_jobs(alloc, &text, &mut line),
+    };
+    if let Err(fault) = checked {
+        return Err(failure(rt, path, &text, &[], kind, fault, is_whole));
+    }
+    let out = &mut io::writer(rt);
+    if is_one_of_several {
+        let before = format!(in alloc; "{path}: ")?;
+        write_text(before.as_bytes(), out)?;
+    }
+    write_text(line.as_slice(), out)?;
+    let told = warnings(alloc, path, &text)?;
+    let _unwritten = eprint!(rt; "{told}");
+    Ok(())
+}
+
+/// Tells the story of the scenario in a file, or draws it.
+fn look(rt: &HostRuntime, command: &str, path: &str) -> Result<(), Failure> {
+    let alloc = rt.alloc();
+    let out = &mut io::writer(rt);
+    let text = text_of(rt, path)?;
+    let looked = match command {
+        "explain" => explain_scenario(alloc, &text, MemLog::new(alloc), out),
+        "chart" => match draw_scenario(alloc, &text, MemLog::new(alloc), out) {
+            Ok(()) => Ok(()),
+            Err(ChartFault::Run(fault)) => Err(fault),
+            Err(ChartFault::TooLong) => return Err(Failure::TooLong),
+        },
+        _ => return Err(Failure::CommandLine),
+    };
+    match looked {
+        Ok(()) => Ok(()),
+        Err(fault) => Err(failure(rt, path, &text, &[], FileKind::Scenario, fault, false)),
+    }
+}
+
+/// Runs the scenarios in files, each as a process.
 fn run(rt: &HostRuntime, files: &[String], with_trace: bool) -> Result<(), Failure> {
     let alloc = rt.alloc();
     let mut texts = Vec::new(alloc);
@@ -127,9 +207,19 @@ fn run(rt: &HostRuntime, files: &[String], with_trace: bool) -> Result<(), Failu
     let scenarios = match read_scenarios(alloc, &texts) {
         Ok(scenarios) => scenarios,
         Err(fault) => {
-            return Err(match files.get(fault.file) {
-                Some(path) if files.len() > 1 => {
-                    Failure::RunAt(fault.fault, String::from_str(alloc, path)?)
+            let at = fault.file;
+            return Err(match (files.get(at), texts.get(at)) {
+                (Some(path), Some(text)) => {
+                    let earlier = texts.as_slice().get(..at).unwrap_or(&[]);
+                    failure(
+                        rt,
+                        path,
+                        text,
+                        earlier,
+                        FileKind::Scenario,
+                        fault.fault,
+                        false,
+                    )
                 }
                 _ => Failure::Run(fault.fault),
             });
@@ -145,17 +235,11 @@ fn run(rt: &HostRuntime, files: &[String], with_trace: bool) -> Result<(), Failu
 }
 
 /// What a file holds.
-fn text_of(rt: &HostRuntime, file: &str) -> Result<Vec<u8>, Failure> {
-    fs::read(rt, file).map_err(|error| Failure::NotReadable.caused_by(&error))
-}
-
-/// Prints the text of a failure.
-fn print(rt: &HostRuntime, failure: &Failure) -> io::Result<()> {
-    match failure {
-        Failure::CommandLine => eprintln!(rt; "xatm: command line"),
-        Failure::NotReadable => eprintln!(rt; "xatm: scenario: not readable"),
-        Failure::Run(fault) => eprintln!(rt; "{fault}"),
-        Failure::RunAt(fault, path) => eprintln!(rt; "{fault}: {path}"),
-        Failure::TooLong => eprintln!(rt; "xatm: chart: more than 200 events"),
+fn text_of(rt: &HostRuntime, path: &str) -> Result<Vec<u8>, Failure> {
+    match fs::read(rt, path) {
+        Ok(text) => Ok(text),
+        Err(error) => {
+            Err(Failure::Unreadable(String::from_str(rt.alloc(), path)?).caused_by(&error))
+        }
     }
 }

@@ -7,23 +7,23 @@ use Rattle.xa_coordinator.specs.declared.serving.ServeFault.TheVariants as servi
 use Rattle.xa_files.specs.declared.fault.RunFault.TheVariants as faults
 use Rattle.xa_tm.specs.declared.manager.start.StartFault.{StartFault}
 use Rattle.xa_tm.specs.declared.manager.start.StartFault.TheVariants as starts
-use Rattle.xatm.specs.declared.failure.Failure.TheVariants.{CommandLine, Words, NotReadable, NotReadableAt, Run, RunAt, TooLong, Input, Name, RmNames, Refused, Line}
+use Rattle.xatm.specs.declared.failure.Failure.TheVariants.{CommandLine, Words, Unreadable, Run, Told, Failed, TooLong, Input, Name, RmNames, Refused, Line}
 
--- 3 where the command line is refused, 1 where the file can't be read or a line of a log is wrong, 2 where its run is too long for a picture, the requests of a
--- driver can't be read or the log is refused, else the status of the fault
+-- 3 where the command line is refused, 1 where a file can't be read or a line of a log is wrong, 2 where a run is too long for a picture, the
+-- requests of a driver can't be read, or the log is refused or fails, else the status of the fault
 abbrev pub failure_status : Failure → ℕ
 failure_status (CommandLine error) = 3
 failure_status Words = 3
 failure_status Name = 3
 failure_status RmNames = 3
-failure_status NotReadable = 1
-failure_status (NotReadableAt path) = 1
+failure_status (Unreadable text) = 1
 failure_status TooLong = 2
 failure_status Input = 2
 failure_status (Refused text) = 2
 failure_status (Line number fault) = 1
 failure_status (Run fault) = fault_status fault
-failure_status (RunAt fault path) = fault_status fault
+failure_status (Told fault text) = fault_status fault
+failure_status (Failed text) = 2
 
 -- why a coordinator didn't start
 abbrev pub failure_of_start : StartFault → Failure

@@ -23,14 +23,14 @@ pub enum Failure {
     CommandLine(clap::Error),
     /// The words of the command line can't be read.
     Words,
-    /// The file can't be read.
-    NotReadable,
-    /// The same of the file at this path, one of several.
-    NotReadableAt(String),
+    /// A file can't be read: its path, and why.
+    Unreadable(String),
     /// The work on the file ended early.
     Run(RunFault),
-    /// The file at this path, one of several, is refused.
-    RunAt(RunFault, String),
+    /// A file is refused for this fault, and this text tells of all its faults.
+    Told(RunFault, String),
+    /// The log or the output in a file failed, as this text says: its path, and why. A later try may go well.
+    Failed(String),
     /// The run of the file has more events than a picture shows.
     TooLong,
     /// The requests of a driver can't be read.
@@ -61,17 +61,6 @@ impl Failure {
         }
     }
 
-    /// This failure, with the path of the file that is refused, where it is one.
-    pub fn at(self, path: String) -> Failure
-        ensures { failure_status result ≡ failure_status self }
-    {
-        match self {
-            Failure::NotReadable => Failure::NotReadableAt(path),
-            Failure::Run(fault) if fault.status() == 1 => Failure::RunAt(fault, path),
-            other => other,
-        }
-    }
-
     /// The status that the program ends with: 1 where the file is refused, 2 where the work on it fails, 3 where the
     /// command line is refused.
     pub fn status(&self) -> u8
@@ -79,10 +68,9 @@ impl Failure {
     {
         match self {
             Failure::CommandLine(_) | Failure::Words | Failure::Name | Failure::RmNames => 3,
-            Failure::NotReadable => 1,
-            Failure::NotReadableAt(_) | Failure::Line(_, _) => 1,
-            Failure::TooLong | Failure::Input | Failure::Refused(_) => 2,
-            Failure::Run(fault) | Failure::RunAt(fault, _) => fault.status(),
+            Failure::Unreadable(_) | Failure::Line(_, _) => 1,
+            Failure::TooLong | Failure::Input | Failure::Refused(_) | Failure::Failed(_) => 2,
+            Failure::Run(fault) | Failure::Told(fault, _) => fault.status(),
         }
     }
 
@@ -91,10 +79,9 @@ impl Failure {
         match self {
             Failure::CommandLine(error) => error.print(rt),
             Failure::Words => eprintln!(rt; "xatm: command line"),
-            Failure::NotReadable => eprintln!(rt; "xatm: scenario: not readable"),
-            Failure::NotReadableAt(path) => eprintln!(rt; "xatm: scenario: not readable: {path}"),
+            Failure::Unreadable(text) | Failure::Failed(text) => eprintln!(rt; "xatm: {text}"),
             Failure::Run(fault) => eprintln!(rt; "{fault}"),
-            Failure::RunAt(fault, path) => eprintln!(rt; "{fault}: {path}"),
+            Failure::Told(_, text) => eprint!(rt; "{text}"),
             Failure::TooLong => eprintln!(rt; "xatm: chart: more than 200 events"),
             Failure::Input => eprintln!(rt; "xatm: input"),
             Failure::Name => eprintln!(rt; "xatm: name: 1 to 16 letters, digits, _ and -"),

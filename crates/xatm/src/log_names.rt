@@ -2,6 +2,7 @@
 //! resource managers, from number 0.
 
 use crate::failure::Failure;
+use crate::log_reasons::opening_failure;
 use std::alloc::Global;
 use std::io::Write;
 use xa_files::RunFault;
@@ -37,8 +38,10 @@ pub(crate) fn check_rm_names(names: &[&str], rms: u32) -> Result<(), Failure> {
 
 /// Refuses a log of which only a part is there.
 pub(crate) fn refuse_half(rt: &HostRuntime, path: &str) -> Result<(), Failure> {
-    if !SqlLog::is_half(rt, path)? {
-        return Ok(());
+    match SqlLog::is_half(rt, path) {
+        Ok(true) => {}
+        Ok(false) => return Ok(()),
+        Err(fault) => return Err(opening_failure(rt, path, fault)),
     }
     Err(Failure::Refused(format!(in rt.alloc();
         "{path}: the file is missing or empty, and {path}-wal is what is left of it: put the \
@@ -101,11 +104,17 @@ pub(crate) fn claim_log(
     refuse_half(rt, path)?;
     let alloc = rt.alloc();
     let given = label_of(alloc, name, rms)?;
-    match SqlLog::label(rt, path)? {
-        Some(kept) => compare(alloc, path, kept.as_str(), given.as_str()),
-        None if given.is_empty() => Ok(()),
-        None => Ok(SqlLog::make(rt, path, given.as_str())?),
+    match SqlLog::label(rt, path) {
+        Ok(Some(kept)) => compare(alloc, path, kept.as_str(), given.as_str()),
+        Ok(None) if given.is_empty() => Ok(()),
+        Ok(None) => make_labelled(rt, path, given.as_str()),
+        Err(fault) => Err(opening_failure(rt, path, fault)),
     }
+}
+
+/// Makes an empty log with a label.
+pub(crate) fn make_labelled(rt: &HostRuntime, path: &str, label: &str) -> Result<(), Failure> {
+    SqlLog::make(rt, path, label).map_err(|fault| opening_failure(rt, path, fault))
 }
 
 /// Refuses a log whose label has other names.
@@ -160,6 +169,15 @@ fn write_all<W: Write>(out: &mut W, text: &str) -> Result<(), Failure> {
     }
 }
 
+/// The name of the manager in a label.
+pub(crate) fn manager_in(label: &str) -> ManagerName {
+    label
+        .split(' ')
+        .next()
+        .and_then(|word| ManagerName::of_text(word))
+        .unwrap_or(ManagerName::none())
+}
+
 /// Prints the names that a log keeps, and then this text about it, in which identifiers are as that manager gives them out. Of a
 /// log without names it prints the text as it is.
 pub(crate) fn print_named<W: Write>(
@@ -169,10 +187,7 @@ pub(crate) fn print_named<W: Write>(
     out: &mut W,
 ) -> Result<(), Failure> {
     let names: Vec<&str> = label.split(' ').collect(alloc)?;
-    let name = names
-        .first()
-        .and_then(|word| ManagerName::of_text(word))
-        .unwrap_or(ManagerName::none());
+    let name = manager_in(label);
     let mut all = String::new(alloc);
     for (at, word) in names.iter().enumerate() {
         let line = match at {

@@ -1,12 +1,13 @@
 //! A log that is made from lines.
 
 use crate::failure::Failure;
-use crate::log_names::{label_of, refuse_half};
+use crate::files::system_failure;
+use crate::log_names::{label_of, make_labelled, refuse_half};
+use crate::log_reasons::opening_failure;
 use crate::stores::restore_in_files;
 use std::fs::{self, File};
 use std::io::{self, ErrorKind, Input};
 use std::path::Path;
-use xa_files::RunFault;
 use xa_restore::{Heading, read_heading, read_log};
 use xa_sql_log::SqlLog;
 
@@ -27,7 +28,16 @@ pub(crate) fn make_log(rt: &HostRuntime, path: &str) -> Result<(), Failure> {
     };
     let beside = format!(in alloc; "{path}-new")?;
     prepare_log(rt, beside.as_str(), &heading)?;
-    restore_in_files(alloc, SqlLog::open(rt, beside.as_str())?, &made)?;
+    let log = SqlLog::open(rt, beside.as_str()).map_err(|fault| opening_failure(
+        rt,
+        beside.as_str(),
+        fault,
+    ))?;
+    restore_in_files(alloc, log, &made).map_err(|fault| opening_failure(
+        rt,
+        beside.as_str(),
+        fault,
+    ))?;
     move_log(rt, beside.as_str(), path)
 }
 
@@ -38,7 +48,7 @@ fn refuse_present(rt: &HostRuntime, path: &str) -> Result<(), Failure> {
         Ok(true) => Err(Failure::Refused(format!(in rt.alloc();
             "{path}: there is a file already: a log is made only where there is none"
         )?)),
-        Err(error) => Err(Failure::Run(RunFault::Log).caused_by(&error)),
+        Err(error) => Err(system_failure(rt.alloc(), path, &error)),
     }
 }
 
@@ -64,14 +74,14 @@ fn prepare_log(rt: &HostRuntime, path: &str, heading: &Heading<'_>) -> Result<()
     if label.is_empty() {
         return Ok(());
     }
-    Ok(SqlLog::make(rt, path, label.as_str())?)
+    make_labelled(rt, path, label.as_str())
 }
 
 /// Removes the file at a path, where there is one.
 fn remove_file(rt: &HostRuntime, path: &str) -> Result<(), Failure> {
     match fs::remove_file(rt, path) {
         Err(error) if error.kind() != ErrorKind::NotFound => {
-            Err(Failure::Run(RunFault::Log).caused_by(&error))
+            Err(system_failure(rt.alloc(), path, &error))
         }
         _ => Ok(()),
     }
@@ -83,7 +93,7 @@ fn move_log(rt: &HostRuntime, from: &str, to: &str) -> Result<(), Failure> {
     remove_file(rt, journal_of(rt, to)?.as_str())?;
     match move_file(rt, from, to) {
         Ok(()) => Ok(()),
-        Err(error) => Err(Failure::Run(RunFault::Log).caused_by(&error)),
+        Err(error) => Err(system_failure(rt.alloc(), to, &error)),
     }
 }
 

@@ -6,29 +6,39 @@
 #![tactic(auto)]
 
 mod command;
+mod copies;
 mod failure;
+mod files;
 mod log_names;
+mod log_reasons;
 mod made_logs;
 mod service;
 mod stores;
 mod stories;
 
 use crate::command::{Command, command_of, parser};
+use crate::copies::copied_log;
 use crate::failure::Failure;
+use crate::files::{Source, output_to, text_of, texts_of};
 use crate::log_names::{
-    check_rm_names, claim_log, introduce, manager_named, print_named, refuse_half,
+    check_rm_names, claim_log, introduce, manager_in, manager_named, print_named, refuse_half,
 };
+use crate::log_reasons::{no_log, opening_failure, running_failure};
 use crate::made_logs::make_log;
 use crate::service::serve_in_files;
-use crate::stores::{close_in_files, list_in_files, run_in_files, run_jobs_in_files, run_over};
+use crate::stores::{
+    close_in_files, list_in_files, list_over, run_in_files, run_jobs_in_files, run_over,
+};
 use crate::stories::{check, draw, explain};
+use sqlite::{FileFrom, FileStore, Unknown};
 use std::io::{BufReader, BufWriter, Input, Write};
 use std::process::ExitCode;
 use std::sync::Wait;
 use std::thread::Threads;
 use std::time::Clock;
-use std::{env, fs, io};
-use xa_files::RunFault;
+use std::{env, io};
+use xa_diagnostics::{FileKind, log_json, run_json};
+use xa_files::{RunFault, write_text};
 use xa_jobs::run_job_file;
 use xa_log::{LogFault, MemLog};
 use xa_names::ManagerName;
@@ -49,9 +59,13 @@ fn main(rt: HostRuntime) -> ExitCode {
 /// them.
 fn work<T: Threads + Wait + Clock + Sync>(rt: &HostRuntime, threads: &T) -> Result<(), Failure> {
     let alloc = rt.alloc();
-    let words: Vec<String> = env::args(rt)
+    let mut words: Vec<String> = env::args(rt)
         .map_err(|error| Failure::Words.caused_by(&error))?
         .collect(alloc)?;
+    // Without any word the help is asked for.
+    if words.len() < 2 {
+        words.push(String::from_str(alloc, "--help")?)?;
+    }
     match parser(alloc)?.try_get_matches_from(words.as_slice()) {
         Ok(matches) => perform(rt, threads, command_of(&matches).ok_or(Failure::Words)?),
         // Help that was asked for comes as an error of status 0.
@@ -75,19 +89,32 @@ fn perform<T: Threads + Wait + Clock + Sync>(
             files,
             log,
             with_trace,
-        } => run(rt, files, log, with_trace, &mut out),
-        Command::Check { file, explains } => {
-            check(rt.alloc(), &text_of(rt, file)?, explains, &mut out)
+            as_json,
+        } => {
+            if as_json {
+                run_as_json(rt, files, log, with_trace, &mut out)
+            } else {
+                run(rt, files, log, with_trace, &mut out)
+            }
         }
-        Command::Explain { file } => explain(rt.alloc(), &text_of(rt, file)?, &mut out),
-        Command::Chart { file } => draw(rt.alloc(), &text_of(rt, file)?, &mut out),
-        Command::Threads { file, log } => run_threads(
-            rt,
-            threads,
-            &text_of(rt, file)?,
-            log,
-            &mut out,
-        ),
+        Command::Check {
+            files,
+            explains,
+            as_json,
+        } => check(rt, files, explains, as_json, &mut out),
+        Command::Explain { file, output } => {
+            let told = explain(rt, file)?;
+            output_to(rt, output, told.as_slice(), &mut out)
+        }
+        Command::Chart { file, output } => {
+            let picture = draw(rt, file)?;
+            output_to(rt, output, picture.as_slice(), &mut out)
+        }
+        Command::Threads { file, log } => {
+            let text = text_of(rt, file)?;
+            let source = Source::of(file, &text, FileKind::Jobs);
+            run_threads(rt, threads, source, log, &mut out)
+        }
         Command::Serve {
             name,
             rm_names,
@@ -102,34 +129,18 @@ fn perform<T: Threads + Wait + Clock + Sync>(
             introduce(rt.alloc(), &name, rm_names, &mut out)?;
             serve(rt, &name, log, threads, rms)
         }
-        Command::Log { path, explains } => list(rt, path, explains, &mut out),
+        Command::Log {
+            path,
+            explains,
+            as_json,
+        } => {
+            if as_json {
+                list_as_json(rt, path, &mut out)
+            } else {
+                list(rt, path, explains, &mut out)
+            }
+        }
         Command::MakeLog { path } => make_log(rt, path),
-    }
-}
-
-/// What a file holds.
-fn text_of(rt: &HostRuntime, file: &str) -> Result<Vec<u8>, Failure> {
-    fs::read(rt, file).map_err(|error| Failure::NotReadable.caused_by(&error))
-}
-
-/// What each of some files holds.
-fn texts_of(rt: &HostRuntime, files: &[&str]) -> Result<Vec<Vec<u8>>, Failure> {
-    let mut texts = Vec::new(rt.alloc());
-    for file in files {
-        let text = text_of(rt, file).map_err(|failure| in_file(rt, files, file, failure))?;
-        texts.push(text)?;
-    }
-    Ok(texts)
-}
-
-/// The failure of a file: where it is one of several, its path is told.
-fn in_file(rt: &HostRuntime, files: &[&str], path: &str, failure: Failure) -> Failure {
-    if files.len() < 2 {
-        return failure;
-    }
-    match String::from_str(rt.alloc(), path) {
-        Ok(path) => failure.at(path),
-        Err(error) => Failure::from(error),
     }
 }
 
@@ -147,7 +158,8 @@ fn run<W: Write>(
     let ran = match log {
         Some(path) => {
             claim_log(rt, path, &ManagerName::none(), &[])?;
-            let ran = run_in_files(alloc, &texts, SqlLog::open(rt, path)?, with_trace, out);
+            let opened = open_log(rt, path)?;
+            let ran = run_in_files(alloc, &texts, opened, with_trace, out);
             let gathered = gather(rt, path);
             if ran.is_ok() {
                 gathered?;
@@ -156,16 +168,37 @@ fn run<W: Write>(
         }
         None => run_over(alloc, &texts, MemLog::new(alloc), with_trace, out),
     };
-    match ran {
-        Ok(()) => Ok(()),
-        Err(fault) => {
-            let failure = Failure::Run(fault.fault);
-            Err(match files.get(fault.file) {
-                Some(path) => in_file(rt, files, path, failure),
-                None => failure,
-            })
+    let Err(fault) = ran else {
+        return Ok(());
+    };
+    let failure = match (files.get(fault.file), texts.get(fault.file)) {
+        (Some(path), Some(text)) => {
+            let mut source = Source::of(path, text, FileKind::Scenario);
+            source.earlier = texts.as_slice().get(..fault.file).unwrap_or(&[]);
+            source.failure(alloc, fault.fault)
         }
-    }
+        _ => Failure::Run(fault.fault),
+    };
+    Err(match log {
+        Some(path) => running_failure(rt, path, failure),
+        None => failure,
+    })
+}
+
+/// Does so, and prints JSON.
+fn run_as_json<W: Write>(
+    rt: &HostRuntime,
+    files: &[&str],
+    log: Option<&str>,
+    with_trace: bool,
+    out: &mut W,
+) -> Result<(), Failure> {
+    let alloc = rt.alloc();
+    let mut printed = Vec::new(alloc);
+    run(rt, files, log, with_trace, &mut printed)?;
+    let printed = String::from_utf8_lossy(alloc, printed.as_slice())?;
+    let json = run_json(alloc, printed.as_str(), with_trace)?;
+    Ok(write_text(json.as_bytes(), out)?)
 }
 
 /// Runs the jobs of a file over the log at a path, or over one in memory. The log is opened before the text is read
@@ -173,28 +206,33 @@ fn run<W: Write>(
 fn run_threads<T: Threads + Wait + Clock + Sync, W: Write>(
     rt: &HostRuntime,
     threads: &T,
-    text: &[u8],
+    source: Source<'_>,
     log: Option<&str>,
     out: &mut W,
 ) -> Result<(), Failure> {
     let alloc = rt.alloc();
-    match log {
-        Some(path) => {
-            claim_log(rt, path, &ManagerName::none(), &[])?;
-            match run_jobs_in_files(threads, alloc, text, SqlLog::open(rt, path)?, out) {
-                Ok(closed) => closed?,
-                Err(fault) => {
-                    // What is told is why the run ended, also where its log can't be gathered.
-                    let _gathered = gather(rt, path);
-                    return Err(Failure::from(fault));
-                }
-            }
-        }
-        None => {
-            let _log = run_job_file(threads, alloc, text, MemLog::new(alloc), out)?;
+    let Some(path) = log else {
+        return match run_job_file(threads, alloc, source.text, MemLog::new(alloc), out) {
+            Ok(_log) => Ok(()),
+            Err(fault) => Err(source.failure(alloc, fault)),
+        };
+    };
+    claim_log(rt, path, &ManagerName::none(), &[])?;
+    let opened = open_log(rt, path)?;
+    match run_jobs_in_files(threads, alloc, source.text, opened, out) {
+        Ok(Ok(())) => Ok(()),
+        Ok(Err(fault)) => Err(opening_failure(rt, path, fault)),
+        Err(fault) => {
+            // What is told is why the run ended, also where its log can't be gathered.
+            let _gathered = gather(rt, path);
+            Err(running_failure(rt, path, source.failure(alloc, fault)))
         }
     }
-    Ok(())
+}
+
+/// Opens the log at a path, or makes it.
+fn open_log(rt: &HostRuntime, path: &str) -> Result<SqlLog<FileStore<FileFrom<Unknown>>>, Failure> {
+    SqlLog::open(rt, path).map_err(|fault| opening_failure(rt, path, fault))
 }
 
 /// Serves the driver behind standard input and output over the log at a path, as the manager of this name.
@@ -212,17 +250,17 @@ fn serve(
     let mut out = BufWriter::new(alloc, io::writer(rt)).map_err(|error| Failure::Run(
         RunFault::Output,
     ).caused_by(&error))?;
-    let opened = SqlLog::open(rt, log)?;
+    let opened = open_log(rt, log)?;
     let served = serve_in_files(alloc, name, threads, rms, opened, &mut input, &mut out);
     let flushed = out.flush();
     let gathered = gather(rt, log);
-    served?;
+    served.map_err(|failure| running_failure(rt, log, failure))?;
     flushed.map_err(|_| Failure::Run(RunFault::Output))?;
-    gathered?;
-    Ok(())
+    gathered
 }
 
-/// Lists or explains the log at a path. Where there is none it fails: who looks at a log makes none.
+/// Lists or explains the log at a path. Where there is none it fails: who looks at a log makes none. One that can't be opened, since
+/// another process runs over it or it can't be written, is looked at in a copy of its files.
 fn list<W: Write>(
     rt: &HostRuntime,
     path: &str,
@@ -231,15 +269,51 @@ fn list<W: Write>(
 ) -> Result<(), Failure> {
     refuse_half(rt, path)?;
     let alloc = rt.alloc();
-    let label = SqlLog::label(rt, path)?;
+    let label = match SqlLog::label(rt, path) {
+        Ok(Some(label)) => label,
+        Ok(None) => return Err(no_log(rt, path)),
+        Err(fault) => return Err(opening_failure(rt, path, fault)),
+    };
+    let name = manager_in(label.as_str());
+    let explained_for = if explains {
+        Some(name.as_slice())
+    } else {
+        None
+    };
     let mut text = Vec::new(alloc);
-    list_in_files(SqlLog::look(rt, path)?, explains, &mut text)?;
+    match SqlLog::look(rt, path) {
+        Ok(log) => list_in_files(log, explained_for, &mut text).map_err(|failure| running_failure(
+            rt, path, failure,
+        ))?,
+        Err(LogFault::Store) => {
+            let mut copy = copied_log(rt, path)?;
+            list_over(&mut copy, explained_for, &mut text)?;
+            // A note that can't be written changes no status.
+            let _unwritten = eprintln!(rt;
+                "xatm: {path}: another process runs over it, or it can't be written: it is shown as a copy has it"
+            );
+        }
+        Err(fault) => return Err(opening_failure(rt, path, fault)),
+    }
     let text = String::from_utf8_lossy(alloc, text.as_slice())?;
-    let label = label.as_ref().map_or("", |label| label.as_str());
-    print_named(alloc, label, text.as_str(), out)
+    print_named(alloc, label.as_str(), text.as_str(), out)
+}
+
+/// Lists the log at a path, and prints JSON.
+fn list_as_json<W: Write>(rt: &HostRuntime, path: &str, out: &mut W) -> Result<(), Failure> {
+    let alloc = rt.alloc();
+    let mut printed = Vec::new(alloc);
+    list(rt, path, false, &mut printed)?;
+    let printed = String::from_utf8_lossy(alloc, printed.as_slice())?;
+    let json = log_json(alloc, printed.as_str())?;
+    Ok(write_text(json.as_bytes(), out)?)
 }
 
 /// Copies the journal of the log at a path into its file, once a run has ended.
-fn gather(rt: &HostRuntime, path: &str) -> Result<(), LogFault> {
-    close_in_files(SqlLog::look(rt, path)?)
+fn gather(rt: &HostRuntime, path: &str) -> Result<(), Failure> {
+    let gathered = match SqlLog::look(rt, path) {
+        Ok(log) => close_in_files(log),
+        Err(fault) => Err(fault),
+    };
+    gathered.map_err(|fault| opening_failure(rt, path, fault))
 }

@@ -65,26 +65,25 @@ pub(crate) fn run_jobs_in_files<D: Disk + Drop, T: Threads + Wait + Clock + Sync
     }
 }
 
-/// Lists a log, or tells what it asks of an operator.
-fn list_over<L: DecisionLog, W: Write>(
+/// Lists a log, or tells what it asks of an operator, where the name of its manager is given.
+pub(crate) fn list_over<L: DecisionLog, W: Write>(
     log: &mut L,
-    explains: bool,
+    explained_for: Option<&[u8]>,
     out: &mut W,
 ) -> Result<(), RunFault> {
-    if explains {
-        explain_log(log, out)
-    } else {
-        list_log(log, out)
+    match explained_for {
+        Some(manager) => explain_log(log, manager, out),
+        None => list_log(log, out),
     }
 }
 
 /// Does so over a log in files, and closes it.
 pub(crate) fn list_in_files<D: Disk + Drop, W: Write>(
     mut log: SqlLog<FileStore<D>>,
-    explains: bool,
+    explained_for: Option<&[u8]>,
     out: &mut W,
 ) -> Result<(), Failure> {
-    let listed = list_over(&mut log, explains, out);
+    let listed = list_over(&mut log, explained_for, out);
     let closed = close_in_files(log);
     listed?;
     closed?;

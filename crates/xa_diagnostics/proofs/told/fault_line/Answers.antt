@@ -1,0 +1,5 @@
+use Rattle.std.proofs.Common.{rules}
+use Rattle.xa_diagnostics.proofs.told.fault_line.Goals as goal
+
+pub returns : goal.returns
+returns c = record { line = c.args.line; column = c.args.column; reason = c.args.reason.now; is = search rules }

@@ -1,0 +1,182 @@
+//! What to do about a fault, where it is plain what was meant.
+
+use crate::allowed::words_at;
+use crate::finding::InWords;
+use crate::nearest::nearest;
+use std::alloc::Global;
+use toml::{Table, Value};
+use xa_base::{CallKind, Memory};
+use xa_files::{Finding, holds};
+
+/// The keys of an entry of a scenario.
+const ENTRY_KEYS: [&str; 14] = [
+    "do", "thread", "rm", "xa", "tx", "of", "flags", "count", "vote", "times", "how", "outcome",
+    "part", "votes",
+];
+
+/// What is said of a key that the table doesn't have.
+fn of_key(alloc: Global, of: &str, key: &str, keys: &[&str]) -> Result<Option<String>, Memory> {
+    if key == "job" && keys.contains(&"step") {
+        return Ok(Some(format!(in alloc;
+            "\"job\" is a key of jobs files, which xatm threads runs"
+        )?));
+    }
+    if key == "step" && keys.contains(&"job") {
+        return Ok(Some(format!(in alloc;
+            "\"step\" is a key of scenario files, which xatm run runs"
+        )?));
+    }
+    if let Some(near) = nearest(alloc, key, keys)? {
+        return Ok(Some(format!(in alloc; "{key:?} is no key of {of}; did you mean {near}?")?));
+    }
+    if keys.contains(&"threads") && ENTRY_KEYS.contains(&key) {
+        return Ok(Some(format!(in alloc;
+            "{key:?} is no key of {of}: it belongs to an entry, below its [[step]] or [[job]]"
+        )?));
+    }
+    if matches!(key, "threads" | "rms" | "sweep") {
+        return Ok(Some(format!(in alloc;
+            "{key:?} is no key of {of}: it is one of the top, before the first [[step]] or [[job]]"
+        )?));
+    }
+    Ok(None)
+}
+
+/// What is said of a word that isn't one of those that a key has, or `is`.
+fn of_word(alloc: Global, key: &str, has: &str, word: &str) -> Result<Option<String>, Memory> {
+    let call = format!(in alloc; "xa_{word}")?;
+    let near = match nearest(alloc, word, words_at(key))? {
+        None if key == "xa" => nearest(alloc, call.as_str(), words_at(key))?,
+        near => near,
+    };
+    if let Some(near) = near {
+        return Ok(Some(format!(in alloc; "{key} {has} {word:?}; did you mean {near}?")?));
+    }
+    if matches!(key, "vote" | "votes") && matches!(word, "no" | "rb" | "rollback") {
+        return Ok(Some(format!(in alloc;
+            "{key} {has} {word:?}; a no is one of \"100\" to \"107\", as \"100\" for XA_RBROLLBACK"
+        )?));
+    }
+    Ok(None)
+}
+
+/// What is said of a text in the place of a number.
+fn of_text(alloc: Global, key: &str, text: &str) -> Result<Option<String>, Memory> {
+    if matches!(key, "flags" | "votes") {
+        return Ok(Some(format!(in alloc;
+            "{key} is {text:?}; it is an array, as in {key} = [{text:?}]"
+        )?));
+    }
+    let is_number = !text.is_empty() && text.bytes().all(|byte| matches!(byte, b'0'..=b'9'));
+    if is_number
+        && matches!(
+            key,
+            "threads" | "rms" | "thread" | "rm" | "of" | "count" | "times"
+        )
+    {
+        return Ok(Some(format!(in alloc;
+            "{key} is {text:?}; it is a number, without quotes: {key} = {text}"
+        )?));
+    }
+    of_word(alloc, key, "is", text)
+}
+
+/// What is said of a number in the place of a text.
+fn of_number(alloc: Global, key: &str, number: i64) -> Result<Option<String>, Memory> {
+    let text = format!(in alloc; "{number}")?;
+    if words_at(key).contains(&text.as_str()) {
+        return Ok(Some(format!(in alloc;
+            "{key} is {number}; it is a text, in quotes: {key} = \"{number}\""
+        )?));
+    }
+    Ok(None)
+}
+
+/// What is said of a value that a key doesn't hold.
+fn of_value(alloc: Global, key: &str, value: &Value) -> Result<Option<String>, Memory> {
+    match value {
+        Value::String(text) => of_text(alloc, key, text),
+        Value::Integer(number) => of_number(alloc, key, *number),
+        Value::Table(_) if matches!(key, "step" | "job") => Ok(Some(format!(in alloc;
+            "{key} is a table; it is an array of tables: [[{key}]] with two brackets"
+        )?)),
+        _ => Ok(None),
+    }
+}
+
+/// What is said of a vote of a job.
+fn of_vote(alloc: Global, value: &Value) -> Result<Option<String>, Memory> {
+    match value {
+        Value::String(text) => of_word(alloc, "votes", "has", text),
+        Value::Integer(number) if (100..=107).contains(number) => Ok(Some(format!(in alloc;
+            "votes has {number}; it is a text, in quotes: \"{number}\""
+        )?)),
+        _ => Ok(None),
+    }
+}
+
+/// What is said of the flags of a call.
+fn of_flags(
+    alloc: Global,
+    table: Option<&Table>,
+    kind: CallKind,
+) -> Result<Option<String>, Memory> {
+    let has_flags = match table {
+        Some(table) => holds(table, "flags"),
+        None => true,
+    };
+    if kind == CallKind::End && !has_flags {
+        return Ok(Some(String::from_str(
+            alloc,
+            "xa_end needs flags = [\"TMSUCCESS\"], or [\"TMFAIL\"] where its work failed",
+        )?));
+    }
+    Ok(None)
+}
+
+/// What is said of a name that no transaction has.
+fn of_name(alloc: Global, name: &str, begun: &[&str]) -> Result<Option<String>, Memory> {
+    match nearest(alloc, name, begun)? {
+        Some(near) if near != name => Ok(Some(format!(in alloc;
+            "no begin before it has the name {name:?}; did you mean {near:?}?"
+        )?)),
+        _ => Ok(None),
+    }
+}
+
+/// What is said of a fault, if it is plain what was meant. `table` is the table that has the fault, and `begun` are the names
+/// of all transactions of the file.
+fn advice(
+    alloc: Global,
+    table: Option<&Table>,
+    begun: &[&str],
+    finding: &Finding<'_>,
+) -> Result<Option<String>, Memory> {
+    match finding {
+        Finding::OtherKey { of, key, keys } => of_key(alloc, of, key, keys),
+        Finding::Unfit { key, value } => of_value(alloc, key, value),
+        Finding::NoFlag(word) => match nearest(alloc, word, words_at("flags"))? {
+            Some(near) => Ok(Some(format!(in alloc;
+                "{word:?} is a flag of no call; did you mean {near}?"
+            )?)),
+            None => Ok(None),
+        },
+        Finding::FlagsOfCall(kind) => of_flags(alloc, table, *kind),
+        Finding::NotBegun(name) => of_name(alloc, name, begun),
+        Finding::NoVote(value) => of_vote(alloc, value),
+        _ => Ok(None),
+    }
+}
+
+/// What is wrong, and what to do about it: that which was meant, where it is plain, and else what is allowed there.
+pub fn reason_text(
+    alloc: Global,
+    table: Option<&Table>,
+    begun: &[&str],
+    finding: &Finding<'_>,
+) -> Result<String, Memory> {
+    match advice(alloc, table, begun, finding)? {
+        Some(text) => Ok(text),
+        None => Ok(format!(in alloc; "{}", InWords(*finding))?),
+    }
+}

@@ -1,0 +1,152 @@
+//! The document of a file that is read again and again: what is faulty in it is mended, so that the next fault shows.
+
+use std::alloc::Global;
+use toml::{Table, Value};
+use xa_base::Memory;
+use xa_files::{document_of, holds, is_name, text_at, value_at};
+
+/// What a file is read as.
+#[derive(Clone, Copy, Debug, PartialEq, Eq)]
+pub enum FileKind {
+    /// A scenario.
+    Scenario,
+    /// Jobs.
+    Jobs,
+}
+
+impl FileKind {
+    /// The key of the file's tables.
+    pub fn array(self) -> &'static str {
+        match self {
+            FileKind::Scenario => "step",
+            FileKind::Jobs => "job",
+        }
+    }
+}
+
+/// What a text is read as: jobs, if it has the key `job` at its top and no `step`, and else a scenario.
+pub fn kind_of(alloc: Global, text: &[u8]) -> FileKind {
+    match document_of(alloc, text) {
+        Ok(document) if holds(&document, "job") && !holds(&document, "step") => FileKind::Jobs,
+        _ => FileKind::Scenario,
+    }
+}
+
+/// The items of the array at a key, none where there is no array.
+pub fn items_at<'a>(document: &'a Table, key: &str) -> &'a [Value] {
+    match value_at(document, key) {
+        Some(Value::Array(items)) => items.as_slice(),
+        _ => &[],
+    }
+}
+
+/// The table of a number, from 1.
+pub fn table_at(document: &Table, kind: FileKind, number: usize) -> Option<&Table> {
+    items_at(document, kind.array())
+        .get(number.checked_sub(1)?)?
+        .as_table()
+}
+
+/// The name that a table gives to a transaction, or has for one.
+pub fn name_in(table: &Table) -> Option<&str> {
+    match text_at(table, "an entry", "tx") {
+        Ok(name) if is_name(name) => Some(name),
+        _ => None,
+    }
+}
+
+/// The name that an item begins.
+pub fn begun_in(item: &Value) -> Option<&str> {
+    let table = item.as_table()?;
+    match text_at(table, "an entry", "do") {
+        Ok("begin") => name_in(table),
+        _ => None,
+    }
+}
+
+/// Puts a value at a key.
+fn put(alloc: Global, table: &mut Table, key: &str, value: Value) -> Result<(), Memory> {
+    table.insert(String::from_str(alloc, key)?, value)?;
+    Ok(())
+}
+
+/// An entry that begins a transaction of a name.
+fn begin_of(alloc: Global, name: &str) -> Result<Value, Memory> {
+    let mut table = Table::new(alloc);
+    put(alloc, &mut table, "do", Value::string(alloc, "begin")?)?;
+    put(alloc, &mut table, "thread", Value::Integer(0))?;
+    put(alloc, &mut table, "tx", Value::string(alloc, name)?)?;
+    Ok(Value::Table(table))
+}
+
+/// A faultless table, of a file with so many resource managers.
+fn faultless(alloc: Global, kind: FileKind, rms: i64) -> Result<Value, Memory> {
+    let mut table = Table::new(alloc);
+    match kind {
+        FileKind::Scenario => {
+            put(alloc, &mut table, "do", Value::string(alloc, "take")?)?;
+            put(alloc, &mut table, "thread", Value::Integer(0))?;
+            put(alloc, &mut table, "rm", Value::Integer(0))?;
+        }
+        FileKind::Jobs => {
+            let mut votes = Vec::new(alloc);
+            for _ in 0..rms.clamp(0, 8) {
+                votes.push(Value::string(alloc, "none")?)?;
+            }
+            put(alloc, &mut table, "votes", Value::Array(votes))?;
+        }
+    }
+    Ok(Value::Table(table))
+}
+
+/// Puts a value in the place of the item of a number.
+fn put_item(array: &mut Value, number: usize, value: Value) {
+    if let Some(items) = array.as_array_mut() {
+        if let Some(item) = items.get_mut(number.saturating_sub(1)) {
+            *item = value;
+        }
+    }
+}
+
+/// Mends the table of a number.
+pub fn mend_table(
+    alloc: Global,
+    document: &mut Table,
+    kind: FileKind,
+    number: usize,
+) -> Result<(), Memory> {
+    let rms = value_at(document, "rms").and_then(|value| value.as_integer());
+    let mended = faultless(alloc, kind, rms.unwrap_or(0))?;
+    if let Some(array) = document.get_mut(kind.array()) {
+        put_item(array, number, mended);
+    }
+    Ok(())
+}
+
+/// Mends a key at the top.
+pub fn mend_key(alloc: Global, document: &mut Table, key: &str) -> Result<(), Memory> {
+    if matches!(key, "threads" | "rms") {
+        put(alloc, document, key, Value::Integer(8))
+    } else {
+        let _removed = document.remove(key);
+        Ok(())
+    }
+}
+
+/// Puts entries in front of the others that begin these names.
+pub fn put_begins(alloc: Global, document: &mut Table, names: &[String]) -> Result<(), Memory> {
+    let mut items = Vec::new(alloc);
+    for name in names {
+        items.push(begin_of(alloc, name)?)?;
+    }
+    match document.remove("step") {
+        Some(Value::Array(later)) => {
+            for item in later {
+                items.push(item)?;
+            }
+            put(alloc, document, "step", Value::Array(items))
+        }
+        Some(other) => put(alloc, document, "step", other),
+        None => Ok(()),
+    }
+}

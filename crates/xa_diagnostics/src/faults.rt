@@ -1,0 +1,253 @@
+//! All faults of a file.
+
+use crate::advice::reason_text;
+use crate::diagnostic::Diagnostic;
+use crate::document::{
+    FileKind, begun_in, items_at, mend_key, mend_table, name_in, put_begins, table_at,
+};
+use crate::places::{Wanted, line_of};
+use crate::syntax::explain_syntax;
+use std::alloc::Global;
+use toml::{Table, Value};
+use xa_base::Memory;
+use xa_files::{Finding, Refusal, RunFault, document_of, holds};
+use xa_jobs::jobs_in;
+use xa_scenario::scenario_in;
+
+/// The most faults that are looked for in one file.
+const MOST_FAULTS: usize = 100;
+
+/// What is mended before the next fault is looked for.
+#[derive(Drop)]
+enum Mend {
+    /// A key at the top.
+    Key(String),
+    /// The table of a number.
+    Table(usize),
+    /// Nothing: there is no sense in what is behind such a fault.
+    Nothing,
+}
+
+/// A file whose faults are looked for.
+#[derive(Drop)]
+struct Search<'a> {
+    alloc: Global,
+    text: &'a [u8],
+    kind: FileKind,
+    /// How many tables the text has.
+    tables: usize,
+    /// How many entries of earlier files stand before the first table.
+    earlier: usize,
+    /// The names in faulty tables: that no faultless one begins them is no further fault.
+    suspects: Vec<String>,
+}
+
+/// Why a document is refused, if it is.
+fn refusal_in<'a>(alloc: Global, document: &'a Table, kind: FileKind) -> Option<Refusal<'a>> {
+    match kind {
+        FileKind::Scenario => scenario_in(alloc, document).err(),
+        FileKind::Jobs => jobs_in(alloc, document).err(),
+    }
+}
+
+/// The names that the file begins.
+fn begun_names<'a>(alloc: Global, document: &'a Table) -> Result<Vec<&'a str>, Memory> {
+    let mut names = Vec::new(alloc);
+    for item in items_at(document, "step") {
+        if let Some(name) = begun_in(item) {
+            names.push(name)?;
+        }
+    }
+    Ok(names)
+}
+
+/// Whether an item is a table with the key.
+fn has_key(item: &Value, key: &str) -> bool {
+    match item.as_table() {
+        Some(table) => holds(table, key),
+        None => false,
+    }
+}
+
+impl Search<'_> {
+    /// The line of a key, or else of the table of a number.
+    fn line(&self, number: usize, key: Option<&str>) -> Option<usize> {
+        let wanted = Wanted {
+            array: self.kind.array(),
+            number,
+            key,
+        };
+        line_of(self.text, wanted, self.tables)
+    }
+
+    /// The fault of the top. A key that is missing there may stand below a table.
+    fn of_top(&self, document: &Table, finding: &Finding<'_>) -> Result<Diagnostic, Memory> {
+        let fault = RunFault::Header;
+        if let Finding::Missing { key, .. } = finding {
+            let place = items_at(document, self.kind.array()).iter().position(|item| item
+                .as_table()
+                .is_some_and(|table| holds(table, key)));
+            if let Some(at) = place {
+                let number = at.saturating_add(1).saturating_sub(self.earlier);
+                let array = self.kind.array();
+                return Ok(Diagnostic {
+                    fault,
+                    line: self.line(number, Some(*key)),
+                    column: None,
+                    reason: format!(in self.alloc;
+                        "{key} stands in {array} {number}: keys of the top come before the first [[{array}]]"
+                    )?,
+                });
+            }
+        }
+        Ok(Diagnostic {
+            fault,
+            line: self.line(0, finding.key()),
+            column: None,
+            reason: reason_text(self.alloc, None, &[], finding)?,
+        })
+    }
+
+    /// The fault of a table.
+    fn of_table(
+        &self,
+        document: &Table,
+        number: usize,
+        finding: &Finding<'_>,
+    ) -> Result<Diagnostic, Memory> {
+        let own = number.saturating_sub(self.earlier);
+        let begun = begun_names(self.alloc, document)?;
+        let table = table_at(document, self.kind, number);
+        Ok(Diagnostic {
+            fault: match self.kind {
+                FileKind::Scenario => RunFault::Step(own),
+                FileKind::Jobs => RunFault::Job(own),
+            },
+            line: self.line(own, finding.key()),
+            column: None,
+            reason: reason_text(self.alloc, table, begun.as_slice(), finding)?,
+        })
+    }
+
+    /// Whether a fault only follows from another: the table that begins the transaction is faulty itself.
+    fn follows(&self, finding: &Finding<'_>) -> bool {
+        match finding {
+            Finding::NotBegun(name) => self.suspects.iter().any(|it| it.as_str() == *name),
+            _ => false,
+        }
+    }
+
+    /// Notes the name in a faulty table.
+    fn note_name(&mut self, document: &Table, number: usize) -> Result<(), Memory> {
+        if let Some(name) = table_at(document, self.kind, number).and_then(name_in) {
+            self.suspects.push(String::from_str(self.alloc, name)?)?;
+        }
+        Ok(())
+    }
+
+    /// The first fault of a document, if it has one, and what is to be mended of it. A fault that only follows is left out.
+    fn first_in(&mut self, document: &Table) -> Result<Option<(Option<Diagnostic>, Mend)>, Memory> {
+        match refusal_in(self.alloc, document, self.kind) {
+            None => Ok(None),
+            Some(Refusal::Memory) => Err(Memory),
+            Some(Refusal::Header(finding)) => {
+                let mend = top_mend(self.alloc, self.kind, &finding)?;
+                Ok(Some((Some(self.of_top(document, &finding)?), mend)))
+            }
+            Some(Refusal::Step(number, finding)) | Some(Refusal::Job(number, finding)) => {
+                let mend = match finding {
+                    Finding::TooMany(_) => Mend::Nothing,
+                    _ => Mend::Table(number),
+                };
+                if self.follows(&finding) {
+                    return Ok(Some((None, mend)));
+                }
+                let found = self.of_table(document, number, &finding)?;
+                self.note_name(document, number)?;
+                Ok(Some((Some(found), mend)))
+            }
+        }
+    }
+
+    /// The faults of a document.
+    fn all_in(&mut self, mut document: Table) -> Result<Vec<Diagnostic>, Memory> {
+        let mut found = Vec::new(self.alloc);
+        for _ in 0..MOST_FAULTS {
+            let Some((diagnostic, mend)) = self.first_in(&document)? else {
+                break;
+            };
+            if let Some(diagnostic) = diagnostic {
+                found.push(diagnostic)?;
+            }
+            match mend {
+                Mend::Key(key) => mend_key(self.alloc, &mut document, key.as_str())?,
+                Mend::Table(number) => mend_table(self.alloc, &mut document, self.kind, number)?,
+                Mend::Nothing => break,
+            }
+        }
+        Ok(found)
+    }
+}
+
+/// What is to be mended of a fault of the top. Of jobs whose number of resource managers isn't known there is no more to tell.
+fn top_mend(alloc: Global, kind: FileKind, finding: &Finding<'_>) -> Result<Mend, Memory> {
+    let key = match finding {
+        Finding::Missing { key, .. } => *key,
+        _ => finding.key().unwrap_or(""),
+    };
+    if key.is_empty() || (kind == FileKind::Jobs && key == "rms") {
+        return Ok(Mend::Nothing);
+    }
+    Ok(Mend::Key(String::from_str(alloc, key)?))
+}
+
+/// The names that earlier files begin.
+fn earlier_names(alloc: Global, earlier: &[Vec<u8>]) -> Result<Vec<String>, Memory> {
+    let mut names = Vec::new(alloc);
+    for text in earlier {
+        let Ok(document) = document_of(alloc, text) else {
+            continue;
+        };
+        for item in items_at(&document, "step") {
+            if let Some(name) = begun_in(item) {
+                names.push(String::from_str(alloc, name)?)?;
+            }
+        }
+    }
+    Ok(names)
+}
+
+/// All faults of a file behind earlier ones, each with its reason, in the order in which its reader meets them; not more than
+/// a hundred.
+pub fn faults_of(
+    alloc: Global,
+    text: &[u8],
+    earlier: &[Vec<u8>],
+    kind: FileKind,
+) -> Result<Vec<Diagnostic>, Memory> {
+    let mut document = match document_of(alloc, text) {
+        Ok(document) => document,
+        Err(RunFault::Memory) => return Err(Memory),
+        Err(_) => {
+            let mut found = Vec::new(alloc);
+            if let Some(diagnostic) = explain_syntax(alloc, text)? {
+                found.push(diagnostic)?;
+            }
+            return Ok(found);
+        }
+    };
+    let names = earlier_names(alloc, earlier)?;
+    let tables = items_at(&document, kind.array()).len();
+    if kind == FileKind::Scenario && !names.is_empty() {
+        put_begins(alloc, &mut document, names.as_slice())?;
+    }
+    let mut search = Search {
+        alloc,
+        text,
+        kind,
+        tables,
+        earlier: names.len(),
+        suspects: Vec::new(alloc),
+    };
+    search.all_in(document)
+}
