@@ -3,7 +3,7 @@
 ghost use Rattle.std.specs.Prelude.{◌≡◌, IfErr, IfOk};
 ghost use Rattle.std.specs.String.{string_bytes};
 ghost use Rattle.xa_files.specs.declared.fault.RunFault.TheVariants.{Memory};
-ghost use Rattle.xa_listing.specs.Statements.{mariadb_commit, named_gtrid, postgresql_commit};
+ghost use Rattle.xa_listing.specs.Statements.{mariadb_commit, named_gtrid, postgresql_commit, xa_commit};
 
 use std::alloc::Global;
 use xa_base::Xid;
@@ -31,14 +31,29 @@ pub fn postgresql_commit(alloc: Global, manager: &[u8], xid: &Xid) -> Result<Str
     Ok(format!(in alloc; "COMMIT PREPARED '{format}:{gtrid}:{bqual}';")?)
 }
 
+/// The statement by which MariaDB commits what lies under these digits.
+fn xa_commit(alloc: Global, gtrid: &str, bqual: &str, format: i32) -> Result<String, RunFault>
+    ensures text { IfOk result (λ text.
+        string_bytes text ≡ xa_commit gtrid.now bqual.now format) }
+    ensures fault { IfErr result (λ e. e ≡ Memory) }
+{
+    let number = format!(in alloc; "{format}")?;
+    let mut text = format!(in alloc; "XA COMMIT X'{gtrid}")?;
+    text.push_str("',X'")?;
+    text.push_str(bqual)?;
+    text.push_str("',")?;
+    text.push_str(number.as_str())?;
+    text.push_str(";")?;
+    Ok(text)
+}
+
 /// The statement of MariaDB and MySQL for it.
 pub fn mariadb_commit(alloc: Global, manager: &[u8], xid: &Xid) -> Result<String, RunFault>
     ensures text { IfOk result (λ text.
         string_bytes text ≡ mariadb_commit manager.now xid.now) }
     ensures fault { IfErr result (λ e. e ≡ Memory) }
 {
-    let format = xid.format();
     let gtrid = named_gtrid(alloc, manager, xid)?;
     let bqual = hex::encode(alloc, xid.bqual())?;
-    Ok(format!(in alloc; "XA COMMIT X'{gtrid}',X'{bqual}',{format};")?)
+    xa_commit(alloc, gtrid.as_str(), bqual.as_str(), xid.format())
 }
