@@ -21,16 +21,20 @@ number_text None = []
 number_text (Some n) = codes ":" ++ decimal n
 
 -- a line and a column, likewise
-abbrev pub numbers_text : (line column : Option ℕ) → List ℕ
+unfoldable pub numbers_text : (line column : Option ℕ) → List ℕ
 numbers_text line column = number_text line ++ number_text column
 
 -- where a fault lies, and its reason
-abbrev pub reason_text : RunFault → List ℕ → List ℕ
+unfoldable pub reason_text : RunFault → List ℕ → List ℕ
 reason_text fault reason = place_text fault ++ codes ": " ++ reason
 
--- What is told of the file at a path tells of this fault first: the path, perhaps a line, where the fault lies, and then a reason.
+-- what is told of a fault of the file at a path: the path, perhaps a line, where the fault lies, and then a reason
+abbrev pub fault_text : (path : List ℕ) → RunFault → (line column : Option ℕ) → (reason : List ℕ) → List ℕ
+fault_text path fault line column reason = path ++ numbers_text line column ++ codes ": " ++ reason_text fault reason
+
+-- What is told of the file at a path tells of this fault first, for some reason.
 pub record Tells (path : List ℕ) (fault : RunFault) (told : List ℕ) : Type 0 where
   pub line : Option ℕ
   pub column : Option ℕ
   pub reason : List ℕ
-  pub is : told ≡ path ++ numbers_text line column ++ codes ": " ++ reason_text fault reason
+  pub is : told ≡ fault_text path fault line column reason

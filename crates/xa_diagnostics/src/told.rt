@@ -2,7 +2,7 @@
 
 ghost use Rattle.std.specs.Prelude.{◌≡◌, IfOk};
 ghost use Rattle.std.specs.String.{string_bytes};
-ghost use Rattle.xa_diagnostics.specs.Explanations.{Tells, number_text, numbers_text, place_text, reason_text};
+ghost use Rattle.xa_diagnostics.specs.Explanations.{Tells, fault_text, number_text, numbers_text, place_text, reason_text};
 
 use std::alloc::Global;
 use xa_base::Memory;
@@ -34,6 +34,7 @@ fn number_text(alloc: Global, number: Option<usize>) -> Result<String, Memory>
 }
 
 /// The line and the column, likewise.
+#[tactic(auto, unfolding(crate::specs::Explanations::numbers_text))]
 pub fn numbers_text(
     alloc: Global,
     line: Option<usize>,
@@ -48,6 +49,7 @@ pub fn numbers_text(
 }
 
 /// Where a fault lies, and its reason.
+#[tactic(auto, unfolding(crate::specs::Explanations::reason_text))]
 fn reason_text(alloc: Global, fault: RunFault, reason: &str) -> Result<String, Memory>
     ensures { IfOk result (λ text. string_bytes text ≡ reason_text fault reason.now) }
 {
@@ -56,6 +58,23 @@ fn reason_text(alloc: Global, fault: RunFault, reason: &str) -> Result<String, M
 }
 
 /// What is told of the file at a path, which has this fault on a line, for a reason.
+fn fault_text(
+    alloc: Global,
+    path: &str,
+    fault: RunFault,
+    line: Option<usize>,
+    column: Option<usize>,
+    reason: &str,
+) -> Result<String, Memory>
+    ensures { IfOk result (λ told.
+        string_bytes told ≡ fault_text path.now fault line column reason.now) }
+{
+    let numbers = numbers_text(alloc, line, column)?;
+    let text = reason_text(alloc, fault, reason)?;
+    Ok(format!(in alloc; "{path}{numbers}: {text}")?)
+}
+
+/// The same, of which the contract says only that it tells of the fault.
 pub fn fault_line(
     alloc: Global,
     path: &str,
@@ -66,7 +85,6 @@ pub fn fault_line(
 ) -> Result<String, Memory>
     ensures { IfOk result (λ told. Tells path.now fault (string_bytes told)) }
 {
-    let numbers = numbers_text(alloc, line, column)?;
-    let text = reason_text(alloc, fault, reason)?;
-    Ok(format!(in alloc; "{path}{numbers}: {text}")?)
+    let told = fault_text(alloc, path, fault, line, column, reason)?;
+    Ok(told)
 }
