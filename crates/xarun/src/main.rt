@@ -136,7 +136,7 @@ fn failure(
 
 /// Reads files only. The failure is that of the last faulty one.
 fn check(rt: &HostRuntime, files: &[String], is_whole: bool) -> Result<(), Failure> {
-    let mut checked = Ok(());
+    let mut checked: Result<(), Failure> = Ok(());
     for path in files {
         if let Err(failure) = check_one(rt, path, files.len() > 1, is_whole) {
             if let Err(earlier) = &checked {

@@ -19,7 +19,7 @@ pub(crate) fn check<W: Write>(
     out: &mut W,
 ) -> Result<(), Failure> {
     let texts = texts_of(rt, files)?;
-    let mut checked = Ok(());
+    let mut checked: Result<(), Failure> = Ok(());
     for (path, text) in files.iter().zip(texts.iter()) {
         let mut source = Source::of(path, text, kind_of(rt.alloc(), text));
         source.is_whole = explains;
