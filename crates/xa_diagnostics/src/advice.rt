@@ -14,8 +14,22 @@ const ENTRY_KEYS: [&str; 14] = [
     "part", "votes",
 ];
 
-/// What is said of a key that the table doesn't have.
-fn of_key(alloc: Global, of: &str, key: &str, keys: &[&str]) -> Result<Option<String>, Memory> {
+/// Whether a table has a key already.
+fn has(table: Option<&Table>, key: &str) -> bool {
+    match table {
+        Some(table) => holds(table, key),
+        None => false,
+    }
+}
+
+/// What is said of a key that isn't one of the table's. One that the table has already isn't the one that was meant.
+fn of_key(
+    alloc: Global,
+    table: Option<&Table>,
+    of: &str,
+    key: &str,
+    keys: &[&str],
+) -> Result<Option<String>, Memory> {
     if key == "job" && keys.contains(&"step") {
         return Ok(Some(format!(in alloc;
             "\"job\" is a key of jobs files, which xatm threads runs"
@@ -26,8 +40,11 @@ fn of_key(alloc: Global, of: &str, key: &str, keys: &[&str]) -> Result<Option<St
             "\"step\" is a key of scenario files, which xatm run runs"
         )?));
     }
-    if let Some(near) = nearest(alloc, key, keys)? {
-        return Ok(Some(format!(in alloc; "{key:?} is no key of {of}; did you mean {near}?")?));
+    match nearest(alloc, key, keys)? {
+        Some(near) if !has(table, near) => {
+            return Ok(Some(format!(in alloc; "{key:?} is no key of {of}; did you mean {near}?")?));
+        }
+        _ => {}
     }
     if keys.contains(&"threads") && ENTRY_KEYS.contains(&key) {
         return Ok(Some(format!(in alloc;
@@ -121,11 +138,7 @@ fn of_flags(
     table: Option<&Table>,
     kind: CallKind,
 ) -> Result<Option<String>, Memory> {
-    let has_flags = match table {
-        Some(table) => holds(table, "flags"),
-        None => true,
-    };
-    if kind == CallKind::End && !has_flags {
+    if kind == CallKind::End && !has(table, "flags") {
         return Ok(Some(String::from_str(
             alloc,
             "xa_end needs flags = [\"TMSUCCESS\"], or [\"TMFAIL\"] where its work failed",
@@ -153,7 +166,7 @@ fn advice(
     finding: &Finding<'_>,
 ) -> Result<Option<String>, Memory> {
     match finding {
-        Finding::OtherKey { of, key, keys } => of_key(alloc, of, key, keys),
+        Finding::OtherKey { of, key, keys } => of_key(alloc, table, of, key, keys),
         Finding::Unfit { key, value } => of_value(alloc, key, value),
         Finding::NoFlag(word) => match nearest(alloc, word, words_at("flags"))? {
             Some(near) => Ok(Some(format!(in alloc;

@@ -1,9 +1,14 @@
 //! The document of a file that is read again and again: what is faulty in it is mended, so that the next fault shows.
 
+ghost use Rattle.std.specs.Prelude.{◌≡◌, IfOk};
+ghost use Rattle.xa_diagnostics.specs.CheckJson.{kind_name};
+ghost use Rattle.toml.specs.View.{table_view};
+ghost use Rattle.xa_diagnostics.specs.Documents.{kind_in, kind_of};
+
 use std::alloc::Global;
 use toml::{Table, Value};
 use xa_base::Memory;
-use xa_files::{document_of, holds, is_name, text_at, value_at};
+use xa_files::{RunFault, document_of, holds, is_name, text_at, value_at};
 
 /// What a file is read as.
 #[derive(Clone, Copy, Debug, PartialEq, Eq)]
@@ -22,13 +27,38 @@ impl FileKind {
             FileKind::Jobs => "job",
         }
     }
+
+    /// The word for it.
+    pub fn name(self) -> &'static str
+        ensures { result.now ≡ kind_name self }
+    {
+        match self {
+            FileKind::Scenario => "scenario",
+            FileKind::Jobs => "jobs",
+        }
+    }
 }
 
-/// What a text is read as: jobs, if it has the key `job` at its top and no `step`, and else a scenario.
-pub fn kind_of(alloc: Global, text: &[u8]) -> FileKind {
+/// What a document is read as.
+fn kind_in(document: &Table) -> FileKind
+    ensures { result ≡ kind_in (table_view document.now) }
+{
+    if holds(document, "job") && !holds(document, "step") {
+        FileKind::Jobs
+    } else {
+        FileKind::Scenario
+    }
+}
+
+/// What a text is read as: jobs, if it has the key `job` at its top and no `step`, and else a scenario, also where it is no
+/// document.
+pub fn kind_of(alloc: Global, text: &[u8]) -> Result<FileKind, Memory>
+    ensures { IfOk result (λ kind. kind ≡ kind_of text.now) }
+{
     match document_of(alloc, text) {
-        Ok(document) if holds(&document, "job") && !holds(&document, "step") => FileKind::Jobs,
-        _ => FileKind::Scenario,
+        Ok(document) => Ok(kind_in(&document)),
+        Err(RunFault::Memory) => Err(Memory),
+        Err(_) => Ok(FileKind::Scenario),
     }
 }
 
@@ -130,6 +160,19 @@ pub fn mend_key(alloc: Global, document: &mut Table, key: &str) -> Result<(), Me
     } else {
         let _removed = document.remove(key);
         Ok(())
+    }
+}
+
+/// Removes a key from the table of a number.
+pub fn remove_key(document: &mut Table, kind: FileKind, number: usize, key: &str) {
+    if let Some(array) = document.get_mut(kind.array()) {
+        if let Some(items) = array.as_array_mut() {
+            if let Some(item) = items.get_mut(number.saturating_sub(1)) {
+                if let Some(table) = item.as_table_mut() {
+                    let _removed = table.remove(key);
+                }
+            }
+        }
     }
 }
 

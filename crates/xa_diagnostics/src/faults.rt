@@ -3,7 +3,7 @@
 use crate::advice::reason_text;
 use crate::diagnostic::Diagnostic;
 use crate::document::{
-    FileKind, begun_in, items_at, mend_key, mend_table, name_in, put_begins, table_at,
+    FileKind, begun_in, items_at, mend_key, mend_table, name_in, put_begins, remove_key, table_at,
 };
 use crate::places::{Wanted, line_of};
 use crate::syntax::explain_syntax;
@@ -22,6 +22,8 @@ const MOST_FAULTS: usize = 100;
 enum Mend {
     /// A key at the top.
     Key(String),
+    /// A key of the top that stands in the table of a number.
+    Moved(String, usize),
     /// The table of a number.
     Table(usize),
     /// Nothing: there is no sense in what is behind such a fault.
@@ -69,6 +71,13 @@ fn has_key(item: &Value, key: &str) -> bool {
     }
 }
 
+/// The number of the first table that has the key.
+fn number_with(document: &Table, kind: FileKind, key: &str) -> Option<usize> {
+    let items = items_at(document, kind.array());
+    let at = items.iter().position(|item| has_key(item, key))?;
+    at.checked_add(1)
+}
+
 impl Search<'_> {
     /// The line of a key, or else of the table of a number.
     fn line(&self, number: usize, key: Option<&str>) -> Option<usize> {
@@ -80,32 +89,43 @@ impl Search<'_> {
         line_of(self.text, wanted, self.tables)
     }
 
-    /// The fault of the top. A key that is missing there may stand below a table.
-    fn of_top(&self, document: &Table, finding: &Finding<'_>) -> Result<Diagnostic, Memory> {
-        let fault = RunFault::Header;
+    /// The fault of the top, and what is to be mended of it.
+    fn of_top(
+        &self,
+        document: &Table,
+        finding: &Finding<'_>,
+    ) -> Result<(Diagnostic, Mend), Memory> {
         if let Finding::Missing { key, .. } = finding {
-            let place = items_at(document, self.kind.array()).iter().position(|item| item
-                .as_table()
-                .is_some_and(|table| holds(table, key)));
-            if let Some(at) = place {
-                let number = at.saturating_add(1).saturating_sub(self.earlier);
-                let array = self.kind.array();
-                return Ok(Diagnostic {
-                    fault,
-                    line: self.line(number, Some(*key)),
-                    column: None,
-                    reason: format!(in self.alloc;
-                        "{key} stands in {array} {number}: keys of the top come before the first [[{array}]]"
-                    )?,
-                });
+            if let Some(number) = number_with(document, self.kind, key) {
+                return self.of_moved(key, number);
             }
         }
-        Ok(Diagnostic {
-            fault,
+        let found = Diagnostic {
+            fault: RunFault::Header,
             line: self.line(0, finding.key()),
             column: None,
-            reason: reason_text(self.alloc, None, &[], finding)?,
-        })
+            reason: reason_text(self.alloc, Some(document), &[], finding)?,
+        };
+        Ok((found, top_mend(self.alloc, self.kind, finding)?))
+    }
+
+    /// The fault of the top whose key stands in the table of a number, and what is to be mended of it.
+    fn of_moved(&self, key: &str, number: usize) -> Result<(Diagnostic, Mend), Memory> {
+        let own = number.saturating_sub(self.earlier);
+        let array = self.kind.array();
+        let found = Diagnostic {
+            fault: RunFault::Header,
+            line: self.line(own, Some(key)),
+            column: None,
+            reason: format!(in self.alloc;
+                "{key} stands in {array} {own}: keys of the top come before the first [[{array}]]"
+            )?,
+        };
+        let mend = match self.kind {
+            FileKind::Jobs if key == "rms" => Mend::Nothing,
+            _ => Mend::Moved(String::from_str(self.alloc, key)?, number),
+        };
+        Ok((found, mend))
     }
 
     /// The fault of a table.
@@ -151,8 +171,8 @@ impl Search<'_> {
             None => Ok(None),
             Some(Refusal::Memory) => Err(Memory),
             Some(Refusal::Header(finding)) => {
-                let mend = top_mend(self.alloc, self.kind, &finding)?;
-                Ok(Some((Some(self.of_top(document, &finding)?), mend)))
+                let (found, mend) = self.of_top(document, &finding)?;
+                Ok(Some((Some(found), mend)))
             }
             Some(Refusal::Step(number, finding)) | Some(Refusal::Job(number, finding)) => {
                 let mend = match finding {
@@ -181,6 +201,10 @@ impl Search<'_> {
             }
             match mend {
                 Mend::Key(key) => mend_key(self.alloc, &mut document, key.as_str())?,
+                Mend::Moved(key, number) => {
+                    mend_key(self.alloc, &mut document, key.as_str())?;
+                    remove_key(&mut document, self.kind, number, key.as_str());
+                }
                 Mend::Table(number) => mend_table(self.alloc, &mut document, self.kind, number)?,
                 Mend::Nothing => break,
             }

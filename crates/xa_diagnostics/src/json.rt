@@ -1,151 +1,208 @@
 //! What is printed, as JSON.
 
-use crate::diagnostic::Diagnostic;
-use crate::document::FileKind;
-use crate::faults::faults_of;
-use crate::told::place_text;
-use std::alloc::Global;
+ghost use Rattle.std.specs.Prelude.{◌≡◌, map, IfOk};
+ghost use Rattle.std.specs.List.{after_first, before_first};
+ghost use Rattle.std.specs.Str.Lines.{lines};
+ghost use Rattle.std.specs.String.{string_bytes};
+ghost use Rattle.xa_diagnostics.specs.Json.{array, escaped, first_or_null, is_item, item_text, items_in, log_json, quoted, rest_of, run_json, tells_branch, word_of};
+
+use std::alloc::{AllocError, Global};
 use xa_base::Memory;
 
+/// What a line is told as.
+#[derive(Clone, Copy)]
+enum Item {
+    /// A branch with its fate.
+    Branch,
+    /// A line of a trace.
+    Event,
+    /// The name of a manager.
+    Name,
+    /// The name of a resource manager.
+    Rm,
+    /// A transaction that is decided to commit, and how many branches it waits for.
+    Decision,
+}
+
+/// A character, as it stands in a text in quotes.
+fn escaped(alloc: Global, letter: char) -> Result<String, Memory>
+    ensures { IfOk result (λ text. string_bytes text ≡ escaped letter) }
+{
+    Ok(match letter {
+        '"' => String::from_str(alloc, "\\\"")?,
+        '\\' => String::from_str(alloc, "\\\\")?,
+        '\n' => String::from_str(alloc, "\\n")?,
+        '\t' => String::from_str(alloc, "\\t")?,
+        '\r' => String::from_str(alloc, "\\r")?,
+        '\0'..='\u{1f}' => {
+            let code = letter as u32;
+            format!(in alloc; "\\u00{code:02x}")?
+        }
+        _ => {
+            let mut text = String::new(alloc);
+            text.push(letter)?;
+            text
+        }
+    })
+}
+
 /// A text in quotes.
-fn quoted(alloc: Global, text: &str) -> Result<String, Memory> {
+pub fn quoted(alloc: Global, text: &str) -> Result<String, Memory>
+    ensures { IfOk result (λ told. string_bytes told ≡ quoted text.now) }
+{
     let mut told = String::from_str(alloc, "\"")?;
     for letter in text.chars() {
-        match letter {
-            '"' => told.push_str("\\\"")?,
-            '\\' => told.push_str("\\\\")?,
-            '\n' => told.push_str("\\n")?,
-            '\t' => told.push_str("\\t")?,
-            '\r' => told.push_str("\\r")?,
-            '\0'..='\u{1f}' => {
-                let code = letter as u32;
-                told.push_str(format!(in alloc; "\\u{code:04x}")?.as_str())?;
-            }
-            _ => told.push(letter)?,
-        }
+        let letter = escaped(alloc, letter)?;
+        told.push_str(letter.as_str())?;
     }
     told.push_str("\"")?;
     Ok(told)
 }
 
 /// Items in brackets.
-fn array(alloc: Global, items: &[String]) -> Result<String, Memory> {
-    let mut told = String::from_str(alloc, "[")?;
-    for (i, item) in items.iter().enumerate() {
-        if i > 0 {
-            told.push_str(",")?;
-        }
-        told.push_str(item.as_str())?;
-    }
-    told.push_str("]")?;
-    Ok(told)
+pub fn array(alloc: Global, items: &[String]) -> Result<String, Memory>
+    ensures { IfOk result (λ told. string_bytes told ≡ array (map string_bytes items.now)) }
+{
+    let told = items.join(alloc, ",")?;
+    Ok(format!(in alloc; "[{told}]")?)
 }
 
-/// A branch with its fate, of a line that tells it.
-fn branch(alloc: Global, line: &str) -> Result<String, Memory> {
-    let (name, fate) = line.split_once(' ').unwrap_or((line, ""));
+/// The lines of a text.
+pub fn lines_of(alloc: Global, text: &str) -> Result<Vec<&str>, AllocError>
+    ensures { IfOk result (λ all. map (λ line. line.now) all.items ≡ lines text.now) }
+{
+    text.lines().collect(alloc)
+}
+
+/// What stands before the first space of a line, and what stands behind it.
+fn cut(line: &str) -> (&str, &str)
+    ensures word { result.0.now ≡ word_of line.now }
+    ensures rest { result.1.now ≡ rest_of line.now }
+{
+    match line.split_once(' ') {
+        Some(parts) => parts,
+        None => (line, ""),
+    }
+}
+
+/// Whether a line tells of a branch, by its identifier.
+fn tells_branch(line: &str) -> bool
+    ensures { result ≡ tells_branch line.now }
+{
+    line.starts_with("7:")
+}
+
+/// A branch with its fate.
+fn branch(alloc: Global, line: &str) -> Result<String, Memory>
+    ensures { IfOk result (λ text. string_bytes text ≡ item_text Item.Branch line.now) }
+{
+    let (name, fate) = cut(line);
     let name = quoted(alloc, name)?;
     let fate = quoted(alloc, fate)?;
     Ok(format!(in alloc; "{{\"branch\":{name},\"fate\":{fate}}}")?)
 }
 
-/// What a run prints, as JSON: the lines of its trace, where it has one, and its branches with their fates.
-pub fn run_json(alloc: Global, printed: &str, with_trace: bool) -> Result<String, Memory> {
-    let mut events = Vec::new(alloc);
-    let mut branches = Vec::new(alloc);
-    for line in printed.lines() {
-        if line.starts_with("7:") {
-            branches.push(branch(alloc, line)?)?;
-        } else {
-            events.push(quoted(alloc, line)?)?;
-        }
-    }
-    let branches = array(alloc, branches.as_slice())?;
-    if !with_trace {
-        return Ok(format!(in alloc; "{{\"branches\":{branches}}}\n")?);
-    }
-    let events = array(alloc, events.as_slice())?;
-    Ok(format!(in alloc; "{{\"events\":{events},\"branches\":{branches}}}\n")?)
-}
-
-/// A decision, of the line of a log that tells it.
-fn decision(alloc: Global, name: &str, count: &str) -> Result<String, Memory> {
+/// A transaction that is decided to commit.
+fn decision(alloc: Global, line: &str) -> Result<String, Memory>
+    ensures { IfOk result (λ text. string_bytes text ≡ item_text Item.Decision line.now) }
+{
+    let (name, count) = cut(line);
     let name = quoted(alloc, name)?;
     Ok(format!(in alloc; "{{\"transaction\":{name},\"branches\":{count}}}")?)
 }
 
-/// What a look at a log prints, as JSON: the names that it keeps, its decisions, and its heuristic ends.
-pub fn log_json(alloc: Global, printed: &str) -> Result<String, Memory> {
-    let mut name = String::from_str(alloc, "null")?;
-    let mut rms = Vec::new(alloc);
-    let mut decisions = Vec::new(alloc);
-    let mut ends = Vec::new(alloc);
-    for line in printed.lines() {
-        match line.split_once(' ') {
-            Some(("name", rest)) => name = quoted(alloc, rest)?,
-            Some(("rm", rest)) => {
-                let rm = rest.split_once(' ').map_or(rest, |parts| parts.1);
-                rms.push(quoted(alloc, rm)?)?;
-            }
-            Some((_, _)) if line.starts_with("7:") => ends.push(branch(alloc, line)?)?,
-            Some((gtrid, count)) => decisions.push(decision(alloc, gtrid, count)?)?,
-            None => {}
+impl Item {
+    /// Whether a line is one.
+    fn is(self, line: &str) -> bool
+        ensures { result ≡ is_item self line.now }
+    {
+        let word = cut(line).0;
+        let is_branch = tells_branch(line);
+        let is_name = word == "name";
+        let is_rm = word == "rm";
+        match self {
+            Item::Branch => is_branch,
+            Item::Event => !is_branch,
+            Item::Name => is_name,
+            Item::Rm => is_rm,
+            Item::Decision => !(is_branch || is_name || is_rm),
         }
     }
-    let rms = array(alloc, rms.as_slice())?;
-    let decisions = array(alloc, decisions.as_slice())?;
-    let ends = array(alloc, ends.as_slice())?;
-    Ok(format!(in alloc;
-        "{{\"name\":{name},\"rms\":{rms},\"decisions\":{decisions},\"heuristics\":{ends}}}\n"
-    )?)
+
+    /// The item that a line is.
+    fn text(self, alloc: Global, line: &str) -> Result<String, Memory>
+        ensures { IfOk result (λ text. string_bytes text ≡ item_text self line.now) }
+    {
+        match self {
+            Item::Branch => branch(alloc, line),
+            Item::Event => quoted(alloc, line),
+            Item::Name => quoted(alloc, cut(line).1),
+            Item::Rm => quoted(alloc, cut(cut(line).1).1),
+            Item::Decision => decision(alloc, line),
+        }
+    }
+
+    /// Those of some lines.
+    fn all_in(self, alloc: Global, lines: &[&str]) -> Result<Vec<String>, Memory>
+        ensures { IfOk result (λ texts. map string_bytes texts.items
+            ≡ items_in self (map (λ line. line.now) lines.now)) }
+    {
+        let mut texts = Vec::new(alloc);
+        for line in lines {
+            if self.is(line) {
+                let text = self.text(alloc, line)?;
+                texts.push(text)?;
+            }
+        }
+        Ok(texts)
+    }
+
+    /// Those of some lines, in brackets.
+    fn array_in(self, alloc: Global, lines: &[&str]) -> Result<String, Memory>
+        ensures { IfOk result (λ text. string_bytes text
+            ≡ array (items_in self (map (λ line. line.now) lines.now))) }
+    {
+        let items = self.all_in(alloc, lines)?;
+        array(alloc, items.as_slice())
+    }
 }
 
-/// A number, if there is one.
-fn number(alloc: Global, value: Option<usize>) -> Result<String, Memory> {
-    match value {
-        Some(value) => Ok(format!(in alloc; "{value}")?),
+/// The name of the manager in some lines, or null.
+fn name_in(alloc: Global, lines: &[&str]) -> Result<String, Memory>
+    ensures { IfOk result (λ text. string_bytes text
+        ≡ first_or_null (items_in Item.Name (map (λ line. line.now) lines.now))) }
+{
+    let names = Item::Name.all_in(alloc, lines)?;
+    match names.first() {
+        Some(name) => Ok(name.clone()?),
         None => Ok(String::from_str(alloc, "null")?),
     }
 }
 
-/// A fault of a file.
-fn fault(alloc: Global, found: &Diagnostic) -> Result<String, Memory> {
-    let line = number(alloc, found.line)?;
-    let column = number(alloc, found.column)?;
-    let place = quoted(alloc, place_text(alloc, found.fault)?.as_str())?;
-    let reason = quoted(alloc, found.reason.as_str())?;
-    Ok(format!(in alloc;
-        "{{\"line\":{line},\"column\":{column},\"place\":{place},\"reason\":{reason}}}"
-    )?)
+/// What a run prints, as JSON: its branches with their fates, and the other lines of its trace, where it has one.
+pub fn run_json(alloc: Global, printed: &str, with_trace: bool) -> Result<String, Memory>
+    ensures { IfOk result (λ text. string_bytes text ≡ run_json with_trace printed.now) }
+{
+    let lines = lines_of(alloc, printed)?;
+    let branches = Item::Branch.array_in(alloc, lines.as_slice())?;
+    if with_trace {
+        let events = Item::Event.array_in(alloc, lines.as_slice())?;
+        Ok(format!(in alloc; "{{\"events\":{events},\"branches\":{branches}}}\n")?)
+    } else {
+        Ok(format!(in alloc; "{{\"branches\":{branches}}}\n")?)
+    }
 }
 
-/// What a check says of the file at a path, as JSON on a line of its own: whether it is well, what it is, all its faults, and
-/// what a run will refuse.
-pub fn check_json(
-    alloc: Global,
-    path: &str,
-    text: &[u8],
-    kind: FileKind,
-    warnings: &str,
-) -> Result<String, Memory> {
-    let found = faults_of(alloc, text, &[], kind)?;
-    let mut faults = Vec::new(alloc);
-    for diagnostic in found.iter() {
-        faults.push(fault(alloc, diagnostic)?)?;
-    }
-    let mut warned = Vec::new(alloc);
-    for line in warnings.lines() {
-        warned.push(quoted(alloc, line)?)?;
-    }
-    let path = quoted(alloc, path)?;
-    let is_well = found.is_empty();
-    let kind = match kind {
-        FileKind::Scenario => "scenario",
-        FileKind::Jobs => "jobs",
-    };
-    let faults = array(alloc, faults.as_slice())?;
-    let warned = array(alloc, warned.as_slice())?;
+/// What a look at a log prints, as JSON: the names that it keeps, its decisions, and its heuristic ends.
+pub fn log_json(alloc: Global, printed: &str) -> Result<String, Memory>
+    ensures { IfOk result (λ text. string_bytes text ≡ log_json printed.now) }
+{
+    let lines = lines_of(alloc, printed)?;
+    let name = name_in(alloc, lines.as_slice())?;
+    let rms = Item::Rm.array_in(alloc, lines.as_slice())?;
+    let decisions = Item::Decision.array_in(alloc, lines.as_slice())?;
+    let ends = Item::Branch.array_in(alloc, lines.as_slice())?;
     Ok(format!(in alloc;
-        "{{\"file\":{path},\"ok\":{is_well},\"kind\":\"{kind}\",\"faults\":{faults},\"warnings\":{warned}}}\n"
+        "{{\"name\":{name},\"rms\":{rms},\"decisions\":{decisions},\"heuristics\":{ends}}}\n"
     )?)
 }

@@ -12,6 +12,7 @@ mod faults;
 mod finding;
 mod jobs_check;
 mod json;
+mod json_checks;
 mod nearest;
 mod places;
 mod reports;
@@ -22,6 +23,7 @@ mod warning_lines;
 
 pub use document::{FileKind, kind_of};
 pub use jobs_check::check_jobs;
-pub use json::{check_json, log_json, run_json};
+pub use json::{log_json, run_json};
+pub use json_checks::check_json;
 pub use reports::report;
 pub use warning_lines::warnings;

@@ -70,25 +70,53 @@ fn twice(alloc: Global, before: &[u8], rest: &[u8]) -> Result<String, Memory> {
     }
 }
 
-/// Whether a string begins here that isn't closed on its line.
-fn is_unclosed(rest: &[u8]) -> bool {
-    let Some(quote) = rest.first() else {
-        return false;
-    };
+/// The line of a text on which the bytes before a place end.
+fn line_at<'a>(text: &'a [u8], before: &[u8]) -> &'a [u8] {
+    let begun = before.iter().rev().take_while(|byte| **byte != b'\n').count();
+    let (_, rest) = parts_at(text, before.len().saturating_sub(begun));
+    let length = rest.iter().take_while(|byte| **byte != b'\n').count();
+    rest.get(..length).unwrap_or(rest)
+}
+
+/// Where on a line a string begins that isn't closed there.
+fn unclosed_at(line: &[u8]) -> Option<usize> {
+    let mut open: Option<(usize, u8)> = None;
     let mut is_escaped = false;
-    for byte in rest.iter().skip(1) {
-        if *byte == b'\n' {
-            return true;
-        }
-        if is_escaped {
-            is_escaped = false;
-        } else if byte == quote {
-            return false;
-        } else {
-            is_escaped = *byte == b'\\' && *quote == b'"';
+    for (i, byte) in line.iter().enumerate() {
+        match open {
+            None if *byte == b'#' => return None,
+            None if matches!(*byte, b'"' | b'\'') => open = Some((i, *byte)),
+            None => {}
+            Some(_) if is_escaped => is_escaped = false,
+            Some((_, quote)) if *byte == quote => open = None,
+            Some((_, quote)) => is_escaped = *byte == b'\\' && quote == b'"',
         }
     }
-    true
+    open.map(|begun| begun.0)
+}
+
+/// The fault of a string that isn't closed on the line before a place, if that is what is wrong.
+fn of_unclosed(
+    alloc: Global,
+    text: &[u8],
+    before: &[u8],
+    message: &str,
+) -> Result<Option<Diagnostic>, Memory> {
+    if message != "invalid string" {
+        return Ok(None);
+    }
+    let line = line_at(text, before);
+    let Some(at) = unclosed_at(line) else {
+        return Ok(None);
+    };
+    let (number, _) = place_in(before);
+    let (_, column) = place_in(line.get(..at).unwrap_or(line));
+    Ok(Some(Diagnostic {
+        fault: RunFault::NotToml,
+        line: Some(number),
+        column: Some(column),
+        reason: String::from_str(alloc, "the string isn't closed on this line")?,
+    }))
 }
 
 /// Why the text is no document, in words: as TOML's reader tells it, or plainer.
@@ -108,9 +136,6 @@ fn reason(
     }
     match message {
         "duplicate key" => twice(alloc, before, rest),
-        "invalid string" if is_unclosed(rest) => {
-            Ok(String::from_str(alloc, "the string isn't closed on this line")?)
-        }
         _ => Ok(String::from_str(alloc, message)?),
     }
 }
@@ -124,6 +149,9 @@ pub fn explain_syntax(alloc: Global, text: &[u8]) -> Result<Option<Diagnostic>, 
                 return Err(Memory);
             };
             let (before, rest) = parts_at(text, span.start);
+            if let Some(found) = of_unclosed(alloc, text, before, error.message())? {
+                return Ok(Some(found));
+            }
             let (line, column) = place_in(before);
             Ok(Some(Diagnostic {
                 fault: RunFault::NotToml,

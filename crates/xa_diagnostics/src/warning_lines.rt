@@ -1,11 +1,19 @@
 //! What a run will refuse of a scenario that is none the less one: threads and resource managers that aren't there.
 
+ghost use Rattle.std.specs.Prelude.{◌≡◌, [], Err, IfOk};
+ghost use Rattle.std.specs.String.{string_bytes};
+ghost use Rattle.toml.specs.View.{table_view};
+ghost use Rattle.xa_diagnostics.specs.Warnings.{warning_line};
+ghost use Rattle.xa_files.specs.declared.fault.RunFault.{RunFault};
+ghost use Rattle.xa_scenario.specs.Scenarios.{scenario_in, scenario_of};
+
 use crate::document::items_at;
 use crate::places::{Wanted, line_of};
 use crate::told::numbers_text;
 use std::alloc::Global;
+use toml::Table;
 use xa_base::{Call, Memory, Part, Side};
-use xa_files::document_of;
+use xa_files::{Refusal, RunFault, document_of};
 use xa_scenario::{BranchEntry, Entry, Scenario, scenario_in};
 
 /// The most warnings of a file.
@@ -130,20 +138,33 @@ fn warning_of(
     Ok(None)
 }
 
-/// A line for each entry of the scenario in a file that a run will refuse whatever is done before it, at most ten. Of a file
-/// that is no scenario there is none.
-pub fn warnings(alloc: Global, path: &str, text: &[u8]) -> Result<String, Memory> {
+/// The line of a warning of the entry of a number.
+fn warning_line(
+    alloc: Global,
+    path: &str,
+    number: usize,
+    line: Option<usize>,
+    reason: &str,
+) -> Result<String, Memory>
+    ensures { IfOk result (λ told.
+        string_bytes told ≡ warning_line path.now number line reason.now) }
+{
+    let numbers = numbers_text(alloc, line, None)?;
+    Ok(format!(in alloc; "{path}{numbers}: warning: step {number}: {reason}\n")?)
+}
+
+/// The warnings of a scenario, whose text has so many tables.
+fn warnings_of(
+    alloc: Global,
+    path: &str,
+    text: &[u8],
+    scenario: &Scenario,
+    tables: usize,
+) -> Result<String, Memory> {
     let mut told = String::new(alloc);
-    let Ok(document) = document_of(alloc, text) else {
-        return Ok(told);
-    };
-    let Ok(scenario) = scenario_in(alloc, &document) else {
-        return Ok(told);
-    };
-    let tables = items_at(&document, "step").len();
     let mut count = 0usize;
     for (i, entry) in scenario.entries.iter().enumerate() {
-        let Some((key, reason)) = warning_of(alloc, &scenario, entry)? else {
+        let Some((key, reason)) = warning_of(alloc, scenario, entry)? else {
             continue;
         };
         if count == MOST_WARNINGS {
@@ -156,9 +177,42 @@ pub fn warnings(alloc: Global, path: &str, text: &[u8]) -> Result<String, Memory
             number,
             key: Some(key),
         };
-        let numbers = numbers_text(alloc, line_of(text, wanted, tables), None)?;
-        let line = format!(in alloc; "{path}{numbers}: warning: step {number}: {reason}\n")?;
-        told.push_str(line.as_str())?;
+        let line = line_of(text, wanted, tables);
+        told.push_str(warning_line(alloc, path, number, line, reason.as_str())?.as_str())?;
     }
     Ok(told)
+}
+
+/// The warnings of a document that is a text.
+fn warnings_in(
+    alloc: Global,
+    path: &str,
+    text: &[u8],
+    document: &Table,
+) -> Result<String, Memory>
+    ensures { (e : RunFault) → scenario_in (table_view document.now) ≡ Err e
+        → IfOk result (λ told. string_bytes told ≡ []) }
+{
+    match scenario_in(alloc, document) {
+        Ok(scenario) => {
+            let tables = items_at(document, "step").len();
+            warnings_of(alloc, path, text, &scenario, tables)
+        }
+        Err(Refusal::Memory) => Err(Memory),
+        Err(_) => Ok(String::new(alloc)),
+    }
+}
+
+/// A line for each entry of the scenario in a file that a run will refuse whatever is done before it, at most ten. Of a file
+/// that is no scenario there is none.
+#[tactic(auto, unfolding(xa_scenario::specs::Scenarios::scenario_of))]
+pub fn warnings(alloc: Global, path: &str, text: &[u8]) -> Result<String, Memory>
+    ensures { (e : RunFault) → scenario_of text.now ≡ Err e
+        → IfOk result (λ told. string_bytes told ≡ []) }
+{
+    match document_of(alloc, text) {
+        Ok(document) => warnings_in(alloc, path, text, &document),
+        Err(RunFault::Memory) => Err(Memory),
+        Err(_) => Ok(String::new(alloc)),
+    }
 }

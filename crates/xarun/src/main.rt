@@ -157,7 +157,7 @@ fn check_one(
 ) -> Result<(), Failure> {
     let alloc = rt.alloc();
     let text = text_of(rt, path)?;
-    let kind = kind_of(alloc, &text);
+    let kind = kind_of(alloc, &text)?;
     let mut line = Vec::new(alloc);
     let checked = match kind {
         FileKind::Scenario => check_scenario(alloc, &text, &mut line),

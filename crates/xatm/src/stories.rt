@@ -21,7 +21,7 @@ pub(crate) fn check<W: Write>(
     let texts = texts_of(rt, files)?;
     let mut checked: Result<(), Failure> = Ok(());
     for (path, text) in files.iter().zip(texts.iter()) {
-        let mut source = Source::of(path, text, kind_of(rt.alloc(), text));
+        let mut source = Source::of(path, text, kind_of(rt.alloc(), text)?);
         source.is_whole = explains;
         let done = if as_json {
             check_as_json(rt, source, out)
