@@ -72,7 +72,11 @@ fn twice(alloc: Global, before: &[u8], rest: &[u8]) -> Result<String, Memory> {
 
 /// The line of a text on which the bytes before a place end.
 fn line_at<'a>(text: &'a [u8], before: &[u8]) -> &'a [u8] {
-    let begun = before.iter().rev().take_while(|byte| **byte != b'\n').count();
+    let begun = before
+        .iter()
+        .rev()
+        .take_while(|byte| **byte != b'\n')
+        .count();
     let (_, rest) = parts_at(text, before.len().saturating_sub(begun));
     let length = rest.iter().take_while(|byte| **byte != b'\n').count();
     rest.get(..length).unwrap_or(rest)

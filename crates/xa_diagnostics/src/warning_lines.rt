@@ -184,12 +184,7 @@ fn warnings_of(
 }
 
 /// The warnings of a document that is a text.
-fn warnings_in(
-    alloc: Global,
-    path: &str,
-    text: &[u8],
-    document: &Table,
-) -> Result<String, Memory>
+fn warnings_in(alloc: Global, path: &str, text: &[u8], document: &Table) -> Result<String, Memory>
     ensures { (e : RunFault) → scenario_in (table_view document.now) ≡ Err e
         → IfOk result (λ told. string_bytes told ≡ []) }
 {

@@ -7,13 +7,18 @@ use std::io::{self, ErrorKind, Input, Read, Write};
 use xa_diagnostics::{FileKind, report};
 use xa_files::{RunFault, write_text};
 
+/// What an error tells, without its number.
+fn without_number(told: &str) -> &str {
+    match told.split_once(" (os error ") {
+        Some((reason, _number)) => reason,
+        None => told,
+    }
+}
+
 /// A path, and why the system refuses it.
 fn system_text(alloc: Global, path: &str, error: &io::Error) -> Result<String, Failure> {
     let told = format!(in alloc; "{error}")?;
-    let reason = match told.split_once(" (os error ") {
-        Some((reason, _number)) => reason,
-        None => told.as_str(),
-    };
+    let reason = without_number(told.as_str());
     Ok(format!(in alloc; "{path}: {reason}")?)
 }
 

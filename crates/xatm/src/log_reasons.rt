@@ -3,12 +3,13 @@
 use crate::copies::copied_log;
 use crate::failure::Failure;
 use crate::files::{is_missing, system_failure};
+use crate::stores::is_spent_copy;
 use sqlite::{Connection, Error, ErrorCode, Unknown};
 use std::alloc::Global;
 use std::fs;
 use std::path::Path;
 use xa_files::RunFault;
-use xa_log::{DecisionLog, LogFault};
+use xa_log::LogFault;
 
 /// How a file of SQLite begins.
 const SQLITE: &[u8] = b"SQLite format 3\0";
@@ -156,17 +157,11 @@ pub(crate) fn running_failure(rt: &HostRuntime, path: &str, failure: Failure) ->
 /// Why a log that was opened fails.
 fn late_reason(rt: &HostRuntime, path: &str) -> Result<Failure, Failure> {
     let is_spent = match copied_log(rt, path) {
-        Ok(mut log) => next_start(&mut log) == Err(LogFault::Spent),
+        Ok(copy) => is_spent_copy(copy),
         Err(_) => false,
     };
     if is_spent {
         return reason_of(rt, path, LogFault::Spent);
     }
     store_reason(rt, path)
-}
-
-/// Whether a manager could start over a log.
-fn next_start<L: DecisionLog>(log: &mut L) -> Result<(), LogFault> {
-    log.bump()?;
-    Ok(())
 }

@@ -27,10 +27,11 @@ use crate::log_reasons::{no_log, opening_failure, running_failure};
 use crate::made_logs::make_log;
 use crate::service::serve_in_files;
 use crate::stores::{
-    close_in_files, list_in_files, list_over, run_in_files, run_jobs_in_files, run_over,
+    close_in_files, list_copy, list_in_files, run_in_files, run_jobs_in_files, run_over,
 };
 use crate::stories::{check, draw, explain};
 use sqlite::{FileFrom, FileStore, Unknown};
+use std::alloc::Global;
 use std::io::{BufReader, BufWriter, Input, Write};
 use std::process::ExitCode;
 use std::sync::Wait;
@@ -42,6 +43,7 @@ use xa_files::{RunFault, write_text};
 use xa_jobs::run_job_file;
 use xa_log::{LogFault, MemLog};
 use xa_names::ManagerName;
+use xa_scenario::FileFault;
 use xa_sql_log::SqlLog;
 
 fn main(rt: HostRuntime) -> ExitCode {
@@ -171,18 +173,28 @@ fn run<W: Write>(
     let Err(fault) = ran else {
         return Ok(());
     };
-    let failure = match (files.get(fault.file), texts.get(fault.file)) {
-        (Some(path), Some(text)) => {
-            let mut source = Source::of(path, text, FileKind::Scenario);
-            source.earlier = texts.as_slice().get(..fault.file).unwrap_or(&[]);
-            source.failure(alloc, fault.fault)
-        }
-        _ => Failure::Run(fault.fault),
-    };
+    let failure = failure_of(alloc, files, &texts, fault);
     Err(match log {
         Some(path) => running_failure(rt, path, failure),
         None => failure,
     })
+}
+
+/// The failure of a run of files. Where one of them is refused, all that is wrong with it is told.
+fn failure_of(alloc: Global, files: &[&str], texts: &[Vec<u8>], fault: FileFault) -> Failure {
+    match (files.get(fault.file), texts.get(fault.file)) {
+        (Some(path), Some(text)) => {
+            let source = Source {
+                path,
+                text,
+                earlier: texts.get(..fault.file).unwrap_or(&[]),
+                kind: FileKind::Scenario,
+                is_whole: false,
+            };
+            source.failure(alloc, fault.fault)
+        }
+        _ => Failure::Run(fault.fault),
+    }
 }
 
 /// Does so, and prints JSON.
@@ -286,8 +298,7 @@ fn list<W: Write>(
             rt, path, failure,
         ))?,
         Err(LogFault::Store) => {
-            let mut copy = copied_log(rt, path)?;
-            list_over(&mut copy, explained_for, &mut text)?;
+            list_copy(copied_log(rt, path)?, explained_for, &mut text)?;
             // A note that can't be written changes no status.
             let _unwritten = eprintln!(rt;
                 "xatm: {path}: another process runs over it, or it can't be written: it is shown as a copy has it"

@@ -66,7 +66,7 @@ pub(crate) fn run_jobs_in_files<D: Disk + Drop, T: Threads + Wait + Clock + Sync
 }
 
 /// Lists a log, or tells what it asks of an operator, where the name of its manager is given.
-pub(crate) fn list_over<L: DecisionLog, W: Write>(
+fn list_over<L: DecisionLog, W: Write>(
     log: &mut L,
     explained_for: Option<&[u8]>,
     out: &mut W,
@@ -88,6 +88,28 @@ pub(crate) fn list_in_files<D: Disk + Drop, W: Write>(
     listed?;
     closed?;
     Ok(())
+}
+
+/// Does so over a copy of a log, which is let go then.
+pub(crate) fn list_copy<D: Disk + Drop, W: Write>(
+    mut copy: SqlLog<FileStore<D>>,
+    explained_for: Option<&[u8]>,
+    out: &mut W,
+) -> Result<(), RunFault> {
+    list_over(&mut copy, explained_for, out)
+}
+
+/// Whether no manager can start over a log, for want of an incarnation.
+fn is_spent_over<L: DecisionLog>(log: &mut L) -> bool {
+    match log.bump() {
+        Err(LogFault::Spent) => true,
+        Ok(_) | Err(_) => false,
+    }
+}
+
+/// The same of a copy of a log, which is let go then.
+pub(crate) fn is_spent_copy<D: Disk + Drop>(mut copy: SqlLog<FileStore<D>>) -> bool {
+    is_spent_over(&mut copy)
 }
 
 /// Copies the journal of a log into its file, and closes both.
