@@ -1,9 +1,10 @@
 -- Texts in quotes, and items that are joined.
-use Rattle.std.proofs.Common.{◌≡◌, ◌∙◌, ℕ, List, [], ◌∷◌, ◌++◌, map, refl, sym, ap, append-nil}
+use Rattle.std.proofs.Common.{◌≡◌, ◌∙◌, ℕ, List, [], ◌∷◌, ◌++◌, map, refl, sym, ap, append-nil, append_assoc}
 use Rattle.std.proofs.lemmas.List.{map-id}
 use Rattle.std.specs.List.{flat_map, join_by, join_with_byte}
 use Rattle.std.specs.Str.{chars}
-use Rattle.xa_diagnostics.specs.Json.{escaped, quoted}
+use Rattle.xa_diagnostics.specs.Json.{escaped, item_in, items_in, quoted}
+use Rattle.xa_diagnostics.specs.declared.json.Item.{Item}
 
 -- all characters of a text, escaped, and then the quote that ends it
 pub all_escaped : (text told yielded : List ℕ) → map (λ c. c) yielded ≡ chars text
@@ -17,3 +18,22 @@ pub joined : {X : Type 0} (f : X → List ℕ) (xs : List X) → join_by f (44 �
 joined f [] = refl
 joined f (x ∷ []) = append-nil (f x)
 joined f (x ∷ y ∷ xs) = ap (λ (t : List ℕ). f x ++ (44 ∷ t)) (joined f (y ∷ xs))
+
+-- the items of lines, and of what the lines are
+pub items_seen : {X : Type 0} (item : Item) (f : X → List ℕ) (xs : List X) → flat_map (λ x. item_in item (f x)) xs ≡ items_in item (map f xs)
+unfolding items_in
+items_seen item f [] = refl
+items_seen item f (x ∷ xs) = ap (λ (ys : List (List ℕ)). item_in item (f x) ++ ys) (items_seen item f xs)
+
+-- ** a format with holes, its pieces grouped from the right
+
+pub pieces_2 : (a b c d e : List ℕ) → a ++ (b ++ (c ++ (d ++ e))) ≡ a ++ b ++ c ++ d ++ e
+pieces_2 a b c d e = simp append_assoc
+
+pub pieces_4 : (a b c d e f g h i : List ℕ)
+    → a ++ (b ++ (c ++ (d ++ (e ++ (f ++ (g ++ (h ++ i))))))) ≡ a ++ b ++ c ++ d ++ e ++ f ++ g ++ h ++ i
+pieces_4 a b c d e f g h i = simp append_assoc
+
+pub pieces_5 : (a b c d e f g h i j k : List ℕ)
+    → a ++ (b ++ (c ++ (d ++ (e ++ (f ++ (g ++ (h ++ (i ++ (j ++ k))))))))) ≡ a ++ b ++ c ++ d ++ e ++ f ++ g ++ h ++ i ++ j ++ k
+pieces_5 a b c d e f g h i j k = simp append_assoc

@@ -1,11 +1,12 @@
 -- What a check says of a file, as JSON.
-use Rattle.std.specs.Prelude.{ℕ, List, [], ◌∷◌, ◌++◌, map, codes, Option, Some, None}
+use Rattle.std.specs.Prelude.{ℕ, ◌==◌, if◌then◌else◌, List, ◌++◌, length, map, codes, Option, Some, None}
 use Rattle.std.specs.Fmt.{decimal}
 use Rattle.std.specs.Str.Lines.{lines}
 use Rattle.std.specs.String.{string_bytes}
 use Rattle.xa_diagnostics.specs.Explanations.{place_text}
-use Rattle.xa_diagnostics.specs.Json.{array, quoted}
+use Rattle.xa_diagnostics.specs.Json.{array, items_in, quoted}
 use Rattle.xa_diagnostics.specs.declared.diagnostic.Diagnostic.{Diagnostic}
+use Rattle.xa_diagnostics.specs.declared.json.Item.TheVariants.{Line}
 use Rattle.xa_diagnostics.specs.declared.document.FileKind.{FileKind}
 use Rattle.xa_diagnostics.specs.declared.document.FileKind.TheVariants.{Scenario, Jobs}
 
@@ -22,8 +23,7 @@ fault_json it =
 
 -- whether there is no fault
 abbrev pub is_well : List Diagnostic → List ℕ
-is_well [] = codes "true"
-is_well (fault ∷ faults) = codes "false"
+is_well found = if length found == 0 then codes "true" else codes "false"
 
 -- what a file is
 abbrev pub kind_name : FileKind → List ℕ
@@ -34,4 +34,4 @@ kind_name Jobs = codes "jobs"
 abbrev pub check_json : (path : List ℕ) → FileKind → List Diagnostic → (warnings : List ℕ) → List ℕ
 check_json path kind found warnings =
     codes "{\"file\":" ++ quoted path ++ codes ",\"ok\":" ++ is_well found ++ codes ",\"kind\":\"" ++ kind_name kind
-    ++ codes "\",\"faults\":" ++ array (map fault_json found) ++ codes ",\"warnings\":" ++ array (map quoted (lines warnings)) ++ codes "}\n"
+    ++ codes "\",\"faults\":" ++ array (map fault_json found) ++ codes ",\"warnings\":" ++ array (items_in Line (lines warnings)) ++ codes "}\n"

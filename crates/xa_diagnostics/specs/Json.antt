@@ -1,12 +1,12 @@
 -- What is printed, as JSON.
-use Rattle.std.specs.Prelude.{ℕ, ◌^◌, ◌-◌, ◌==◌, nat_lt, nat_eq, false, Bool, if◌then◌else◌, List, [], ◌∷◌, ◌++◌, length, map, codes, Option, Some, None, not, ◌&&◌, ◌||◌}
+use Rattle.std.specs.Prelude.{ℕ, ◌^◌, ◌-◌, ◌==◌, nat_lt, nat_eq, false, true, Bool, if◌then◌else◌, List, [], ◌∷◌, ◌++◌, length, map, codes, Option, Some, None, not, ◌&&◌, ◌||◌}
 use Rattle.std.specs.Char.{encode_utf8}
 use Rattle.std.specs.Fmt.{decimal, digits, format_spec, padded_integral}
 use Rattle.std.specs.List.{after_first, before_first, flat_map, join_with_byte, starts_with}
 use Rattle.std.specs.Str.{bytes_eq, chars}
 use Rattle.std.specs.Str.Lines.{lines}
 use Rattle.xa_diagnostics.specs.declared.json.Item.{Item}
-use Rattle.xa_diagnostics.specs.declared.json.Item.TheVariants.{Branch, Event, Name, Rm, Decision}
+use Rattle.xa_diagnostics.specs.declared.json.Item.TheVariants.{Line, Branch, Event, Name, Rm, Decision}
 
 -- a character, as it stands in a text in quotes
 abbrev pub escaped : ℕ → List ℕ
@@ -40,6 +40,7 @@ tells_branch line = starts_with nat_eq line (codes "7:")
 
 -- whether a line is such an item
 abbrev pub is_item : Item → List ℕ → Bool
+is_item Line line = true
 is_item Branch line = tells_branch line
 is_item Event line = not (tells_branch line)
 is_item Name line = bytes_eq (word_of line) (codes "name")
@@ -49,6 +50,7 @@ is_item Decision line = not (tells_branch line || (bytes_eq (word_of line) (code
 -- the item that a line is
 abbrev pub item_text : Item → List ℕ → List ℕ
 item_text Branch line = codes "{\"branch\":" ++ quoted (word_of line) ++ codes ",\"fate\":" ++ quoted (rest_of line) ++ codes "}"
+item_text Line line = quoted line
 item_text Event line = quoted line
 item_text Name line = quoted (rest_of line)
 item_text Rm line = quoted (rest_of (rest_of line))

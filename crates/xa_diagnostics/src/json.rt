@@ -1,17 +1,19 @@
 //! What is printed, as JSON.
 
-ghost use Rattle.std.specs.Prelude.{◌≡◌, map, IfOk};
-ghost use Rattle.std.specs.List.{after_first, before_first};
+ghost use Rattle.std.specs.Prelude.{◌≡◌, ◌++◌, map, IfOk, OnOk};
+ghost use Rattle.std.specs.List.{flat_map};
 ghost use Rattle.std.specs.Str.Lines.{lines};
 ghost use Rattle.std.specs.String.{string_bytes};
-ghost use Rattle.xa_diagnostics.specs.Json.{array, escaped, first_or_null, is_item, item_text, items_in, log_json, quoted, rest_of, run_json, tells_branch, word_of};
+ghost use Rattle.xa_diagnostics.specs.Json.{array, escaped, first_or_null, is_item, item_in, item_text, items_in, log_json, quoted, rest_of, run_json, tells_branch, word_of};
 
 use std::alloc::{AllocError, Global};
 use xa_base::Memory;
 
 /// What a line is told as.
 #[derive(Clone, Copy)]
-enum Item {
+pub enum Item {
+    /// A text.
+    Line,
     /// A branch with its fate.
     Branch,
     /// A line of a trace.
@@ -121,6 +123,7 @@ impl Item {
         let is_name = word == "name";
         let is_rm = word == "rm";
         match self {
+            Item::Line => true,
             Item::Branch => is_branch,
             Item::Event => !is_branch,
             Item::Name => is_name,
@@ -135,30 +138,48 @@ impl Item {
     {
         match self {
             Item::Branch => branch(alloc, line),
-            Item::Event => quoted(alloc, line),
+            Item::Line | Item::Event => quoted(alloc, line),
             Item::Name => quoted(alloc, cut(line).1),
             Item::Rm => quoted(alloc, cut(cut(line).1).1),
             Item::Decision => decision(alloc, line),
         }
     }
 
-    /// Those of some lines.
-    fn all_in(self, alloc: Global, lines: &[&str]) -> Result<Vec<String>, Memory>
+    /// Adds the item that a line is, if it is one.
+    fn push(self, alloc: Global, texts: &mut Vec<String>, line: &str) -> Result<(), Memory>
+        ensures { OnOk result (map string_bytes texts.new.items
+            ≡ map string_bytes texts.old.items ++ item_in self line.now) }
+    {
+        if self.is(line) {
+            let text = self.text(alloc, line)?;
+            texts.push(text)?;
+        }
+        Ok(())
+    }
+
+    /// Those of some lines, line by line.
+    fn collected(self, alloc: Global, lines: &[&str]) -> Result<Vec<String>, Memory>
         ensures { IfOk result (λ texts. map string_bytes texts.items
-            ≡ items_in self (map (λ line. line.now) lines.now)) }
+            ≡ flat_map (λ line. item_in self line.now) lines.now) }
     {
         let mut texts = Vec::new(alloc);
         for line in lines {
-            if self.is(line) {
-                let text = self.text(alloc, line)?;
-                texts.push(text)?;
-            }
+            self.push(alloc, &mut texts, line)?;
         }
         Ok(texts)
     }
 
+    /// Those of some lines.
+    pub fn all_in(self, alloc: Global, lines: &[&str]) -> Result<Vec<String>, Memory>
+        ensures { IfOk result (λ texts. map string_bytes texts.items
+            ≡ items_in self (map (λ line. line.now) lines.now)) }
+    {
+        let texts = self.collected(alloc, lines)?;
+        Ok(texts)
+    }
+
     /// Those of some lines, in brackets.
-    fn array_in(self, alloc: Global, lines: &[&str]) -> Result<String, Memory>
+    pub fn array_in(self, alloc: Global, lines: &[&str]) -> Result<String, Memory>
         ensures { IfOk result (λ text. string_bytes text
             ≡ array (items_in self (map (λ line. line.now) lines.now))) }
     {

@@ -2,15 +2,13 @@
 
 ghost use Rattle.std.specs.Prelude.{◌≡◌, List, map, IfOk};
 ghost use Rattle.std.specs.String.{string_bytes};
-ghost use Rattle.xa_diagnostics.specs.CheckJson.{check_json, fault_json, number_json};
-ghost use Rattle.xa_diagnostics.specs.Json.{quoted};
-ghost use Rattle.std.specs.Str.Lines.{lines};
+ghost use Rattle.xa_diagnostics.specs.CheckJson.{check_json, fault_json, is_well, number_json};
 ghost use Rattle.xa_diagnostics.specs.declared.diagnostic.Diagnostic.{Diagnostic};
 
 use crate::diagnostic::Diagnostic;
 use crate::document::FileKind;
 use crate::faults::faults_of;
-use crate::json::{array, lines_of, quoted};
+use crate::json::{Item, array, lines_of, quoted};
 use crate::told::place_text;
 use std::alloc::Global;
 use xa_base::Memory;
@@ -51,17 +49,11 @@ fn faults_json(alloc: Global, found: &[Diagnostic]) -> Result<Vec<String>, Memor
     Ok(faults)
 }
 
-/// The lines of a text, each in quotes.
-fn lines_json(alloc: Global, text: &str) -> Result<Vec<String>, Memory>
-    ensures { IfOk result (λ texts. map string_bytes texts.items ≡ map quoted (lines text.now)) }
+/// Whether there is no fault.
+fn well(found: &[Diagnostic]) -> &'static str
+    ensures { result.now ≡ is_well found.now }
 {
-    let lines = lines_of(alloc, text)?;
-    let mut texts = Vec::new(alloc);
-    for line in lines.iter() {
-        let text = quoted(alloc, line)?;
-        texts.push(text)?;
-    }
-    Ok(texts)
+    if found.is_empty() { "true" } else { "false" }
 }
 
 /// Whether a file is well, what it is, its faults, and what a run will refuse.
@@ -76,12 +68,12 @@ fn found_json(
         string_bytes text ≡ check_json path.now kind found.now warnings.now) }
 {
     let path = quoted(alloc, path)?;
-    let is_well = if found.is_empty() { "true" } else { "false" };
+    let is_well = well(found);
     let kind = kind.name();
     let faults = faults_json(alloc, found)?;
     let faults = array(alloc, faults.as_slice())?;
-    let warned = lines_json(alloc, warnings)?;
-    let warned = array(alloc, warned.as_slice())?;
+    let lines = lines_of(alloc, warnings)?;
+    let warned = Item::Line.array_in(alloc, lines.as_slice())?;
     Ok(format!(in alloc;
         "{{\"file\":{path},\"ok\":{is_well},\"kind\":\"{kind}\",\"faults\":{faults},\"warnings\":{warned}}}\n"
     )?)
