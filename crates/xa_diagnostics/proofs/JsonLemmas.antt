@@ -37,3 +37,16 @@ pieces_4 a b c d e f g h i = simp append_assoc
 pub pieces_5 : (a b c d e f g h i j k : List ℕ)
     → a ++ (b ++ (c ++ (d ++ (e ++ (f ++ (g ++ (h ++ (i ++ (j ++ k))))))))) ≡ a ++ b ++ c ++ d ++ e ++ f ++ g ++ h ++ i ++ j ++ k
 pieces_5 a b c d e f g h i j k = simp append_assoc
+
+-- the lines that a slice shows
+pub shown : {X : Type 0} (now : X → List ℕ) (slice items : List X) (all : List (List ℕ)) → slice ≡ items → map now items ≡ all → map now slice ≡ all
+shown now slice items all are is = ap (map now) are ∙ is
+
+-- the same with what stands in the holes
+pub text_4 : {b d f h b' d' f' h' t : List ℕ} (a c e g i : List ℕ) → b ≡ b' → d ≡ d' → f ≡ f' → h ≡ h'
+    → t ≡ a ++ (b ++ (c ++ (d ++ (e ++ (f ++ (g ++ (h ++ i))))))) → t ≡ a ++ b' ++ c ++ d' ++ e ++ f' ++ g ++ h' ++ i
+text_4 {b' = b'} {d' = d'} {f' = f'} {h' = h'} a c e g i p q r s is = let e = pieces_4 a b' c d' e f' g h' i in cc
+
+pub text_5 : {b d f h j b' d' f' h' j' t : List ℕ} (a c e g i k : List ℕ) → b ≡ b' → d ≡ d' → f ≡ f' → h ≡ h' → j ≡ j'
+    → t ≡ a ++ (b ++ (c ++ (d ++ (e ++ (f ++ (g ++ (h ++ (i ++ (j ++ k))))))))) → t ≡ a ++ b' ++ c ++ d' ++ e ++ f' ++ g ++ h' ++ i ++ j' ++ k
+text_5 {b' = b'} {d' = d'} {f' = f'} {h' = h'} {j' = j'} a c e g i k p q r s v is = let w = pieces_5 a b' c d' e f' g h' i j' k in cc

@@ -1,25 +1,20 @@
-use Rattle.std.proofs.Common.{codes, map}
+use Rattle.std.proofs.Common.{◌≡◌, ◌∙◌, codes, List, ℕ, ap, map, string_bytes}
 use Rattle.std.specs.Str.Lines.{lines}
-use Rattle.xa_diagnostics.specs.CheckJson.{fault_json, is_well, kind_name}
-use Rattle.xa_diagnostics.specs.Json.{array, items_in, quoted}
+use Rattle.xa_diagnostics.specs.CheckJson.{fault_json}
+use Rattle.xa_diagnostics.specs.Json.{array, items_in}
 use Rattle.xa_diagnostics.specs.declared.json.Item.TheVariants.{Line}
-use Rattle.xa_diagnostics.proofs.JsonLemmas.{pieces_5}
+use Rattle.xa_diagnostics.proofs.JsonLemmas.{shown, text_5}
 use Rattle.xa_diagnostics.proofs.json_checks.found_json.Goals as goal
 
 pub returns : goal.returns
 returns c =
-    let p = pieces_5 (codes "{\"file\":") (quoted c.args.path.now) (codes ",\"ok\":") (is_well c.args.found.now) (codes ",\"kind\":\"")
-    (kind_name c.args.kind) (codes "\",\"faults\":") (array (map fault_json c.args.found.now)) (codes ",\"warnings\":")
-    (array (items_in Line (lines c.args.warnings.now))) (codes "}\n") in
-    cc (
-      c.in_ok-format.ensures.ok,
-      c.in_ok-path.ensures,
-      c.well-is_well.ensures,
-      c.name-kind.ensures,
-      c.in_ok-faults.ensures,
-      c.in_ok-faults-2.ensures,
-      c.as_slice.ensures.value,
-      c.in_ok-lines.ensures,
-      c.as_slice-2.ensures.value,
-      c.in_ok-warned.ensures,
-    )
+    let all = lines c.args.warnings.now in
+    text_5 (codes "{\"file\":") (codes ",\"ok\":") (codes ",\"kind\":\"") (codes "\",\"faults\":") (codes ",\"warnings\":") (codes "}\n")
+    c.in_ok-path.ensures
+    c.well-is_well.ensures
+    c.name-kind.ensures
+    (c.in_ok-faults-2.ensures ∙ ap array (ap (map string_bytes) c.as_slice.ensures.value ∙ c.in_ok-faults.ensures))
+    (c.in_ok-warned.ensures
+    ∙ ap (λ (ls : List (List ℕ)). array (items_in Line ls))
+    (shown (λ line. line.now) c.as_slice-2.result.now c.in_ok-lines.lines.items all c.as_slice-2.ensures.value c.in_ok-lines.ensures))
+    c.in_ok-format.ensures.ok
