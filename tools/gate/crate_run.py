@@ -62,22 +62,22 @@ class CrateRun:
         if not anew:
             self.kept.take(self.left())
 
-    def run(self, room, whole):
+    def run(self, room, whole, is_known):
         """Tries those that are left, and says what each came to."""
         left = self.left()
         if left:
-            self.try_left(left, room, whole)
+            self.try_left(left, room, whole, is_known)
             self.kept.keep(left)
         for it in self.edits:
             self.say(f"{self.crate.name}/{it.name}: {it.kind}: {it.why}")
 
-    def try_left(self, left, room, whole):
+    def try_left(self, left, room, whole, is_known):
         lacking = [it.name for it in self.crate.below() if not os.path.isdir(it.rlib)]
         if lacking:
             for it in left:
                 give(it, UNSURE, f"the library {lacking[0]} isn't built")
             return
-        begun, prover = time.time(), Prover(self.kit, self.crate, room)
+        begun, prover = time.time(), Prover(self.kit, self.crate, room, is_known)
         said = prover.prove(left, whole)
         begins = prover.seconds
         if said:

@@ -41,8 +41,15 @@ class Function:
         of = "".join(plain) if self.owner else "::".join(self.modules[-1:])
         return f"{of}::{self.name}".removeprefix("::")
 
-    def symbol(self, symbols):
-        """Its whole name among those that a check printed, or None if that isn't sure."""
+    def path(self):
+        """Its path below the crate, as far as the text of its file tells that."""
+        of = self.modules[:-1] if self.modules and not self.owner else self.modules
+        return "::".join([*of, self.guess()])
+
+    def symbol(self, crate, symbols):
+        """Its whole name among those that a check printed, or None if that isn't sure. If none was made, by its path."""
+        if symbols is None:
+            return f"{crate}::{self.path()}"
         found = [it for it in symbols if f"::{it}".endswith(f"::{self.guess()}")]
         if len(found) > 1:
             path = "::".join([*self.modules, ""])

@@ -96,9 +96,11 @@ class Runner:
             print(f"check: {text}", flush=True)
 
     def shown(self, part):
-        """Runs a part whose lines are shown as they come."""
+        """Runs a part whose lines are shown as they come, and returns whether all of it passed."""
         self.say(f"{part.name} begins")
+        failed = self.failed
         self.run(part, shows=True)
+        return self.failed == failed
 
     def run(self, part, shows=False):
         """Runs a part, and shows what it printed once it has failed, or as it comes."""

@@ -39,7 +39,7 @@ def try_all(edits, prover, whole):
 
 def try_together(edits, prover):
     """Tries edits of different functions in one check of these, and returns those that are to be tried alone."""
-    asked = {it: it.function.symbol(prover.symbols) for it in edits}
+    asked = {it: it.function.symbol(prover.crate.name, prover.symbols) for it in edits}
     unknown = [it for it in edits if asked[it] is None]
     edits = [it for it in edits if asked[it]]
     if not edits:
