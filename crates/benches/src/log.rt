@@ -159,21 +159,19 @@ fn read<L: DecisionLog>(rt: &HostRuntime, log: &mut L) -> anyhow::Result<()> {
         println!(rt; "decision {} {}", g.incarnation, g.sequence)?;
     }
     for b in &rows.participants {
-        println!(rt;
-            "participant {} {} {} {}",
-            b.gtrid.incarnation, b.gtrid.sequence, b.thread, b.rm
-        )?;
+        let branch = branch_text(rt, *b)?;
+        println!(rt; "participant {branch}")?;
     }
     for (b, how) in &rows.heuristics {
-        println!(rt;
-            "heuristic {} {} {} {} {}",
-            b.gtrid.incarnation,
-            b.gtrid.sequence,
-            b.thread,
-            b.rm,
-            how.number()
-        )?;
+        let branch = branch_text(rt, *b)?;
+        println!(rt; "heuristic {branch} {}", how.number())?;
     }
     println!(rt; "incarnation {}", log.bump()?)?;
     Ok(())
+}
+
+/// The numbers of a branch.
+fn branch_text(rt: &HostRuntime, b: Branch) -> anyhow::Result<String> {
+    let Branch { gtrid, thread, rm } = b;
+    Ok(format!(in rt.alloc(); "{} {} {thread} {rm}", gtrid.incarnation, gtrid.sequence)?)
 }
