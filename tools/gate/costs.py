@@ -6,9 +6,8 @@ from .crates import CACHE, crates_of
 from .edits import edits_of
 from .machine import BYTES_A_JOB, jobs_for, processors
 
-# Minutes of one processor, from nothing: of the quick part, of all proofs of rt ci with the tests, of the checks that the edits
-# begin with, and of an edit.
-QUICK, PROOFS, SEEDS, EDIT = 12, 190, 85, 8 / 60
+# Minutes of one processor, from nothing: of the quick part, of all proofs of rt ci with the tests, and of an edit.
+QUICK, PROOFS, EDIT = 12, 190, 12 / 60
 # Minutes that building, the tests and the programs take, whatever is kept.
 PROGRAMS = 5
 
@@ -27,7 +26,6 @@ class Costs:
         left = [it for it in self.crates if not os.path.isfile(f"{CACHE}/passed/{self.sums[it]}")]
         edits = {it: len(edits_of(it)[0]) for it in left}
         parts = [self.part(left, self.crates) * PROOFS, sum(edits.values()) * EDIT]
-        parts.append(self.part([it for it in left if edits[it]], [it for it in self.crates if edits_of(it)[0]]) * SEEDS)
         minutes = (QUICK + sum(parts)) / jobs_for(BYTES_A_JOB) + PROGRAMS
         kept = f"of {len(self.crates)} crates {len(self.crates) - len(left)} have passed here as they are"
         return f"the quick part is done, and then the whole gate: about {self.rounded(minutes)}, {self.on()}; {kept}"

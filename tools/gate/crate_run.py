@@ -8,7 +8,7 @@ import tempfile
 import time
 
 from .crates import CACHE, text_of
-from .edits import edits_of
+from .edits import edits_of, rounds
 from .prover import Prover
 from .reports import first_words
 from .verdicts import BAD, REFUSED, UNSURE, give, try_all
@@ -67,7 +67,6 @@ class CrateRun:
         left = self.left()
         if left:
             self.try_left(left, room, whole, is_known)
-            self.kept.keep(left)
         for it in self.edits:
             self.say(f"{self.crate.name}/{it.name}: {it.kind}: {it.why}")
 
@@ -84,7 +83,11 @@ class CrateRun:
             for it in left:
                 give(it, UNSURE, f"the crate as it stands isn't proved: {first_words(said.text)}")
             return
-        try_all(left, prover, whole)
+        together, alone = ([], left) if whole else rounds(left)
+        # Each part is kept as soon as it is known, so that a run that is ended has kept what it tried.
+        for part in [*together, *([it] for it in alone)]:
+            try_all(part, prover, whole)
+            self.kept.keep(part)
         self.say(
             f"{self.crate.name}: {len(left)} edits, {prover.checks} checks, {prover.seconds:.0f} processor seconds, {begins:.0f} of"
             f" them for the crate as it stands; {time.time() - begun:.0f} seconds; up to {prover.bytes / 1e9:.1f} GB"

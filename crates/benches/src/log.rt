@@ -3,7 +3,7 @@
 ghost use Rattle.std.specs.Prelude.{◌≡◌, ◌≤◌};
 ghost use Rattle.xa_log.specs.Contract.{FitsRow};
 
-use sqlite::{Alter, FileStore};
+use sqlite::FileStore;
 use sqlite_disk::Disk;
 use std::time::Instant;
 use xa_base::{Branch, Gtrid, How};
@@ -62,11 +62,11 @@ fn work_in_files<D: Disk + Drop>(
     work_over(rt, "in a file", log, work)
 }
 
-/// Works over a log in any store.
-fn work_over<S: Alter + Drop>(
+/// Works over a log of any kind.
+fn work_over<L: DecisionLog + Drop>(
     rt: &HostRuntime,
     place: &str,
-    mut log: SqlLog<S>,
+    mut log: L,
     work: Work,
 ) -> anyhow::Result<()> {
     match work {
@@ -159,21 +159,19 @@ fn read<L: DecisionLog>(rt: &HostRuntime, log: &mut L) -> anyhow::Result<()> {
         println!(rt; "decision {} {}", g.incarnation, g.sequence)?;
     }
     for b in &rows.participants {
-        println!(rt;
-            "participant {} {} {} {}",
-            b.gtrid.incarnation, b.gtrid.sequence, b.thread, b.rm
-        )?;
+        let branch = branch_text(rt, *b)?;
+        println!(rt; "participant {branch}")?;
     }
     for (b, how) in &rows.heuristics {
-        println!(rt;
-            "heuristic {} {} {} {} {}",
-            b.gtrid.incarnation,
-            b.gtrid.sequence,
-            b.thread,
-            b.rm,
-            how.number()
-        )?;
+        let branch = branch_text(rt, *b)?;
+        println!(rt; "heuristic {branch} {}", how.number())?;
     }
     println!(rt; "incarnation {}", log.bump()?)?;
     Ok(())
+}
+
+/// The numbers of a branch.
+fn branch_text(rt: &HostRuntime, b: Branch) -> anyhow::Result<String> {
+    let Branch { gtrid, thread, rm } = b;
+    Ok(format!(in rt.alloc(); "{} {} {thread} {rm}", gtrid.incarnation, gtrid.sequence)?)
 }

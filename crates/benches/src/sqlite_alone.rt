@@ -5,6 +5,33 @@ use sqlite::{Alter, Connection, Error, ErrorCode, FileStore, Transaction, params
 use sqlite_disk::Disk;
 use std::time::Instant;
 
+/// A database in which decisions are committed. What works over it names no store, and so is proved once for all.
+trait Database: Drop {
+    fn create_tables(&mut self) -> Result<(), Error>;
+
+    /// Commits so many decisions in one transaction, from the first on.
+    fn commit(&mut self, first: i64, decisions: i64) -> Result<(), Error>;
+}
+
+impl<S: Alter + Drop> Database for Connection<S> {
+    fn create_tables(&mut self) -> Result<(), Error> {
+        self.execute(CREATE_DECISION, &[])?;
+        self.execute(CREATE_PARTICIPANT, &[])?;
+        Ok(())
+    }
+
+    fn commit(&mut self, first: i64, decisions: i64) -> Result<(), Error> {
+        if !self.is_autocommit() {
+            return Err(Error::SqliteFailure(ErrorCode::TransactionState));
+        }
+        let mut transaction = self.transaction();
+        for at in 0..decisions {
+            decide(&mut transaction, first.saturating_add(at))?;
+        }
+        transaction.commit()
+    }
+}
+
 /// So many transactions, of so many decisions each.
 #[derive(Clone, Copy)]
 struct Load {
@@ -88,8 +115,7 @@ pub(crate) fn run(
                 Some(word) => word.parse::<i64>()?,
                 None => 1,
             };
-            let conn = Connection::open(rt, path)?;
-            close(work_in_files(rt, conn, Work::Whole(decisions))?)
+            work_at(rt, path, Work::Whole(decisions))
         }
         (Some("time"), Some(path)) => {
             work_in_memory(rt, Work::Time)?;
@@ -102,75 +128,69 @@ pub(crate) fn run(
 }
 
 fn work_in_memory(rt: &HostRuntime, work: Work) -> anyhow::Result<()> {
-    let _conn = work_over(
-        rt,
-        "in memory",
-        Connection::open_in_memory(rt.alloc())?,
-        work,
-    )?;
+    let conn = Connection::open_in_memory(rt.alloc())?;
+    let _conn = work_over(rt, "in memory", conn, work)?;
     Ok(())
 }
 
 /// Works over the new file at a path.
 fn work_at(rt: &HostRuntime, path: &str, work: Work) -> anyhow::Result<()> {
-    let _conn = work_in_files(rt, Connection::open(rt, path)?, work)?;
-    Ok(())
+    work_in_files(rt, Connection::open(rt, path)?, work)
 }
 
-/// Works over files of any kind: a proof at one kind of file takes several times as long.
+/// Works over files of any kind: a proof at one kind of file takes several times as long. A whole database is closed behind it: the
+/// journal is copied into the file.
 fn work_in_files<D: Disk + Drop>(
     rt: &HostRuntime,
     conn: Connection<FileStore<D>>,
     work: Work,
-) -> anyhow::Result<Connection<FileStore<D>>> {
-    work_over(rt, "in a file", conn, work)
-}
-
-/// Copies the journal into the file, and closes both.
-fn close<D: Disk + Drop>(conn: Connection<FileStore<D>>) -> anyhow::Result<()> {
-    conn.close()?;
+) -> anyhow::Result<()> {
+    let conn = work_over(rt, "in a file", conn, work)?;
+    if let Work::Whole(_) = work {
+        conn.close()?;
+    }
     Ok(())
 }
 
-/// Works over a database without tables, in any store, and gives it back.
-fn work_over<S: Alter + Drop>(
+/// Works over a database without tables, and gives it back.
+fn work_over<B: Database>(
     rt: &HostRuntime,
     place: &str,
-    mut conn: Connection<S>,
+    mut base: B,
     work: Work,
-) -> anyhow::Result<Connection<S>> {
-    create_tables(&mut conn)?;
+) -> anyhow::Result<B> {
+    base.create_tables()?;
     match work {
         Work::Count => {
-            commit_all(&mut conn, 0, COUNTED)?;
+            commit_all(&mut base, 0, COUNTED)?;
             println!(rt;
                 "{} commits of the crate sqlite alone",
                 COUNTED.transactions
             )?;
         }
         Work::Time => {
-            let commits = rate(rt, &mut conn, 0, TIMED)?;
+            let commits = rate(rt, &mut base, 0, TIMED)?;
             println!(rt; "{commits} commits a second {place}")?;
         }
-        Work::Group => show_groups(rt, &mut conn)?,
+        Work::Group => show_groups(rt, &mut base)?,
         Work::Whole(decisions) => {
             let transactions = WHOLE.checked_div(decisions).unwrap_or(0);
             let load = Load {
                 transactions,
                 decisions,
             };
-            commit_all(&mut conn, 0, load)?;
+            commit_all(&mut base, 0, load)?;
             println!(rt; "{} decisions {place}", load.total())?;
         }
     }
-    Ok(conn)
+    Ok(base)
 }
 
 /// Prints how many decisions a second there are for each size of a transaction.
-fn show_groups<S: Alter>(rt: &HostRuntime, conn: &mut Connection<S>) -> anyhow::Result<()> {
+fn show_groups<B: Database>(rt: &HostRuntime, base: &mut B) -> anyhow::Result<()> {
     let mut first = 0i64;
     for load in GROUPED {
-        let decisions = rate(rt, conn, first, load)?;
+        let decisions = rate(rt, base, first, load)?;
         println!(rt;
             "{decisions} decisions a second, {} a transaction",
             load.decisions
@@ -180,45 +200,27 @@ fn show_groups<S: Alter>(rt: &HostRuntime, conn: &mut Connection<S>) -> anyhow::
     Ok(())
 }
 
-fn create_tables<S: Alter>(conn: &mut Connection<S>) -> Result<(), Error> {
-    conn.execute(CREATE_DECISION, &[])?;
-    conn.execute(CREATE_PARTICIPANT, &[])?;
-    Ok(())
-}
-
 /// How many decisions a second are committed.
-fn rate<S: Alter>(
+fn rate<B: Database>(
     rt: &HostRuntime,
-    conn: &mut Connection<S>,
+    base: &mut B,
     first: i64,
     load: Load,
 ) -> anyhow::Result<u128> {
     let start = Instant::now(rt)?;
-    commit_all(conn, first, load)?;
+    commit_all(base, first, load)?;
     let micros = start.elapsed(rt)?.as_micros();
     let decisions = u128::from(load.total().unsigned_abs());
     Ok(decisions.saturating_mul(1_000_000) / micros.max(1))
 }
 
 /// Commits the decisions from the first on.
-fn commit_all<S: Alter>(conn: &mut Connection<S>, first: i64, load: Load) -> Result<(), Error> {
+fn commit_all<B: Database>(base: &mut B, first: i64, load: Load) -> Result<(), Error> {
     for transaction in 0..load.transactions {
         let before = transaction.saturating_mul(load.decisions);
-        commit(conn, first.saturating_add(before), load.decisions)?;
+        base.commit(first.saturating_add(before), load.decisions)?;
     }
     Ok(())
-}
-
-/// Commits so many decisions in one transaction.
-fn commit<S: Alter>(conn: &mut Connection<S>, first: i64, decisions: i64) -> Result<(), Error> {
-    if !conn.is_autocommit() {
-        return Err(Error::SqliteFailure(ErrorCode::TransactionState));
-    }
-    let mut transaction = conn.transaction();
-    for at in 0..decisions {
-        decide(&mut transaction, first.saturating_add(at))?;
-    }
-    transaction.commit()
 }
 
 /// Writes the three rows of a decision with two participants.

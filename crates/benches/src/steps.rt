@@ -60,29 +60,50 @@ fn measured_in_rounds(rt: &HostRuntime, beside: u32, rounds: u32) -> anyhow::Res
     Ok(all)
 }
 
-/// Commits transactions in a new system, beside so many that are started.
-fn measured(rt: &HostRuntime, beside: u32) -> anyhow::Result<Run> {
-    let alloc = rt.alloc();
+/// A new system with so many transactions that are started.
+fn started(alloc: Global, count: u32) -> anyhow::Result<MemSystem> {
     let mut system = opened(alloc)?;
-    for _ in 0..beside {
+    for _ in 0..count {
         let _gtrid = start(&mut system)?;
     }
-    let before = system.trace().len();
-    let begun = Instant::now(rt)?;
+    Ok(system)
+}
+
+/// Commits as many transactions as are measured.
+fn commit_measured(system: &mut MemSystem) -> anyhow::Result<()> {
     for _ in 0..MEASURED {
-        let gtrid = start(&mut system)?;
-        commit(&mut system, gtrid);
+        let gtrid = start(system)?;
+        commit(system, gtrid);
     }
+    Ok(())
+}
+
+fn events_of(system: &MemSystem) -> usize {
+    system.trace().len()
+}
+
+/// How many branches are committed.
+fn committed_of(alloc: Global, system: &MemSystem) -> anyhow::Result<usize> {
+    let mut count = 0usize;
+    for (_, fate) in &system.report(alloc)? {
+        if *fate == Fate::Committed {
+            count = count.saturating_add(1);
+        }
+    }
+    Ok(count)
+}
+
+/// Commits transactions in a new system, beside so many that are started.
+fn measured(rt: &HostRuntime, beside: u32) -> anyhow::Result<Run> {
+    let mut system = started(rt.alloc(), beside)?;
+    let before = events_of(&system);
+    let begun = Instant::now(rt)?;
+    commit_measured(&mut system)?;
     let micros = begun.elapsed(rt)?.as_micros();
-    let events = system.trace().len();
-    let committed = system
-        .report(alloc)?
-        .iter()
-        .filter(|(_, fate)| *fate == Fate::Committed)
-        .count();
+    let events = events_of(&system);
     Ok(Run {
         events,
-        committed,
+        committed: committed_of(rt.alloc(), &system)?,
         steps: events.saturating_sub(before),
         micros,
     })

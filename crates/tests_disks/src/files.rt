@@ -40,11 +40,6 @@ fn perform_in<D: Disk + Drop>(alloc: Global, files: Files<D>, task: Task<'_>) ->
     }
 }
 
-/// The files of a log as they stand, with no copy of the journal into the database file.
-pub fn files_of<D: Disk + Drop>(log: SqlLog<FileStore<D>>) -> Files<D> {
-    log.into_connection().into_store().close()
-}
-
 /// The files once these statements have run. It is an `Err` where they don't open, or a statement is refused.
 pub fn files_after<D: Disk + Drop>(
     alloc: Global,

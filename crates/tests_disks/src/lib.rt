@@ -14,8 +14,10 @@ mod task;
 
 pub use disks::{Stops, StopsAfter, blank, stopping};
 pub use files::{
-    crash_after, crashed, files_after, files_of, log_over, look_in, run_in, run_without_decisions,
+    crash_after, crashed, files_after, log_over, look_in, run_in, run_without_decisions,
 };
-pub use paths::{bump_at, gather_at, look_at, make_folder, opens_at, run_at, seen_at};
+pub use paths::{
+    OverLog, bump_at, gather_at, look_at, make_folder, opens_at, run_at, seen_at, work_at,
+};
 pub use seen::{BLANK, EMPTY, MIGRATED, OLD, Seen, VERSION_1, look};
 pub use task::{Change, Reached};

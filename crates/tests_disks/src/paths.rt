@@ -3,61 +3,102 @@
 use crate::files::perform_over;
 use crate::seen::Seen;
 use crate::task::{Done, Task};
-use sqlite::{Alter, Connection, FileStore};
+use sqlite::{Connection, FileStore};
 use sqlite_disk::Disk;
 use std::{fs, io};
 use xa_log::{DecisionLog, LogFault};
 use xa_sql_log::SqlLog;
 
-/// What is done with a log that is open.
-#[derive(Clone, Copy)]
-enum Use {
-    /// Nothing: it is let go.
-    Nothing,
-    Bump,
+/// What is done with a log that is open. As it names no store, it is proved once for all logs.
+pub trait OverLog {
+    /// Does it, and keeps what that comes to.
+    fn over<L: DecisionLog + Drop>(&mut self, log: L) -> Result<(), LogFault>;
 }
 
-/// What it comes to: the number that `bump` answers, or 0.
-fn used<S: Alter + Drop>(mut log: SqlLog<S>, what: Use) -> Result<u64, LogFault> {
-    match what {
-        Use::Nothing => Ok(0),
-        Use::Bump => log.bump(),
+/// The log is let go.
+#[derive(Drop)]
+struct Nothing;
+
+impl OverLog for Nothing {
+    fn over<L: DecisionLog + Drop>(&mut self, _log: L) -> Result<(), LogFault> {
+        Ok(())
     }
 }
 
-fn used_in_files<D: Disk + Drop>(log: SqlLog<FileStore<D>>, what: Use) -> Result<u64, LogFault> {
-    used(log, what)
+/// Its incarnation is raised, and kept here.
+#[derive(Drop)]
+struct Bumped(u64);
+
+impl OverLog for Bumped {
+    fn over<L: DecisionLog + Drop>(&mut self, mut log: L) -> Result<(), LogFault> {
+        self.0 = log.bump()?;
+        Ok(())
+    }
 }
 
-fn closed<D: Disk + Drop>(log: Result<SqlLog<FileStore<D>>, LogFault>) -> Result<(), LogFault> {
-    log?.close()
+/// How the log at a path is used.
+#[derive(Clone, Copy)]
+enum Use {
+    /// It is opened, or made, and handed over.
+    HandOver,
+    /// It is opened, or made, and closed into one file.
+    Close,
+    /// It is looked at, and closed into one file.
+    Look,
 }
 
-/// Opens the log at a path, or makes it, and lets it go. Tells whether it did.
-pub fn opens_at(rt: &HostRuntime, path: &str) -> bool {
-    use_at(rt, path, Use::Nothing).is_ok()
+fn use_log<D: Disk + Drop, W: OverLog>(
+    log: SqlLog<FileStore<D>>,
+    way: Use,
+    work: &mut W,
+) -> Result<(), LogFault> {
+    match way {
+        Use::HandOver => work.over(log),
+        Use::Close | Use::Look => log.close(),
+    }
 }
 
-/// What the log at a path answers to `bump`. It is made where there is none, and not closed.
-pub fn bump_at(rt: &HostRuntime, path: &str) -> Result<u64, LogFault> {
-    use_at(rt, path, Use::Bump)
-}
-
-fn use_at(rt: &HostRuntime, path: &str, what: Use) -> Result<u64, LogFault> {
-    match SqlLog::open(rt, path) {
-        Ok(log) => used_in_files(log, what),
+fn use_at<W: OverLog>(
+    rt: &HostRuntime,
+    path: &str,
+    way: Use,
+    work: &mut W,
+) -> Result<(), LogFault> {
+    let log = match way {
+        Use::HandOver | Use::Close => SqlLog::open(rt, path),
+        Use::Look => SqlLog::look(rt, path),
+    };
+    match log {
+        Ok(log) => use_log(log, way, work),
         Err(fault) => Err(fault),
     }
 }
 
+/// Opens the log at a path, or makes it, and hands it over.
+pub fn work_at<W: OverLog>(rt: &HostRuntime, path: &str, work: &mut W) -> Result<(), LogFault> {
+    use_at(rt, path, Use::HandOver, work)
+}
+
+/// Opens the log at a path, or makes it, and lets it go. Tells whether it did.
+pub fn opens_at(rt: &HostRuntime, path: &str) -> bool {
+    work_at(rt, path, &mut Nothing).is_ok()
+}
+
+/// What the log at a path answers to `bump`. It is made where there is none, and not closed.
+pub fn bump_at(rt: &HostRuntime, path: &str) -> Result<u64, LogFault> {
+    let mut bumped = Bumped(0);
+    work_at(rt, path, &mut bumped)?;
+    Ok(bumped.0)
+}
+
 /// Opens the log at a path, or makes it, and closes it into one file.
 pub fn gather_at(rt: &HostRuntime, path: &str) -> Result<(), LogFault> {
-    closed(SqlLog::open(rt, path))
+    use_at(rt, path, Use::Close, &mut Nothing)
 }
 
 /// Looks at the log at a path, and closes it into one file.
 pub fn look_at(rt: &HostRuntime, path: &str) -> Result<(), LogFault> {
-    closed(SqlLog::look(rt, path))
+    use_at(rt, path, Use::Look, &mut Nothing)
 }
 
 /// What a task comes to over the database at a path, which is made where there is none.

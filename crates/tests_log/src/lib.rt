@@ -1,6 +1,7 @@
-//! Tests of the decision logs, of what no clause says: rows of each of them, in which a call that is refused memory once is
-//! made again; and of the one in files over disks in memory that stop, where at each call of either file a crash leaves what was
-//! there before or all that the one change makes.
+//! Tests of the decision logs, and of systems over them, of what no clause says: rows of each log, in which a call that is refused
+//! memory once is made again; and the one in files over disks in memory that stop, where at each call of either file a crash leaves
+//! what was there before or all that the one change makes: under a log alone, under whole systems, and under ten processes of the
+//! manager one after another with steps by chance.
 #![tactic(auto)]
 
 #[cfg(test)]
@@ -8,13 +9,15 @@ mod commands;
 #[cfg(test)]
 mod failing;
 #[cfg(test)]
-mod labels;
-#[cfg(test)]
 mod lists;
 #[cfg(test)]
 mod memory;
 #[cfg(test)]
-mod paths;
+mod over_files;
+#[cfg(test)]
+mod processes;
+#[cfg(test)]
+mod rows;
 #[cfg(test)]
 mod stops;
 #[cfg(test)]

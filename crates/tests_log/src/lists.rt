@@ -7,7 +7,7 @@ ghost use Rattle.xa_log.specs.Contract.{FitsRow};
 use crate::commands::{
     FIRST, FIRST_A, FIRST_B, SECOND, SECOND_A, THIRD, commit, contains, rows, was_refused,
 };
-use crate::tables::new_log;
+use crate::over_files::{Crashes, OverLog, over_new_log};
 use std::alloc::Global;
 use std::process::Abort;
 use std::test::Fail;
@@ -116,9 +116,19 @@ fn a_log_in_memory_writes_lists(rt: HostRuntime) -> Result<(), Fail> {
     write_lists(&rt, &mut MemLog::new(rt.alloc()), rt.alloc())
 }
 
+/// Lists are written at an empty log.
+#[derive(Drop)]
+struct Lists;
+
+impl OverLog for Lists {
+    fn over<L: Crashes>(&mut self, rt: &impl Abort, alloc: Global, mut log: L) -> Result<(), Fail> {
+        write_lists(rt, &mut log, alloc)
+    }
+}
+
 #[test]
 fn a_log_in_tables_writes_lists(rt: HostRuntime) -> Result<(), Fail> {
-    write_lists(&rt, &mut new_log(rt.alloc())?, rt.alloc())
+    over_new_log(&rt, rt.alloc(), &mut Lists)
 }
 
 #[test]

@@ -3,8 +3,6 @@
 #![tactic(auto)]
 
 #[cfg(test)]
-mod again;
-#[cfg(test)]
 mod early;
 #[cfg(test)]
 mod explained;
@@ -12,8 +10,6 @@ mod explained;
 mod failing;
 #[cfg(test)]
 mod logs;
-#[cfg(test)]
-mod processes;
 #[cfg(test)]
 mod refused_files;
 #[cfg(test)]

@@ -107,7 +107,7 @@ const FATES: &str = "\
 ";
 
 /// What a run of a text over a log prints, or its fault.
-pub(crate) fn run_over<L: DecisionLog + Drop>(
+fn run_over<L: DecisionLog + Drop>(
     alloc: Global,
     text: &str,
     log: L,

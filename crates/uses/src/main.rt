@@ -1,9 +1,13 @@
 //! Callers of the libraries, each proved to do what its contract says, and run here. A file is named after its
 //! library, without the `xa_`; `serve` and `managers` are callers of `xa_coordinator`, `own_log`, `processes`,
 //! `recovery`, `swaps` and `crash` are further callers of `xa_system`, and `sql_jobs` of `xa_workers`.
+//!
+//! What is shown of a caller is made by a function of its own, which has no clause: a proof that carries the clauses of several takes
+//! many times as long.
 #![tactic(auto)]
 
 ghost use Rattle.std.specs.Prelude.{IsTrue};
+ghost use Rattle.xa_workers.specs.Jobs.{IsRunnable};
 
 mod base;
 mod crash;
@@ -27,6 +31,8 @@ mod system;
 mod tm;
 mod workers;
 
+use crate::processes::NextFault;
+use crate::serve::SessionFault;
 use sqlite::Files;
 use sqlite_disk::{Disk, Memory};
 use std::alloc::{AllocError, Global};
@@ -38,6 +44,7 @@ use xa_log::MemLog;
 use xa_names::ManagerName;
 use xa_rm::MemRm;
 use xa_system::System;
+use xa_workers::{Jobs, WorkFault};
 
 /// A branch of the first transaction.
 const BRANCH: Branch = Branch {
@@ -227,14 +234,20 @@ fn events_and_fate(alloc: Global) -> anyhow::Result<(usize, Fate)> {
     Ok((system.trace().len(), system.fate(&BRANCH.xid())))
 }
 
-/// What a system over a log of its own comes to: its manager crashes, its log is taken out and given back, and a recovery
-/// follows.
-fn show_own_log(rt: &HostRuntime) -> anyhow::Result<()> {
-    let alloc = rt.alloc();
+/// A system over a log of its own, whose manager has crashed.
+fn crashed_system(alloc: Global) -> anyhow::Result<System<MemRm, MemLog>> {
     let steps = [Step::Begin { thread: 0 }, Step::Crash(Part::Manager)];
-    let mut system = own_log::run_in_memory(alloc, &steps)??;
-    let is_back = swaps::give_back(&mut system).is_ok();
-    let restart = [
+    Ok(own_log::run_in_memory(alloc, &steps)??)
+}
+
+/// Its log is taken out and given back.
+fn is_given_back(system: &mut System<MemRm, MemLog>) -> bool {
+    swaps::give_back(system).is_ok()
+}
+
+/// The manager starts again, and opens a line.
+fn restart_and_open(system: &mut System<MemRm, MemLog>) {
+    let steps = [
         Step::Restart(Side::Manager),
         Step::Issue {
             thread: 0,
@@ -244,7 +257,11 @@ fn show_own_log(rt: &HostRuntime) -> anyhow::Result<()> {
         Step::Take { thread: 0, rm: 0 },
         Step::Hear { thread: 0, rm: 0 },
     ];
-    let _restarted = system.run(&restart);
+    let _restarted = system.run(&steps);
+}
+
+/// A recovery.
+fn is_recovered(system: &mut System<MemRm, MemLog>) -> bool {
     let scan = [
         Step::Recover {
             rm: 0,
@@ -256,21 +273,38 @@ fn show_own_log(rt: &HostRuntime) -> anyhow::Result<()> {
         Step::Hear { thread: 0, rm: 0 },
         Step::Resolve { rm: 0 },
     ];
-    let is_run = recovery::recover(&mut system, &scan).is_ok();
+    recovery::recover(system, &scan).is_ok()
+}
+
+/// What a system over a log of its own comes to: its manager crashes, its log is taken out and given back, and a recovery
+/// follows.
+fn show_own_log(rt: &HostRuntime) -> anyhow::Result<()> {
+    let mut system = crashed_system(rt.alloc())?;
+    let is_back = is_given_back(&mut system);
+    restart_and_open(&mut system);
+    let is_run = is_recovered(&mut system);
     let events = system.trace().len();
     println!(rt; "xa_system, its own log: {events} events, {is_back}, {is_run}")?;
     Ok(())
 }
 
-/// Whether the manager comes up over what a crash left of its log, and over what a crash of that log's store left.
-fn show_crashes(rt: &HostRuntime) -> anyhow::Result<()> {
-    let alloc = rt.alloc();
+/// Whether the manager comes up over what a crash left of its log.
+fn is_up_after_crash(alloc: Global) -> bool {
     let restarted = swaps::restart_in_memory(alloc);
-    let is_up = matches!(&restarted, Some((Ok(Reply::Restarted { .. }), _)));
-    println!(rt; "xa_system, what a crash left: {is_up}")?;
+    matches!(&restarted, Some((Ok(Reply::Restarted { .. }), _)))
+}
+
+/// Whether it comes up over what a crash of its log's store left.
+fn is_up_after_crash_of_store(alloc: Global) -> anyhow::Result<bool> {
     let steps = [Step::Begin { thread: 0 }, Step::Crash(Part::Manager)];
     let (restarted, _system) = crash::restart_in_memory(alloc, &steps)?;
-    let is_up = matches!(&restarted, Ok(Ok(Reply::Restarted { .. })));
+    Ok(matches!(&restarted, Ok(Ok(Reply::Restarted { .. }))))
+}
+
+fn show_crashes(rt: &HostRuntime) -> anyhow::Result<()> {
+    let is_up = is_up_after_crash(rt.alloc());
+    println!(rt; "xa_system, what a crash left: {is_up}")?;
+    let is_up = is_up_after_crash_of_store(rt.alloc())?;
     println!(rt; "xa_system, what a crash of the log's store left: {is_up}")?;
     Ok(())
 }
@@ -321,30 +355,85 @@ fn recover_one(alloc: Global) -> Result<Vec<Step>, AllocError> {
     Ok(steps)
 }
 
+/// What becomes of the branch in processes, one for each list of steps.
+fn fate_in_processes(
+    alloc: Global,
+    first: &[Step],
+    later: &[Vec<Step>],
+) -> Result<Fate, NextFault> {
+    let system = processes::processes(alloc, first, later)?;
+    Ok(system.fate(&BRANCH.xid()))
+}
+
+/// And where the next process recovers what the first one left.
+fn fate_recovered(alloc: Global, first: &[Step], steps: &[Step]) -> Result<Fate, NextFault> {
+    let left = processes::processes(alloc, first, &[])?;
+    let Ok(remains) = left.into_parts() else {
+        return Err(NextFault::Memory);
+    };
+    let system = processes::recover_next(alloc, 1, remains, steps)?;
+    Ok(system.fate(&BRANCH.xid()))
+}
+
+fn fate_in_two(alloc: Global, first: &[Step], second: &[Step]) -> Result<Fate, NextFault> {
+    let system = processes::two_processes(alloc, first, second)?;
+    Ok(system.fate(&BRANCH.xid()))
+}
+
 /// What becomes of a branch that a process leaves prepared: the next one commits it, and the one after finds nothing in
 /// doubt.
 fn show_processes(rt: &HostRuntime) -> anyhow::Result<()> {
     let alloc = rt.alloc();
-    let xid = BRANCH.xid();
     let first = decide_first(alloc)?;
+    let second = recover_one(alloc)?;
+    if let Ok(fate) = fate_in_processes(alloc, &first, &[]) {
+        println!(rt; "xa_system, the first process: {fate:?}")?;
+    }
+    if let Ok(fate) = fate_recovered(alloc, &first, &second) {
+        println!(rt; "xa_system, its recovery: {fate:?}")?;
+    }
+    if let Ok(fate) = fate_in_two(alloc, &first, &second) {
+        println!(rt; "xa_system, two processes: {fate:?}")?;
+    }
     let mut later = Vec::new(alloc);
-    later.push(recover_one(alloc)?)?;
+    later.push(second)?;
     later.push(Vec::new(alloc))?;
-    if let Ok(left) = processes::processes(alloc, &first, &[]) {
-        println!(rt; "xa_system, the first process: {:?}", left.fate(&xid))?;
-        if let Ok(remains) = left.into_parts() {
-            if let Ok(system) = processes::recover_next(alloc, 1, remains, &later[0]) {
-                println!(rt; "xa_system, its recovery: {:?}", system.fate(&xid))?;
-            }
-        }
-    }
-    if let Ok(system) = processes::two_processes(alloc, &first, &later[0]) {
-        println!(rt; "xa_system, two processes: {:?}", system.fate(&xid))?;
-    }
-    if let Ok(system) = processes::processes(alloc, &first, &later) {
-        println!(rt; "xa_system, three processes: {:?}", system.fate(&xid))?;
+    if let Ok(fate) = fate_in_processes(alloc, &first, &later) {
+        println!(rt; "xa_system, three processes: {fate:?}")?;
     }
     Ok(())
+}
+
+/// How jobs end.
+fn ends_of_jobs<T: Threads + Wait + Clock + Sync>(
+    threads: &T,
+    alloc: Global,
+    jobs: &Jobs,
+) -> Result<Vec<Outcome>, WorkFault>
+    requires { IsRunnable jobs.now }
+{
+    workers::ends(threads, alloc, jobs)
+}
+
+/// The list of the log that they leave in memory.
+fn list_of_jobs<T: Threads + Wait + Clock + Sync>(
+    threads: &T,
+    alloc: Global,
+    jobs: &Jobs,
+) -> anyhow::Result<Vec<u8>>
+    requires { IsRunnable jobs.now }
+{
+    let mut done = workers::logged(threads, alloc, jobs)?;
+    Ok(listing::listed(&mut done.log, alloc)?)
+}
+
+/// What a jobs file prints, and the list of the log that it leaves.
+fn printed_and_listed<T: Threads + Wait + Clock + Sync>(
+    threads: &T,
+    alloc: Global,
+) -> anyhow::Result<(Vec<u8>, Vec<u8>)> {
+    let (printed, mut log) = jobs::printed_and_logged(threads, alloc, JOBS.as_bytes())?;
+    Ok((printed, listing::listed(&mut log, alloc)?))
 }
 
 /// What jobs come to, by their votes and as a file.
@@ -355,20 +444,16 @@ fn show_jobs<T: Threads + Wait + Clock + Sync>(
     let alloc = rt.alloc();
     let jobs = workers::two_jobs(alloc)?;
     if jobs.is_runnable() {
-        println!(rt; "xa_workers: {:?}", workers::ends(threads, alloc, &jobs)?)?;
-        let mut done = workers::logged(threads, alloc, &jobs)?;
-        let listed = listing::listed(&mut done.log, alloc)?;
+        println!(rt; "xa_workers: {:?}", ends_of_jobs(threads, alloc, &jobs)?)?;
+        let listed = list_of_jobs(threads, alloc, &jobs)?;
         println!(rt; "{}", String::from_utf8(listed)?)?;
-        let mut done = sql_jobs::logged_in_memory(threads, alloc, &jobs)?;
-        let listed = listing::listed(&mut done.log, alloc)?;
+        let listed = sql_jobs::listed_in_memory(threads, alloc, &jobs)?;
         println!(rt; "xa_workers, a database: {}", String::from_utf8(listed)?)?;
-        let mut done = sql_jobs::logged_in_files(threads, alloc, &jobs, new_files(alloc))?;
-        let listed = listing::listed(&mut done.log, alloc)?;
+        let listed = sql_jobs::listed_in_files(threads, alloc, &jobs, new_files(alloc))?;
         println!(rt; "xa_workers, in files: {}", String::from_utf8(listed)?)?;
     }
-    let (printed, mut log) = jobs::printed_and_logged(threads, alloc, JOBS.as_bytes())?;
+    let (printed, listed) = printed_and_listed(threads, alloc)?;
     println!(rt; "xa_jobs:\n{}", String::from_utf8(printed)?)?;
-    let listed = listing::listed(&mut log, alloc)?;
     println!(rt; "xa_jobs, the log: {}", String::from_utf8(listed)?)?;
     Ok(())
 }
@@ -385,33 +470,48 @@ fn show_scenario(rt: &HostRuntime) -> anyhow::Result<()> {
     Ok(())
 }
 
+/// What a driver of one thread and two databases is told in a session.
+fn session_told(alloc: Global) -> Result<Vec<u8>, SessionFault> {
+    serve::served(alloc, 1, 2, SESSION.as_bytes())
+}
+
+/// The log that a driver leaves that commits, as a list.
+fn commits_listed(alloc: Global) -> anyhow::Result<Option<Vec<u8>>> {
+    match serve::commits(alloc, MemLog::new(alloc), COMMITS.as_bytes()) {
+        Ok((_written, mut log)) => Ok(Some(listing::listed(&mut log, alloc)?)),
+        Err(_) => Ok(None),
+    }
+}
+
+/// What a driver that says nothing is told.
+fn silent_told(alloc: Global) -> Result<Vec<u8>, SessionFault> {
+    let (written, _log) = serve::silent(alloc, 1, 2, MemLog::new(alloc))?;
+    Ok(written)
+}
+
+/// What a driver that recovers is told.
+fn recovery_told(alloc: Global) -> Result<Vec<u8>, SessionFault> {
+    let (killed, recovers) = (KILLED.as_bytes(), RECOVERS.as_bytes());
+    let log = MemLog::new(alloc);
+    let (_first, second, _log) = serve::served_twice(alloc, 1, 2, log, killed, recovers)?;
+    Ok(second)
+}
+
 /// What a driver of one thread and two databases is told in a session; the log that one leaves; what one that recovers is told.
 fn show_session(rt: &HostRuntime) -> anyhow::Result<()> {
-    if let Ok(written) = serve::served(rt.alloc(), 1, 2, SESSION.as_bytes()) {
+    if let Ok(written) = session_told(rt.alloc()) {
         println!(rt; "xa_coordinator:\n{}", String::from_utf8(written)?)?;
     }
-    let log = MemLog::new(rt.alloc());
-    if let Ok((_written, mut log)) = serve::commits(rt.alloc(), log, COMMITS.as_bytes()) {
-        let listed = listing::listed(&mut log, rt.alloc())?;
+    if let Some(listed) = commits_listed(rt.alloc())? {
         println!(rt; "xa_coordinator, its log: {}", String::from_utf8(listed)?)?;
     }
-    let log = MemLog::new(rt.alloc());
-    if let Ok((written, _log)) = serve::silent(rt.alloc(), 1, 2, log) {
+    if let Ok(written) = silent_told(rt.alloc()) {
         println!(rt;
             "xa_coordinator, a driver that says nothing:\n{}",
             String::from_utf8(written)?
         )?;
     }
-    let log = MemLog::new(rt.alloc());
-    let (killed, recovers) = (KILLED.as_bytes(), RECOVERS.as_bytes());
-    if let Ok((_first, second, _log)) = serve::served_twice(
-        rt.alloc(),
-        1,
-        2,
-        log,
-        killed,
-        recovers,
-    ) {
+    if let Ok(second) = recovery_told(rt.alloc()) {
         println!(rt; "xa_coordinator, recovery:\n{}", String::from_utf8(second)?)?;
     }
     Ok(())

@@ -8,6 +8,7 @@ ghost use Rattle.xa_sql_log.specs.ClosedFiles.{HoldsWhole};
 ghost use Rattle.xa_workers.specs.Jobs.{IsRunnable};
 ghost use Rattle.xa_workers.specs.Rows.{HasRows, rows_of_jobs};
 
+use crate::listing::listed;
 use crate::workers::Open;
 use sqlite::{FileStore, Files, MemStore, Options};
 use sqlite_disk::Disk;
@@ -75,4 +76,31 @@ pub(crate) fn logged_in_files<R: Threads + Wait + Clock + Sync, D: Disk + Drop>(
 {
     let log = SqlLog::open_files(alloc, files, Options::new(0))?;
     logged_over(rt, alloc, jobs, log)
+}
+
+/// The list of the log that jobs leave in a new database in memory.
+pub(crate) fn listed_in_memory<R: Threads + Wait + Clock + Sync>(
+    rt: &R,
+    alloc: Global,
+    jobs: &Jobs,
+) -> anyhow::Result<Vec<u8>>
+    requires { IsRunnable jobs.now }
+{
+    let mut done = logged_in_memory(rt, alloc, jobs)?;
+    Ok(listed(&mut done.log, alloc)?)
+}
+
+/// And of the one that they leave in files.
+pub(crate) fn listed_in_files<R: Threads + Wait + Clock + Sync, D: Disk + Drop>(
+    rt: &R,
+    alloc: Global,
+    jobs: &Jobs,
+    files: Files<D>,
+) -> anyhow::Result<Vec<u8>>
+    requires runnable { IsRunnable jobs.now }
+    requires log { IsTrue (D.Disk.is_usable files.log) }
+    requires db { IsTrue (D.Disk.is_usable files.db) }
+{
+    let mut done = logged_in_files(rt, alloc, jobs, files)?;
+    Ok(listed(&mut done.log, alloc)?)
 }

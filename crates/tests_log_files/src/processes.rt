@@ -3,10 +3,10 @@
 use std::alloc::Global;
 use std::fs;
 use std::test::Fail;
+use tests_disks::{OverLog, make_folder, work_at};
 use xa_files::RunFault;
-use xa_log::{DecisionLog, FailLog, FailPlan, LogCall, MemLog};
+use xa_log::{DecisionLog, FailLog, FailPlan, LogCall, LogFault, MemLog};
 use xa_scenario::{FileFault, read_scenarios, run_scenarios};
-use xa_sql_log::SqlLog;
 
 /// It leaves a branch prepared with its row in the log, and one without.
 const FIRST: &str = "\
@@ -122,13 +122,30 @@ fn run_all<L: DecisionLog + Drop>(
     Ok((String::from_utf8(out).map_err(|_| RunFault::Output)?, fault))
 }
 
+/// Runs of both texts over a log, of which what they print is kept here.
+#[derive(Drop)]
+struct Both {
+    alloc: Global,
+    ran: Result<(String, Option<RunFault>), RunFault>,
+}
+
+impl OverLog for Both {
+    fn over<L: DecisionLog + Drop>(&mut self, log: L) -> Result<(), LogFault> {
+        self.ran = run_all(self.alloc, &[FIRST, SECOND], log);
+        Ok(())
+    }
+}
+
 #[test]
 fn two_processes_over_one_log(rt: HostRuntime) -> Result<(), Fail> {
     let alloc = rt.alloc();
-    let _ = fs::remove_dir_all(&rt, "two_processes");
-    fs::create_dir(&rt, "two_processes")?;
-    let log = SqlLog::open(&rt, "two_processes/log.db").map_err(|_| RunFault::Log)?;
-    let (printed, fault) = run_all(alloc, &[FIRST, SECOND], log)?;
+    make_folder(&rt, "two_processes")?;
+    let mut both = Both {
+        alloc,
+        ran: Err(RunFault::Log),
+    };
+    work_at(&rt, "two_processes/log.db", &mut both)?;
+    let (printed, fault) = both.ran?;
     let wanted = format!(in alloc; "{FIRST_TRACE}{SECOND_TRACE}{FATES}")?;
     assert!(rt; fault.is_none());
     assert!(rt; printed.as_str() == wanted.as_str(), "{printed}");

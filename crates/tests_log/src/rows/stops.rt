@@ -1,17 +1,16 @@
 //! Each row, with a stop at each call of either file.
 
-use crate::crashes::Crashes;
+use crate::over_files::{Crashes, OverLog, over_files};
 use crate::rows::act::{Act, meets_stop, perform};
 use crate::rows::recovery::{count_of, end_as_the_log_says};
 use crate::rows::table::{
     ABANDONED, ACKNOWLEDGED_LATER, CLAIM_ENDS_WITH_CRASH, CLAIMED_IS_KEPT, DECIDED_BEFORE_CRASH,
     HEURISTIC, OPEN_ROLLED_BACK, RESOURCE_MANAGER_CRASH, RETRIES, Row, TWO_PHASE_COMMIT,
 };
-use sqlite::Files;
 use std::alloc::Global;
 use std::process::Abort;
 use std::test::Fail;
-use tests_disks::{Stops, StopsAfter, blank, log_over, stopping};
+use tests_disks::{Stops, blank, stopping};
 use xa_base::{Fate, How, Refusal, Reply, Side, Step};
 use xa_log::DecisionLog;
 use xa_rm::MemRm;
@@ -121,27 +120,29 @@ fn run_over<L: Crashes>(rt: &impl Abort, alloc: Global, log: L, row: &Row) -> Re
     Ok(Ended::Stopped)
 }
 
-/// The same where the log is there.
-fn run_where_open<L: Crashes>(
-    rt: &impl Abort,
-    alloc: Global,
-    log: Option<L>,
-    row: &Row,
-) -> Result<Ended, Fail> {
-    match log {
-        Some(log) => run_over(rt, alloc, log, row),
-        None => Ok(Ended::NotBegun),
+/// A row, and how a run of it ended.
+#[derive(Drop)]
+struct Playing<'a> {
+    row: &'a Row,
+    ended: Ended,
+}
+
+impl OverLog for Playing<'_> {
+    fn over<L: Crashes>(&mut self, rt: &impl Abort, alloc: Global, log: L) -> Result<(), Fail> {
+        self.ended = run_over(rt, alloc, log, self.row)?;
+        Ok(())
     }
 }
 
-/// A row over a log in files.
-fn run<D: StopsAfter>(
-    rt: &impl Abort,
-    alloc: Global,
-    files: Files<D>,
-    row: &Row,
-) -> Result<Ended, Fail> {
-    run_where_open(rt, alloc, log_over(alloc, files), row)
+/// A row over a log in files of which the one stops after so many calls.
+fn run(rt: &impl Abort, alloc: Global, which: Stops, calls: u64, row: &Row) -> Result<Ended, Fail> {
+    let files = stopping(alloc, &blank(alloc), which, calls)?;
+    let mut playing = Playing {
+        row,
+        ended: Ended::NotBegun,
+    };
+    let _is_open = over_files(rt, alloc, files, &mut playing)?;
+    Ok(playing.ended)
 }
 
 /// A row with a stop at each call of the one file, up to a run that meets none. Answers how many runs met a stop before the
@@ -154,8 +155,7 @@ fn stop_at_each_call(
 ) -> Result<(usize, usize), Fail> {
     let (mut before, mut stopped) = (0usize, 0usize);
     for calls in 0..2000u64 {
-        let files = stopping(alloc, &blank(alloc), which, calls)?;
-        match run(rt, alloc, files, row)? {
+        match run(rt, alloc, which, calls, row)? {
             Ended::NotBegun => before = before.saturating_add(1),
             Ended::Stopped => stopped = stopped.saturating_add(1),
             Ended::Whole => {

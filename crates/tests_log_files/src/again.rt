@@ -1,10 +1,12 @@
 //! Two runs over one log in a file: the second is of the next incarnation.
 
-use crate::stories::run_over;
+use std::alloc::Global;
 use std::fs;
 use std::test::Fail;
+use tests_disks::{OverLog, make_folder, work_at};
 use xa_files::RunFault;
-use xa_sql_log::SqlLog;
+use xa_log::{DecisionLog, LogFault};
+use xa_scenario::run_scenario;
 
 const TWO_PHASE_COMMIT: &str = "\
 threads = 1
@@ -38,18 +40,40 @@ const FATES: [&str; 2] = [
 ",
 ];
 
-/// What a run over the log at a path prints.
-fn run_at(rt: &HostRuntime, path: &str) -> Result<String, RunFault> {
-    match SqlLog::open(rt, path) {
-        Ok(log) => run_over(rt.alloc(), TWO_PHASE_COMMIT, log, false),
-        Err(_) => Err(RunFault::Log),
+/// What a run over a log prints.
+fn run_over<L: DecisionLog + Drop>(alloc: Global, log: L) -> Result<String, RunFault> {
+    let mut out = Vec::new(alloc);
+    run_scenario(alloc, TWO_PHASE_COMMIT.as_bytes(), log, false, &mut out)?;
+    String::from_utf8(out).map_err(|_| RunFault::Output)
+}
+
+/// A run over a log, of which what it prints is kept here.
+#[derive(Drop)]
+struct Run {
+    alloc: Global,
+    printed: Result<String, RunFault>,
+}
+
+impl OverLog for Run {
+    fn over<L: DecisionLog + Drop>(&mut self, log: L) -> Result<(), LogFault> {
+        self.printed = run_over(self.alloc, log);
+        Ok(())
     }
+}
+
+/// What a run over the log at a path prints.
+fn run_at(rt: &HostRuntime, path: &str) -> Result<String, Fail> {
+    let mut run = Run {
+        alloc: rt.alloc(),
+        printed: Err(RunFault::Log),
+    };
+    work_at(rt, path, &mut run)?;
+    Ok(run.printed?)
 }
 
 #[test]
 fn two_runs_over_one_log(rt: HostRuntime) -> Result<(), Fail> {
-    let _ = fs::remove_dir_all(&rt, "two_runs");
-    fs::create_dir(&rt, "two_runs")?;
+    make_folder(&rt, "two_runs")?;
     for printed in FATES {
         let ran = run_at(&rt, "two_runs/log.db")?;
         assert!(rt; ran.as_str() == printed, "{ran}");

@@ -5,15 +5,14 @@ mod chance;
 mod moves;
 mod told;
 
-use crate::crashes::Crashes;
+use crate::over_files::{Crashes, OverLog, over_files};
 use crate::processes::chance::Chance;
 use crate::processes::moves::Player;
 use crate::processes::told::{Ends, RMS, THREADS, Told};
-use sqlite::Files;
 use std::alloc::Global;
 use std::process::Abort;
 use std::test::Fail;
-use tests_disks::{Stops, StopsAfter, blank, log_over, stopping};
+use tests_disks::{Stops, blank, stopping};
 use xa_base::{Side, Step};
 use xa_log::MemLog;
 use xa_rm::MemRm;
@@ -124,29 +123,30 @@ fn have_ended(rt: &impl Abort, ends: Ends) {
     assert!(rt; ends.committed > 20 && ends.rolled_back > 20, "{ends:?}");
 }
 
-/// Ten processes over a log that is there. Tells how often it had stopped.
-fn ten_where_open<L: Crashes>(
-    rt: &impl Abort,
-    alloc: Global,
-    log: Option<L>,
+/// Ten processes with the steps of a seed, and how often their log has stopped.
+#[derive(Drop)]
+struct Ten {
     seed: u32,
-) -> Result<u32, Fail> {
-    let Some(log) = log else {
-        return Err(Fail::from("the log stops before it is there"));
-    };
-    let (ends, stops) = ten_processes(rt, alloc, log, seed)?;
-    have_ended(rt, ends);
-    Ok(stops)
+    stops: u32,
 }
 
-/// The same over a log in files.
-fn ten_in_files<D: StopsAfter>(
-    rt: &impl Abort,
-    alloc: Global,
-    files: Files<D>,
-    seed: u32,
-) -> Result<u32, Fail> {
-    ten_where_open(rt, alloc, log_over(alloc, files), seed)
+impl OverLog for Ten {
+    fn over<L: Crashes>(&mut self, rt: &impl Abort, alloc: Global, log: L) -> Result<(), Fail> {
+        let (ends, stops) = ten_processes(rt, alloc, log, self.seed)?;
+        have_ended(rt, ends);
+        self.stops = stops;
+        Ok(())
+    }
+}
+
+/// The same over a log in files whose journal stops. Tells how often it has.
+fn ten_in_files(rt: &impl Abort, alloc: Global, seed: u32) -> Result<u32, Fail> {
+    let files = stopping(alloc, &blank(alloc), Stops::Journal, 200)?;
+    let mut ten = Ten { seed, stops: 0 };
+    if !over_files(rt, alloc, files, &mut ten)? {
+        return Err(Fail::from("the log stops before it is there"));
+    }
+    Ok(ten.stops)
 }
 
 #[test]
@@ -162,9 +162,7 @@ fn over_a_log_in_memory(rt: HostRuntime) -> Result<(), Fail> {
 fn over_files_that_stop(rt: HostRuntime) -> Result<(), Fail> {
     let mut stopped = 0u32;
     for seed in 1..3u32 {
-        let files = stopping(rt.alloc(), &blank(rt.alloc()), Stops::Journal, 200)?;
-        let stops = ten_in_files(&rt, rt.alloc(), files, seed)?;
-        stopped = stopped.saturating_add(stops);
+        stopped = stopped.saturating_add(ten_in_files(&rt, rt.alloc(), seed)?);
     }
     assert!(rt; stopped > 0, "{stopped} stops");
     Ok(())

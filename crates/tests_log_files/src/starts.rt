@@ -3,11 +3,10 @@
 use std::alloc::Global;
 use std::fs;
 use std::test::Fail;
-use tests_disks::{MIGRATED, Seen, VERSION_1, make_folder, run_at, seen_at};
+use tests_disks::{MIGRATED, OverLog, Seen, VERSION_1, make_folder, run_at, seen_at, work_at};
 use xa_base::{Gtrid, Refusal, Reply, Step};
 use xa_log::{DecisionLog, LogFault};
 use xa_rm::MemRm;
-use xa_sql_log::SqlLog;
 use xa_system::{NewFault, System};
 
 /// That the transaction of the first incarnation with this number is over.
@@ -48,17 +47,28 @@ fn answers_over<L: DecisionLog + Drop>(alloc: Global, log: L) -> Result<Answers,
     })
 }
 
-/// The same where the log is open.
-fn answers_where_open<L: DecisionLog + Drop>(
+/// A system starts over a log, and its answers are kept here.
+#[derive(Drop)]
+struct Start {
     alloc: Global,
-    log: Result<L, LogFault>,
-) -> Result<Result<Answers, NewFault>, LogFault> {
-    Ok(answers_over(alloc, log?))
+    answers: Option<Result<Answers, NewFault>>,
 }
 
-/// The same over the log at a path.
+impl OverLog for Start {
+    fn over<L: DecisionLog + Drop>(&mut self, log: L) -> Result<(), LogFault> {
+        self.answers = Some(answers_over(self.alloc, log));
+        Ok(())
+    }
+}
+
+/// What a system that starts over the log at a path answers.
 fn answers_at(rt: &HostRuntime, path: &str) -> Result<Result<Answers, NewFault>, LogFault> {
-    answers_where_open(rt.alloc(), SqlLog::open(rt, path))
+    let mut start = Start {
+        alloc: rt.alloc(),
+        answers: None,
+    };
+    work_at(rt, path, &mut start)?;
+    start.answers.ok_or(LogFault::Store)
 }
 
 /// What a system that starts over a log of version 1 answers, in which this statement has run, and what its tables then hold. The

@@ -1,0 +1,68 @@
+//! Logs in files in memory, which stop and which a crash leaves. What is done over a log is proved once for all logs: it names no
+//! store, and one function hands it a log in files.
+
+use sqlite::{FileStore, Files};
+use std::alloc::Global;
+use std::process::Abort;
+use std::test::Fail;
+use tests_disks::{Stops, StopsAfter, blank, crashed, log_over, stopping};
+use xa_log::{DecisionLog, MemLog};
+use xa_sql_log::SqlLog;
+
+/// A log that a crash leaves.
+pub(crate) trait Crashes: DecisionLog + Drop + Sized {
+    /// The log as a crash leaves it, opened again. It stops after so many calls of its journal, if it can.
+    fn reopened(self, alloc: Global, calls: u64) -> Option<Self>;
+}
+
+impl Crashes for MemLog {
+    fn reopened(self, _alloc: Global, _calls: u64) -> Option<MemLog> {
+        Some(self)
+    }
+}
+
+impl<D: StopsAfter> Crashes for SqlLog<FileStore<D>> {
+    fn reopened(self, alloc: Global, calls: u64) -> Option<SqlLog<FileStore<D>>> {
+        let files = crashed(self.into_connection().into_store().close());
+        match stopping(alloc, &files, Stops::Journal, calls) {
+            Ok(files) => log_over(alloc, files),
+            Err(_) => None,
+        }
+    }
+}
+
+/// What is done over a log.
+pub(crate) trait OverLog {
+    /// Does it, and keeps what that comes to.
+    fn over<L: Crashes>(&mut self, rt: &impl Abort, alloc: Global, log: L) -> Result<(), Fail>;
+}
+
+/// Opens a log in files, or makes it, and hands it over. Tells whether there was a log.
+pub(crate) fn over_files<D: StopsAfter, W: OverLog>(
+    rt: &impl Abort,
+    alloc: Global,
+    files: Files<D>,
+    work: &mut W,
+) -> Result<bool, Fail> {
+    match log_over(alloc, files) {
+        Some(log) => {
+            work.over(rt, alloc, log)?;
+            Ok(true)
+        }
+        None => Ok(false),
+    }
+}
+
+/// The same over a new log. It is made again where memory is refused.
+pub(crate) fn over_new_log<W: OverLog>(
+    rt: &impl Abort,
+    alloc: Global,
+    work: &mut W,
+) -> Result<(), Fail> {
+    for _ in 0..2u32 {
+        if over_files(rt, alloc, blank(alloc), work)? {
+            return Ok(());
+        }
+    }
+    Err(Fail::from("no log is made"))
+}
