@@ -9,7 +9,7 @@ import time
 
 from .crates import CACHE, text_of
 from .edits import edits_of, rounds
-from .prover import Prover
+from .prover import Prover, linked
 from .reports import first_words
 from .verdicts import BAD, REFUSED, UNSURE, give, try_all
 
@@ -83,6 +83,10 @@ class CrateRun:
             for it in left:
                 give(it, UNSURE, f"the crate as it stands isn't proved: {first_words(said.text)}")
             return
+        if is_known and os.path.isdir(self.crate.kept):
+            # What rt check kept spares work.
+            os.rmdir(prover.seed)
+            linked(self.crate.kept, prover.seed)
         together, alone = ([], left) if whole else rounds(left)
         # Each part is kept as soon as it is known, so that a run that is ended has kept what it tried.
         for part in [*together, *([it] for it in alone)]:
