@@ -116,7 +116,7 @@ fn work(rt: &HostRuntime) -> Result<(), Failure> {
 }
 
 /// The failure of a file, behind earlier ones, that was read for this.
-fn failure(
+fn failure_of(
     rt: &HostRuntime,
     path: &str,
     text: &[u8],
@@ -164,7 +164,7 @@ fn check_one(
         FileKind::Jobs => check_jobs(alloc, &text, &mut line),
     };
     if let Err(fault) = checked {
-        return Err(failure(rt, path, &text, &[], kind, fault, is_whole));
+        return Err(failure_of(rt, path, &text, &[], kind, fault, is_whole));
     }
     let out = &mut io::writer(rt);
     if is_one_of_several {
@@ -193,7 +193,7 @@ fn look(rt: &HostRuntime, command: &str, path: &str) -> Result<(), Failure> {
     };
     match looked {
         Ok(()) => Ok(()),
-        Err(fault) => Err(failure(rt, path, &text, &[], FileKind::Scenario, fault, false)),
+        Err(fault) => Err(failure_of(rt, path, &text, &[], FileKind::Scenario, fault, false)),
     }
 }
 
@@ -211,7 +211,7 @@ fn run(rt: &HostRuntime, files: &[String], with_trace: bool) -> Result<(), Failu
             return Err(match (files.get(at), texts.get(at)) {
                 (Some(path), Some(text)) => {
                     let earlier = texts.as_slice().get(..at).unwrap_or(&[]);
-                    failure(
+                    failure_of(
                         rt,
                         path,
                         text,
