@@ -8,8 +8,8 @@ import tempfile
 import time
 
 from .crates import CACHE, text_of
-from .edits import edits_of, rounds
-from .prover import Prover, linked
+from .edits import edits_of
+from .prover import Prover
 from .reports import first_words
 from .verdicts import BAD, REFUSED, UNSURE, give, try_all
 
@@ -83,15 +83,9 @@ class CrateRun:
             for it in left:
                 give(it, UNSURE, f"the crate as it stands isn't proved: {first_words(said.text)}")
             return
-        if is_known and os.path.isdir(self.crate.kept):
-            # What rt check kept spares work.
-            os.rmdir(prover.seed)
-            linked(self.crate.kept, prover.seed)
-        together, alone = ([], left) if whole else rounds(left)
-        # Each part is kept as soon as it is known, so that a run that is ended has kept what it tried.
-        for part in [*together, *([it] for it in alone)]:
-            try_all(part, prover, whole)
-            self.kept.keep(part)
+        # Each is kept as soon as it is known, so that a run that is ended has kept what it tried.
+        for some in try_all(left, prover, whole):
+            self.kept.keep(some)
         self.say(
             f"{self.crate.name}: {len(left)} edits, {prover.checks} checks, {prover.seconds:.0f} processor seconds, {begins:.0f} of"
             f" them for the crate as it stands; {time.time() - begun:.0f} seconds; up to {prover.bytes / 1e9:.1f} GB"

@@ -75,12 +75,8 @@ class Prover:
         self.seconds, self.bytes, self.checks = 0.0, 0, 0
 
     def prove(self, edits, whole):
-        """Makes the seed, begun with what is kept in out/. If nothing is kept, the edits' functions and what they call are enough.
-        Returns why the crate isn't proved, if it isn't."""
-        if self.is_known:
-            os.mkdir(self.seed)
-            self.symbols = None
-            return None
+        """Makes the seed, begun with what is kept in out/. If nothing is kept, the edits' functions and what they call are enough, and
+        nothing is if it is known that the crate is proved. Returns why it isn't, if it isn't."""
         is_begun = True
         try:
             linked(self.crate.kept, self.seed)
@@ -89,6 +85,9 @@ class Prover:
             shutil.rmtree(self.seed, ignore_errors=True)
             os.mkdir(self.seed)
             is_begun = False
+        if self.is_known:
+            self.symbols = None
+            return None
         paths = {it.path() for it in edits}
         whole = whole or is_begun or None in paths
         said = self.check([], [] if whole else asking(paths), self.seed)

@@ -30,11 +30,15 @@ def own_goals(edit, symbol, found):
 
 
 def try_all(edits, prover, whole):
+    """Tries edits, and yields those that a check has just settled."""
     together, alone = ([], edits) if whole else rounds(edits)
     for one in together:
-        alone = alone + try_together(one, prover)
+        left = try_together(one, prover)
+        alone = alone + left
+        yield [it for it in one if it not in left]
     for it in alone:
         try_alone(it, prover, whole)
+        yield [it]
 
 
 def try_together(edits, prover):
