@@ -10,7 +10,8 @@ use Rattle.xa_base.specs.declared.answer.Answer.TheVariants.{Ret}
 use Rattle.xa_base.specs.declared.branch.Gtrid.{Gtrid}
 use Rattle.xa_base.specs.declared.call.Call.{Call as Waiting}
 use Rattle.xa_base.specs.declared.refusal.Refusal.{Refusal}
-use Rattle.xa_base.specs.declared.refusal.Refusal.TheVariants.{Limit, LogFault, ManagerDown, Memory}
+use Rattle.xa_base.specs.declared.refusal.Refusal.TheVariants.{Limit, LogFault, Memory}
+use Rattle.xa_base.specs.declared.step.Part.TheVariants as Parts
 use Rattle.xa_base.specs.declared.step.Step.TheVariants as Steps
 use Rattle.xa_coordinator.specs.Calls.{Hears, answer_reply, waits_for_other}
 use Rattle.xa_coordinator.specs.Faults.{AsksForRows}
@@ -19,7 +20,7 @@ use Rattle.xa_coordinator.specs.Releasing.{ReleasesAll, if_taken, transaction_of
 use Rattle.xa_coordinator.specs.Replies.{reply_of}
 use Rattle.xa_coordinator.specs.Standing.{LacksMemory, OnlyTells, StandsFor}
 use Rattle.xa_coordinator.specs.declared.coordinator.Coordinator.{Coordinator}
-use Rattle.xa_line.specs.Grid.{line_at}
+use Rattle.xa_line.specs.Grid.{has_line, line_at}
 use Rattle.xa_line.specs.Histories.{known}
 use Rattle.xa_log.specs.Contract.{Moment}
 use Rattle.xa_model.specs.Facts.{record_of}
@@ -31,10 +32,11 @@ use Rattle.xa_requests.specs.declared.request.Request.TheVariants as requests
 use Rattle.xa_requests.specs.declared.response.RequestFault.TheVariants as faults
 use Rattle.xa_requests.specs.declared.response.Response.{Response}
 use Rattle.xa_requests.specs.declared.response.Response.TheVariants as responses
-use Rattle.xa_serve.proofs.Refusals.{no_fault, no_fault_in_turn}
+use Rattle.xa_serve.proofs.Refusals.{no_fault_in_turn}
+use Rattle.xa_serve.proofs.Sessions.{never_the_log}
 use Rattle.xa_serve.specs.Answering.{FailsToHear, IsFirst}
 use Rattle.xa_serve.specs.Hearing.{can_hear}
-use Rattle.xa_serve.specs.Session.{decide_refusal, done_refusal, has_line, has_room_for, known_waiting, refusal_at, unfit, unfit_for}
+use Rattle.xa_serve.specs.Session.{decide_refusal, done_refusal, has_room_for, known_waiting, line_refusal, refusal_at, unfit, unfit_for}
 use Rattle.xa_serve.specs.Tracking.{FailedDecisionsAreFound, FailedDonesAreFound, FailedSettlementsAreFound, IsFailedStep, KeepsTrack}
 use Rattle.xa_serve.specs.declared.session.Session.{Session}
 use Rattle.xa_serve.specs.declared.session.answers.Unfit.{Unfit}
@@ -64,10 +66,6 @@ if_room false x never e = absurd (cc)
 if_none : (t : Bool) (x : Option Refusal) → (if t then x else Some Limit) ≡ None → x ≡ None
 if_none true x e = e
 if_none false x e = absurd (cc)
-
-if_over : (t : Bool) (x : Option Refusal) → (x ≡ Some LogFault → ⊥) → (if t then Some Limit else x) ≡ Some LogFault → ⊥
-if_over true x never e = absurd (cc)
-if_over false x never e = never e
 
 if_not_over : (t : Bool) (x : Option Refusal) → (if t then Some Limit else x) ≡ None → x ≡ None
 if_not_over true x e = absurd (cc)
@@ -125,7 +123,7 @@ module _ {L : Type 0} (moment : L → Moment) (decisions : FailedDecisionsAreFou
   failed_in_request (requests.Settle g) asks did =
       by_one_call o seen now left (Adds (rows_for (book_in s.manager) (g ∷ []))) (InDecide (g ∷ []))
       (refusal_at s (Steps.Settle g)) responses.Decided did.mid.session did.does.result
-      (if_over _ _ (no_fault (book_in s.manager) (Steps.Settle g)))
+      (never_the_log s (Steps.Settle g))
       decided_is_no_refusal did.does.told did.does.does.rules.refused did.does.does.asks.fails (ap (λ (c : Coordinator L). c.session.manager) did.releases)
       (λ none fault. settlements o seen s g tracks (if_not_over _ _ none) (did.does.does.asked none fault))
   failed_in_request (requests.Done gs) asks did =
@@ -152,11 +150,10 @@ module _ {L : Type 0} (moment : L → Moment) (decisions : FailedDecisionsAreFou
 answer_is_no_refusal : (name : CallName) (n : ℤ) → (let r : Response = responses.Refused LogFault in r) ≡ responses.Heard name.kind n → ⊥
 answer_is_no_refusal name n e = cc
 
-no_line_fault : (a b : Bool) (o : Option Unfit) → (o ≡ Some (Unfits.Refused LogFault) → ⊥)
-    → option_or (option_map Unfits.Refused (if a then Some Limit else (if b then Some ManagerDown else None))) o ≡ Some (Unfits.Refused LogFault) → ⊥
-no_line_fault true b o never e = absurd (cc)
-no_line_fault false true o never e = absurd (cc)
-no_line_fault false false o never e = never e
+no_line_fault : (why : Option Refusal) (o : Option Unfit) → (why ≡ Some LogFault → ⊥) → (o ≡ Some (Unfits.Refused LogFault) → ⊥)
+    → option_or (option_map Unfits.Refused why) o ≡ Some (Unfits.Refused LogFault) → ⊥
+no_line_fault None o not never e = never e
+no_line_fault (Some n) o not never e = not cc
 
 no_call_fault : (o : Option (Waiting Xid)) (answer : Answer Xid) → unfit_for o answer ≡ Some (Unfits.Refused LogFault) → ⊥
 no_call_fault None answer e = absurd (cc)
@@ -202,7 +199,7 @@ module _ {L : Type 0} (moment : L → Moment) (now left : Coordinator L) (t r : 
 
       fit_by : (o : Option Unfit) → unfit now.session t r (Ret code) ≡ o → o ≡ None
       fit_by None e = refl
-      fit_by (Some u) e = absurd (no_line_fault _ _ _ (no_call_fault (slice_get (line_at now.session.lines t r).calls.waiting 0) (Ret code))
+      fit_by (Some u) e = absurd (no_line_fault (line_refusal now.session t r) _ (never_the_log now.session (Steps.Crash (Parts.Line t r))) (no_call_fault (slice_get (line_at now.session.lines t r).calls.waiting 0) (Ret code))
           (e ∙ ap (λ x. let y : Option Unfit = Some x in y) (told u (does.refused u e).0)))
 
       fit_so : unfit now.session t r (Ret code) ≡ None

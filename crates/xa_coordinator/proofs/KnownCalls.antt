@@ -1,5 +1,5 @@
 -- Calls that a session takes are known to a history.
-use Rattle.std.proofs.Common.{◌≡◌, ℕ, Bool, true, false, not, ◌||◌, Option, Some, None, refl, subst}
+use Rattle.std.proofs.Common.{◌≡◌, ℕ, Bool, true, false, not, Option, Some, None, refl, sym, ◌∙◌, subst}
 use Rattle.std.specs.Prelude.{if◌then◌else◌, slice_get}
 use Rattle.std.specs.Option.{option_map, option_or}
 use Rattle.xa_base.specs.Answer.{map_answer}
@@ -9,8 +9,6 @@ use Rattle.xa_base.specs.declared.answer.Answer as Given
 use Rattle.xa_base.specs.declared.answer.Answer.TheVariants.{Page, Ret}
 use Rattle.xa_base.specs.declared.call.Call as Asking
 use Rattle.xa_base.specs.declared.call.Call.TheVariants as Calls
-use Rattle.xa_base.specs.declared.refusal.Refusal.{Refusal}
-use Rattle.xa_base.specs.declared.refusal.Refusal.TheVariants.{Limit, ManagerDown}
 use Rattle.xa_base.specs.declared.step.Step.TheVariants as Steps
 use Rattle.xa_coordinator.specs.Calls.{is_other, is_to, waits_for_other}
 use Rattle.xa_line.specs.Grid.{line_at}
@@ -20,9 +18,10 @@ use Rattle.xa_model.specs.Replies.Steps.{accepted}
 use Rattle.xa_model.specs.Trace.{Answer, Call, Name.Foreign, Name.Ours}
 use Rattle.xa_requests.specs.declared.request.CallName.{CallName}
 use Rattle.xa_serve.specs.Hearing.{can_hear}
-use Rattle.xa_serve.specs.Session.{has_line, is_over, issue_refusal, line_refusal, unfit, unfit_for}
+use Rattle.xa_serve.specs.Session.{issue_refusal, line_refusal, unfit, unfit_for}
 use Rattle.xa_serve.specs.declared.session.Session.{Session}
 use Rattle.xa_serve.specs.declared.session.answers.Unfit.TheVariants as Unfits
+use Rattle.xa_serve.proofs.Lines.{issue_rule, may_tell}
 use Rattle.xa_tm.specs.Calls.{book_in}
 use Rattle.xa_tm.specs.News.{Asked}
 use Rattle.xa_model.proofs.Replies.Guards.{known_call}
@@ -39,20 +38,12 @@ map_none : {A B : Type 0} (f : A → B) (x : Option A) → option_map f x ≡ No
 map_none f None e = refl
 map_none f (Some a) e = absurd (cc)
 
-if_none : (t : Bool) (r : Refusal) (rest : Option Refusal) → (if t then Some r else rest) ≡ None → (t ≡ false) × (rest ≡ None)
-if_none true r rest e = absurd (cc)
-if_none false r rest e = (refl, e)
-
-if_there : (t : Bool) (x : Option Refusal) (r : Refusal) → (if t then x else Some r) ≡ None → x ≡ None
-if_there true x r e = e
-if_there false x r e = absurd (cc)
-
 -- ** a call that may be issued
 
 pub known_issue : {L : Type 0} (s : Session L) (t r : ℕ) (call : Asking.Call Xid) → issue_refusal s t r call ≡ None → (c : Call) × (known call ≡ Some c)
 known_issue s t r call none =
     let asked = map_call name_of call in
-    let rules : refusal_in (book_in s.manager) (Steps.Issue t r asked) ≡ None = (or_none _ _ (or_none _ _ (or_none _ _ none).1).1).0 in
+    let rules : refusal_in (book_in s.manager) (Steps.Issue t r asked) ≡ None = (or_none _ _ (or_none _ _ (or_none _ _ (sym (issue_rule s t r call) ∙ none)).1).1).0 in
     known_call (view_in (book_in s.manager)) t r asked (none_of_call (book_in s.manager) t r asked rules)
 
 -- ** a call that waits first, and is answered
@@ -98,11 +89,6 @@ pub known_first : {L : Type 0} (s : Session L) (t r : ℕ) (answer : Given.Answe
     → IsKnownFirst (slice_get (line_at s.lines t r).calls.waiting 0)
 known_first s t r answer none = first_fit (slice_get (line_at s.lines t r).calls.waiting 0) answer (or_none _ _ none).1
 
-or_true : (a b : Bool) → (a || not b) ≡ false → b ≡ true
-or_true true b e = absurd (cc)
-or_true false true e = refl
-or_true false false e = absurd (cc)
-
 -- it has the name that was told
 pub named_first : {L : Type 0} (s : Session L) (t r : ℕ) (answer : Given.Answer Xid) (name : CallName) (call : Asking.Call Xid) → unfit s t r answer ≡ None
     → slice_get (line_at s.lines t r).calls.waiting 0 ≡ Some call → waits_for_other s.lines t r name ≡ false → is_to call name ≡ true
@@ -110,10 +96,7 @@ named_first s t r answer name call none waits same =
     let waiting = slice_get (line_at s.lines t r).calls.waiting 0 in
     let told : line_refusal s t r ≡ None = map_none Unfits.Refused (line_refusal s t r)
     (or_none (option_map Unfits.Refused (line_refusal s t r)) (unfit_for waiting answer) none).0 in
-    let rest = if not (book_in s.manager).up then Some ManagerDown else None in
-    let unbarred : (is_over s || not (has_line s.lines t r)) ≡ false = (if_none (is_over s || not (has_line s.lines t r)) Limit rest told).0 in
-    let there : has_line s.lines t r ≡ true = or_true (is_over s) (has_line s.lines t r) unbarred in
-    by _ (subst (λ b. is_other (if b then slice_get (line_at s.lines t r).calls.waiting 0 else None) name ≡ false) there same) waits
+    by _ (subst (λ b. is_other (if b then slice_get (line_at s.lines t r).calls.waiting 0 else None) name ≡ false) (may_tell s t r told).there same) waits
   where
     not_not : (b : Bool) → not b ≡ false → b ≡ true
     not_not true e = refl

@@ -26,7 +26,7 @@ use Rattle.xa_coordinator.specs.Rows.{owed_xids}
 use Rattle.xa_coordinator.specs.Standing.{LacksMemory, OnlyTells, StandsFor}
 use Rattle.xa_coordinator.specs.declared.coordinator.Coordinator.{Coordinator}
 use Rattle.xa_line.proofs.TrafficLaws.{next_call_waits}
-use Rattle.xa_line.specs.Grid.{HasLine, line_at}
+use Rattle.xa_line.specs.Grid.{HasLine, has_line, line_at}
 use Rattle.xa_line.specs.Histories.{known}
 use Rattle.xa_log.specs.Contract.{Moment}
 use Rattle.xa_model.specs.Facts.{next_call}
@@ -42,7 +42,7 @@ use Rattle.xa_requests.specs.declared.request.Request.TheVariants as requests
 use Rattle.xa_requests.specs.declared.response.RequestFault.TheVariants as faults
 use Rattle.xa_requests.specs.declared.response.Response.{Response}
 use Rattle.xa_requests.specs.declared.response.Response.TheVariants as responses
-use Rattle.xa_serve.specs.Session.{first_waiting, has_line}
+use Rattle.xa_serve.specs.Session.{first_waiting}
 use Rattle.xa_serve.specs.Tracking.{KeepsTrack, SessionsAreExplained}
 use Rattle.xa_serve.specs.declared.session.Session.{Session}
 use Rattle.xa_serve.specs.declared.session.answers.Unfit.{Unfit}

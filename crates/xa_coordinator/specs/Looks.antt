@@ -4,9 +4,10 @@ use Rattle.xa_base.specs.Xid.{Xid}
 use Rattle.xa_base.specs.declared.call.Call.{Call}
 use Rattle.xa_base.specs.declared.refusal.Refusal.TheVariants.{Limit}
 use Rattle.xa_coordinator.specs.declared.coordinator.Coordinator.{Coordinator}
+use Rattle.xa_line.specs.Grid.{has_line}
 use Rattle.xa_requests.specs.declared.response.Response.{Response}
 use Rattle.xa_requests.specs.declared.response.Response.TheVariants as responses
-use Rattle.xa_serve.specs.Session.{first_waiting, has_line}
+use Rattle.xa_serve.specs.Session.{first_waiting}
 use Rattle.xa_tm.specs.Calls.{book_in}
 
 abbrev pub first_reply : Option (Call Xid) → Response

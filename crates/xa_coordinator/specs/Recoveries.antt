@@ -1,5 +1,5 @@
 -- Requests of recovery.
-use Rattle.std.specs.Prelude.{◌≡◌, ◌⊎◌, ℕ, nat_lt, List, length, MatchBool, Option, None, Result, IfErr, IfOk, OnErr, OnOk}
+use Rattle.std.specs.Prelude.{◌≡◌, ◌⊎◌, ℕ, nat_lt, List, length, MatchBool, None, Result, IfErr, IfOk, OnErr, OnOk}
 use Rattle.xa_base.specs.Xid.{Xid}
 use Rattle.xa_base.specs.declared.refusal.Refusal.{Refusal}
 use Rattle.xa_base.specs.declared.refusal.Refusal.TheVariants as Refusals
@@ -12,7 +12,7 @@ use Rattle.xa_model.specs.Trace.{Happening.Resolved, Happening.ResolvedOpen}
 use Rattle.xa_requests.specs.declared.response.Response.{Response}
 use Rattle.xa_requests.specs.declared.response.Response.TheVariants as responses
 use Rattle.xa_serve.specs.Following.{Follows, StaysAs}
-use Rattle.xa_serve.specs.Session.{LetsWait, recovery_refusal}
+use Rattle.xa_serve.specs.Session.{LetsWait, resolve_open_refusal, resolve_refusal}
 use Rattle.xa_serve.specs.declared.session.Session.{Session}
 use Rattle.xa_tm.specs.Calls.{book_in, log_in}
 use Rattle.xa_tm.specs.Refusing.{resolved_in, resolved_open_in}
@@ -20,13 +20,6 @@ use Rattle.xa_tm.specs.Refusing.{resolved_in, resolved_open_in}
 -- ** what a session does
 
 module _ {L : Type 0} where
-  -- why it refuses a recovery
-  abbrev pub resolve_refusal : Session L → (rm : ℕ) → Option Refusal
-  resolve_refusal s rm = recovery_refusal s rm (length (resolved_in (book_in s.manager) rm))
-
-  abbrev pub resolve_open_refusal : Session L → (rm : ℕ) → Option Refusal
-  resolve_open_refusal s rm = recovery_refusal s rm (length (resolved_open_in (book_in s.manager) rm))
-
   -- the calls wait that end what the last page lists
   pub record Resolves (rm : ℕ) (old new : Session L) (result : Result ℕ Refusal) : Type 0 where
     pub rules : ObeysRules (resolve_refusal old rm) old new result

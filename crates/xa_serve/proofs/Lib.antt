@@ -1,7 +1,7 @@
 mod Alone
 mod Following
 mod Headroom
-mod Lines
+pub mod Lines
 pub mod Logging
 mod NextStarts
 mod FailedSteps
@@ -9,7 +9,7 @@ pub mod FailedAnswers
 mod Recoveries
 mod Hearings
 pub mod Refusals
-mod Sessions
+pub mod Sessions
 mod Telling
 mod Tracking
 mod Books

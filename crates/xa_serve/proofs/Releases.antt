@@ -10,13 +10,14 @@ use Rattle.xa_tm.specs.declared.manager.Manager.{Manager}
 use Rattle.xa_serve.specs.Following.{BookStands, StandsIn}
 use Rattle.xa_serve.specs.Headroom.{HasHeadroom, first_headroom}
 use Rattle.xa_serve.specs.Session.{IsReady}
+use Rattle.xa_serve.specs.Sizes.{IsSized}
 use Rattle.xa_serve.specs.declared.session.Session.{Session}
 use Rattle.xa_serve.proofs.Books.{book_left}
 use Rattle.xa_serve.proofs.Headroom.{releases_keep_headroom}
 use Rattle.xa_serve.proofs.Logging.{kept_as, quiet_keeps, same_released}
 use Rattle.xa_serve.specs.Logging.{KeepsLog}
 
-module _ {L : Type 0} (s : Session L) (m : Manager L) (g : Gtrid) (done : Bool) (over : done ≡ true → IsOver (book_in s.manager) g)
+module _ {L : Type 0} (s : Session L) (m : Manager L) (sized : IsSized (book_in m) s.lines) (g : Gtrid) (done : Bool) (over : done ≡ true → IsOver (book_in s.manager) g)
     (released : done ≡ true → book_in m ≡ book_without g (book_in s.manager)) (same : done ≡ false → m ≡ s.manager) where
   -- what is so of the book, and stays so without a transaction that is over, is so of the new one
   stays : (P : Book → Type 0) → (IsOver (book_in s.manager) g → P (book_in s.manager) → P (book_without g (book_in s.manager))) → P (book_in s.manager)
@@ -27,7 +28,7 @@ module _ {L : Type 0} (s : Session L) (m : Manager L) (g : Gtrid) (done : Bool) 
       by true is = subst P (sym (released is)) (less (over is) was)
       by false is = subst (λ n. P (book_in n)) (sym (same is)) was
 
-  pub release_ready : IsReady s → IsReady (record s { manager = m })
+  pub release_ready : IsReady s → IsReady (record s { manager = m; sized = sized })
   release_ready ready = record {
     few = ready.few;
     headroom =
@@ -36,7 +37,7 @@ module _ {L : Type 0} (s : Session L) (m : Manager L) (g : Gtrid) (done : Bool) 
     heard = ready.heard;
   }
 
-  pub release_stands : (tr : Trace) → StandsIn tr s → StandsIn tr (record s { manager = m })
+  pub release_stands : (tr : Trace) → StandsIn tr s → StandsIn tr (record s { manager = m; sized = sized })
   release_stands tr stands = record {
     run = stands.run;
     apart = stands.apart;
@@ -49,9 +50,9 @@ module _ {L : Type 0} (s : Session L) (m : Manager L) (g : Gtrid) (done : Bool) 
   }
 
 -- and the log
-pub release_keeps : {L : Type 0} (moment : L → Moment) (old new : Session L) (g : Gtrid) (over : Bool)
-    → (over ≡ true → book_in new.manager ≡ book_without g (book_in old.manager)) → (over ≡ false → new.manager ≡ old.manager)
-    → log_in new.manager ≡ log_in old.manager → KeepsLog moment old.manager new.manager
+pub release_keeps : {L : Type 0} (moment : L → Moment) (old new : Manager L) (g : Gtrid) (over : Bool)
+    → (over ≡ true → book_in new ≡ book_without g (book_in old)) → (over ≡ false → new ≡ old)
+    → log_in new ≡ log_in old → KeepsLog moment old new
 release_keeps moment old new g true released same log =
-    quiet_keeps moment old.manager new.manager log (same_released (book_in old.manager) (book_in new.manager) g (released refl))
-release_keeps moment old new g false released same log = kept_as moment old.manager new.manager (same refl)
+    quiet_keeps moment old new log (same_released (book_in old) (book_in new) g (released refl))
+release_keeps moment old new g false released same log = kept_as moment old new (same refl)

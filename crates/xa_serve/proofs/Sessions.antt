@@ -1,6 +1,8 @@
 -- What a step leaves of a session.
-use Rattle.std.proofs.Common.{◌≡◌, ◌≢◌, ℕ, ◌+◌, ◌-◌, ◌<◌, ◌≤◌, ◌⊎◌, inl, inr, Bool, true, false, not, ◌&&◌, List, length, Option, Some, None, refl, sym, ap, ◌∙◌, subst, arith}
-use Rattle.std.specs.Prelude.{if◌then◌else◌, nat_le, Result, Ok, Err, OnOk, IfErr}
+use Rattle.std.proofs.Common.{◌≡◌, ◌≢◌, ℕ, ◌+◌, ◌-◌, ◌<◌, ◌≤◌, ◌⊎◌, inl, inr, Bool, true, false, not, ◌&&◌, List, [], ◌∷◌, length, Option, Some, None, refl, sym, ap, ◌∙◌, subst, arith}
+use mathlib.Core.HLevel.{is_prop→PathP}
+use native.Mathlib.Nat.{ℕ_set}
+use Rattle.std.specs.Prelude.{if◌then◌else◌, nat_le, Result, Ok, Err, OnErr, OnOk, IfErr}
 use Rattle.std.proofs.lemmas.Bool.Decides.{nat_tests}
 use Rattle.xa_base.specs.declared.branch.Gtrid.{Gtrid}
 use Rattle.xa_base.specs.declared.refusal.Refusal.{Refusal}
@@ -8,16 +10,19 @@ use Rattle.xa_base.specs.declared.refusal.Refusal.TheVariants.{Limit, LogFault}
 use Rattle.xa_line.specs.Grid.{Grid, new_grid}
 use Rattle.xa_line.specs.Traffic.{Traffic}
 use Rattle.xa_line.proofs.GridLaws.{line_at-new_grid}
+use Rattle.xa_model.specs.Replies.Guards.{refusal_of}
 use Rattle.xa_model.specs.Replies.Steps.{Step}
+use Rattle.xa_model.proofs.Replies.Guards.{forced_of}
 use Rattle.xa_model.specs.Trace.{Fault, Happening, Happening.Failed, Happening.Nothing}
-use Rattle.xa_tm.specs.Book.{after_all, Book, book_after, Doubt, Doubt.NoDoubt}
+use Rattle.xa_tm.specs.Book.{after, after_all, Book, book_after, Doubt, Doubt.NoDoubt}
 use Rattle.xa_standings.specs.Monitor.{SaysTheSame, states_of}
 use Rattle.xa_tm.specs.Calls.{FailsBy, book_in, log_in}
-use Rattle.xa_tm.specs.Refusing.{refusal_in}
+use Rattle.xa_tm.specs.Refusing.{view_in}
 use Rattle.xa_tm.specs.declared.manager.Manager.{Manager}
 use Rattle.xa_serve.specs.Following.{StaysAs}
 use Rattle.xa_serve.specs.Headroom.{HasHeadroom, MayHappen, first_headroom}
-use Rattle.xa_serve.specs.Session.{AllHeard, IsReady, happenings_by, has_room_for, is_over, lines_by, refusal_at, refusal_of_all}
+use Rattle.xa_serve.specs.Sizes.{IsSized}
+use Rattle.xa_serve.specs.Session.{AllHeard, IsReady, happenings_by, has_room_for, is_over, lines_by, lines_seen, refusal_at, refusal_of_all}
 use Rattle.xa_serve.specs.declared.session.Session.{Session}
 use Rattle.xa_serve.proofs.Headroom.{MayHappenInTurn, headroom_kept, headroom_kept_by_all}
 use Rattle.xa_serve.proofs.Refusals.{not_over}
@@ -44,6 +49,11 @@ err_is m n e = cc
 pub on_err : {A : Type 0} (r : Result A Refusal) (P Q : Refusal → Type 0) → ((n : Refusal) → P n → Q n) → IfErr r P → IfErr r Q
 on_err (Ok x) P Q f h = tt
 on_err (Err n) P Q f h = f n h
+
+-- where it is so, it is so of any refusal
+pub if_err : {A P : Type 0} (r : Result A Refusal) → P → OnErr r P
+if_err (Ok x) p = tt
+if_err (Err n) p = p
 
 -- ** room
 
@@ -119,9 +129,18 @@ same_leaves old new ready count is lines = record {
 pub has_few : {L : Type 0} (s : Session L) → is_over s ≡ false → s.happenings < first_headroom
 has_few s e = not_over first_headroom s.happenings e
 
--- where it isn't over, it refuses as its manager does
-pub refusal_is : {L : Type 0} (s : Session L) (step : Step) → is_over s ≡ false → refusal_at s step ≡ refusal_in (book_in s.manager) step
-refusal_is s step e = ap (λ t. if t then Some Limit else refusal_in (book_in s.manager) step) e
+-- where it isn't over, it refuses as the table says
+pub refusal_is : {L : Type 0} (s : Session L) (step : Step) → is_over s ≡ false
+    → refusal_at s step ≡ refusal_of (view_in (book_in s.manager)) (lines_seen s) step
+refusal_is s step e = ap (λ t. if t then Some Limit else refusal_of (view_in (book_in s.manager)) (lines_seen s) step) e
+
+-- no rule is that the log failed
+pub never_the_log : {L : Type 0} (s : Session L) (step : Step) → refusal_at s step ≡ Some LogFault → ⊥
+never_the_log s step e = by (is_over s) e
+  where
+    by : (t : Bool) → (if t then Some Limit else refusal_of (view_in (book_in s.manager)) (lines_seen s) step) ≡ Some LogFault → ⊥
+    by true e = absurd (cc)
+    by false e = forced_of (view_in (book_in s.manager)) (lines_seen s) step LogFault e
 
 -- and so of several, where there is room for them
 pub refusal_of_all_is : {L : Type 0} (s : Session L) (of_manager : Book → List Gtrid → Option Refusal) (gs : List Gtrid)
@@ -139,8 +158,54 @@ pub stays_same : {L : Type 0} (s : Session L) → StaysAs s s
 stays_same s = record { book = refl; log = refl; lines = refl; happenings = refl; states = λ b. refl }
 
 -- what only its manager was asked, which left its book and its log
-pub stays_by : {L : Type 0} (s : Session L) (m : Manager L) → book_in m ≡ book_in s.manager → log_in m ≡ log_in s.manager → StaysAs s (record s { manager = m })
-stays_by s m book log = record { book = book; log = log; lines = refl; happenings = refl; states = λ b. refl }
+pub stays_by : {L : Type 0} (s new : Session L) → new.lines ≡ s.lines → new.happenings ≡ s.happenings → new.monitor ≡ s.monitor
+    → book_in new.manager ≡ book_in s.manager → log_in new.manager ≡ log_in s.manager → StaysAs s new
+stays_by s new lines happenings monitor book log =
+    record { book = book; log = log; lines = lines; happenings = happenings; states = λ b. ap (λ m. states_of m b) monitor }
+
+-- two sessions of the same parts are the same
+pub same_session : {L : Type 0} (a b : Session L) → a.manager ≡ b.manager → a.lines ≡ b.lines → a.monitor ≡ b.monitor → a.happenings ≡ b.happenings → a ≡ b
+same_session a b manager lines monitor count = λ i. record {
+  manager = manager i;
+  lines = lines i;
+  monitor = monitor i;
+  happenings = count i;
+  sized = is_prop→PathP (λ j. IsSized (book_in (manager j)) (lines j)) (λ j p q k. (ℕ_set _ _ p.0 q.0 k, ℕ_set _ _ p.1 q.1 k)) a.sized b.sized i;
+}
+
+-- ** sizes
+
+-- no happening changes the book's size
+pub sized_by : {L : Type 0} (s : Session L) (k : Book) → k ≡ book_in s.manager → IsSized k s.lines
+sized_by s k same = (ap (λ (k : Book). k.threads) same ∙ s.sized.0, ap (λ (k : Book). k.rms) same ∙ s.sized.1)
+
+pub sized_after : {L : Type 0} (s : Session L) (k : Book) (asked : Doubt) (e : Happening) → k ≡ book_after (book_in s.manager) asked e → IsSized k s.lines
+sized_after s k asked e same = (ap (λ (k : Book). k.threads) same ∙ s.sized.0, ap (λ (k : Book). k.rms) same ∙ s.sized.1)
+
+-- nor do several in turn
+size_after_all : (es : List Happening) (k : Book) → ((after_all k es).threads ≡ k.threads) × ((after_all k es).rms ≡ k.rms)
+size_after_all [] k = (refl, refl)
+size_after_all (e ∷ es) k = size_after_all es (after k e)
+
+-- nor a call that fails
+pub sized_by_failure : {L : Type 0} (s : Session L) (k : Book) (asked : Doubt) (f : Fault) (q : Refusal) → FailsBy asked f (book_in s.manager) k q
+    → IsSized k s.lines
+sized_by_failure s k asked f q (inl memory) = sized_by s k memory.1
+sized_by_failure s k asked f q (inr fell) = sized_after s k asked (Failed f) fell.1
+
+-- nor a call of the manager that may ask the log, however that ends
+pub sized_by_call : {L : Type 0} (s : Session L) (m : Manager L) (why : Option Refusal) (asked : Doubt) (f : Fault) (es : List Happening)
+    (reply : Result (Unit {0}) Refusal) → ((n : Refusal) → why ≡ Some n → (reply ≡ Err n) × (m ≡ s.manager))
+    → OnOk reply (book_in m ≡ after_all (book_in s.manager) es)
+    → (why ≡ None → IfErr reply (FailsBy asked f (book_in s.manager) (book_in m))) → IsSized (book_in m) s.lines
+sized_by_call s m why asked f es (Ok u) refused is fails =
+    let size = size_after_all es (book_in s.manager) in
+    (ap (λ (k : Book). k.threads) is ∙ size.0 ∙ s.sized.0, ap (λ (k : Book). k.rms) is ∙ size.1 ∙ s.sized.1)
+sized_by_call s m why asked f es (Err q) refused is fails = by why refl
+  where
+    by : (o : Option Refusal) → why ≡ o → IsSized (book_in m) s.lines
+    by (Some n) some = sized_by s (book_in m) (ap book_in (refused n some).1)
+    by None none = sized_by_failure s (book_in m) asked f q (fails none)
 
 -- ** what is left where the log may have been asked
 
@@ -259,5 +324,4 @@ module _ {L : Type 0} (old new : Session L) (m : Manager L) (counted : ℕ) wher
       by told left (inr kept) =
           let lines = done.lines ∙ ap (λ r. lines_by r old.lines) told ∙ kept.1 old.lines in
           let count = done.happenings ∙ ap (λ r. happenings_by r counted old.happenings) told ∙ kept.0 counted old.happenings in
-          let manager = done.manager ∙ left in
-          λ i. record { manager = manager i; lines = lines i; monitor = monitor i; happenings = count i }
+          same_session new old (done.manager ∙ left) lines monitor count

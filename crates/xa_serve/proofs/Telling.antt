@@ -17,12 +17,13 @@ use Rattle.xa_base.specs.declared.refusal.Refusal.TheVariants as Refusals
 use Rattle.xa_base.specs.declared.reply.Reply.TheVariants as Replies
 use Rattle.xa_base.specs.declared.step.Part.TheVariants as Parts
 use Rattle.xa_base.specs.declared.step.Step.TheVariants as Steps
-use Rattle.xa_line.specs.Grid.{Grid, HasLine, IsWhole, line_at, with_line}
+use Rattle.xa_line.specs.Grid.{Grid, HasLine, IsWhole, has_line, line_at, with_line}
 use Rattle.xa_line.specs.Histories.{LineStands, known as known_call, known_answered}
-use Rattle.xa_line.specs.Traffic.{PassesOn, Traffic, answered, heard, issued, no_traffic, taken, with_one_more}
+use Rattle.xa_line.specs.Traffic.{PassesOn, Traffic, answered, heard, issued, no_traffic, taken, with_more, with_one_more}
 use Rattle.xa_line.proofs.GridLaws.{line_at-with_line_other_rm, line_at-with_line_other_thread, line_at-with_line_same, whole-with_line}
 use Rattle.xa_line.proofs.TrafficLaws.{as_many_calls, line_goes_on, line_renewed, next_answer_waits, next_call_waits, same_length}
 use Rattle.xa_line.proofs.FlowLaws.{all_of-PassesOn}
+use Rattle.xa_line.proofs.HistoryLaws.{closed_known, unopened_known}
 use Rattle.xa_model.specs.Facts as facts
 use Rattle.xa_model.specs.Facts.Distinct.{ApartRows}
 use Rattle.xa_model.specs.Protocol.{IsRun, Right}
@@ -43,14 +44,14 @@ use Rattle.xa_tm.specs.Refusing.{resolved_in, resolved_open_in}
 use Rattle.xa_tm.proofs.History.Recovery.{resolved_is, resolved_open_is}
 use Rattle.xa_serve.specs.Following.{AreRight, BookStands, LeadsTo, LeadsByAnswer, LeadsByLoss, StandsIn}
 use Rattle.xa_serve.specs.Hearing.{heard_first, with_answer}
-use Rattle.xa_serve.specs.Session.{LetsWait, has_line, known_at, known_waiting, line_refusal, recovery_bar, recovery_refusal, with_more}
+use Rattle.xa_serve.specs.Session.{LetsWait, known_at, known_waiting, recovery_refusal}
 use Rattle.xa_serve.specs.declared.session.Session.{Session}
 use Rattle.xa_serve.proofs.Books.{book_goes, call_allowed, resolves_alike, resolves_open_alike, up_alike}
 use Rattle.xa_serve.proofs.Following.{line_stays}
 use Rattle.xa_serve.proofs.Refusals.{issued_begun}
 use Rattle.xa_tm.specs.Release.{MayFollow}
-use Rattle.xa_serve.proofs.Lines.{MayIssue, MayTell, may_tell, none_first, none_second}
-use Rattle.xa_serve.proofs.Recoveries.{closed_alike, closed_in, unopened_alike}
+use Rattle.xa_serve.proofs.Lines.{MayIssue, MayTell, may_recover, may_tell}
+use Rattle.xa_serve.proofs.Recoveries.{closed_in}
 
 -- ** lines
 
@@ -224,8 +225,8 @@ module _ {L : Type 0} (old new : Session L) (t r : ℕ) (call : Asking.Call Xid)
       let there = there_in old new t r tr stands may.tell.there in
       let up = up_in old new t r tr stands may.tell.up in
       let bar = unbarred (comes_unopened (issued at) call) (has_closed (issued at)) may.bar in
-      let open_so = sym (unopened_alike (issued at) (facts.issued tr (line t r)) call here.all_issued) ∙ bar.0 in
-      let unclosed = sym (closed_alike (issued at) (facts.issued tr (line t r)) here.all_issued) ∙ bar.1 in
+      let open_so = sym (unopened_known (issued at) (facts.issued tr (line t r)) call here.all_issued) ∙ bar.0 in
+      let unclosed = sym (closed_known (issued at) (facts.issued tr (line t r)) here.all_issued) ∙ bar.1 in
       let none = call_allowed tr (book_in old.manager) stands.book stands.run t r a may.book in
       let room = ap (nat_le 64) (sym (as_many_calls tr (line t r) at here)) ∙ may.room in
       issue_rule (view_of tr) (lines_of tr) t r a
@@ -412,9 +413,9 @@ open_so tr r = record {
 module _ {L : Type 0} (old new : Session L) (r : ℕ) where
   unclosed_in : (tr : Trace) (n : ℕ) → StandsIn tr old → recovery_refusal old r n ≡ None → facts.is_closed tr (line 0 r) ≡ false
   unclosed_in tr n stands none =
-      let may = may_tell old 0 r (none_first (line_refusal old 0 r) (recovery_bar (line_at old.lines 0 r) n) none) in
-      sym (closed_alike (issued (line_at old.lines 0 r)) (facts.issued tr (line 0 r)) (stands.lines 0 r may.has).all_issued)
-      ∙ closed_in (line_at old.lines 0 r) n (none_second (line_refusal old 0 r) (recovery_bar (line_at old.lines 0 r) n) none)
+      let may = may_tell old 0 r (may_recover old r n none).0 in
+      sym (closed_known (issued (line_at old.lines 0 r)) (facts.issued tr (line 0 r)) (stands.lines 0 r may.has).all_issued)
+      ∙ closed_in (line_at old.lines 0 r) n (may_recover old r n none).1
 
   recovery_goes : (tr : Trace) (e : Happening) (n : ℕ) (known : List Call) (calls : List (Asking.Call Xid)) → StandsIn tr old → Right tr e
       → IsRecovery tr e r known → recovery_refusal old r n ≡ None → map known_call calls ≡ map Some known
@@ -423,7 +424,7 @@ module _ {L : Type 0} (old new : Session L) (r : ℕ) where
       → AreRight tr (e ∷ []) × StandsIn (Then tr e) new
   recovery_goes tr e n known calls stands right recovery none are may_be book lines =
       let at = line_at old.lines 0 r in
-      let may = may_tell old 0 r (none_first (line_refusal old 0 r) (recovery_bar at n) none) in
+      let may = may_tell old 0 r (may_recover old r n none).0 in
       let stand = lines_with (Then tr e) old.lines 0 r (record at { calls = with_more at.calls calls }) stands.whole may.has
       (more_issued tr e (line 0 r) at calls (stands.lines 0 r may.has) (recovery.unbroken (line 0 r)) (recovery.taken (line 0 r)) (recovery.heard (line 0 r))
       (are ∙ ap (map Some) (sym recovery.here)))
@@ -449,7 +450,7 @@ module _ {L : Type 0} (old new : Session L) (r : ℕ) where
       → LetsWait r (resolved_in (book_in old.manager) r) old.lines new.lines
       → LeadsTo (Resolved r ∷ []) old new
   resolved_follows n none same waits tr stands =
-      let may = may_tell old 0 r (none_first (line_refusal old 0 r) (recovery_bar (line_at old.lines 0 r) n) none) in
+      let may = may_tell old 0 r (may_recover old r n none).0 in
       recovery_goes tr (Resolved r) n (facts.resolving_calls tr (facts.page tr r)) waits.calls stands
       (up_in old new 0 r tr stands may.up, unclosed_in tr n stands none) (resolved_so tr r) none
       (waits.are ∙ ap (map Some) (resolves_alike tr (book_in old.manager) stands.book r ∙ resolved_is tr r)) tt (ap book_in same) waits.lines
@@ -457,7 +458,7 @@ module _ {L : Type 0} (old new : Session L) (r : ℕ) where
   pub open_resolved_follows : (n : ℕ) → recovery_refusal old r n ≡ None → book_in new.manager ≡ after (book_in old.manager) (ResolvedOpen r)
       → LetsWait r (resolved_open_in (book_in old.manager) r) old.lines new.lines → LeadsTo (ResolvedOpen r ∷ []) old new
   open_resolved_follows n none book waits tr stands =
-      let may = may_tell old 0 r (none_first (line_refusal old 0 r) (recovery_bar (line_at old.lines 0 r) n) none) in
+      let may = may_tell old 0 r (may_recover old r n none).0 in
       recovery_goes tr (ResolvedOpen r) n (facts.resolving_calls (Then tr (ResolvedOpen r)) (facts.page tr r)) waits.calls stands
       (up_in old new 0 r tr stands may.up, unclosed_in tr n stands none) (open_so tr r) none
       (waits.are ∙ ap (map Some) (resolves_open_alike tr (book_in old.manager) stands.book r ∙ resolved_open_is tr r)) tt book waits.lines

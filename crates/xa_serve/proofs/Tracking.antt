@@ -2,7 +2,7 @@
 use Rattle.std.proofs.Common.{◌≡◌, ◌∙◌, ◌<◌, ◌&&◌, ℕ, suc, true, List, [], ◌∷◌, length, Option, ap, arith, refl, subst, sym}
 use Rattle.std.specs.Prelude.{All, nat_lt}
 use Rattle.std.proofs.lemmas.Bool.Decides.{nat_tests}
-use Rattle.xa_line.specs.Grid.{HasLine, IsWhole, line_at}
+use Rattle.xa_line.specs.Grid.{HasLine, IsWhole, line_at, has_line}
 use Rattle.xa_line.specs.Histories.{LineStands}
 use Rattle.xa_model.specs.Protocol.{IsRun}
 use Rattle.xa_model.specs.Trace.{Answer, Branch, Call, Happening, Line, Origin, Trace, Trace.Then, line}
@@ -14,7 +14,7 @@ use Rattle.xa_standings.specs.declared.states.States.{States}
 use Rattle.xa_standings.specs.Seen.{HasAnswer, IsHistory, IsHistory.Does, IsHistory.Hears, IsHistory.Loses, IsHistory.LosesAnswer, IsHistory.Starts, IsManagers, KeepsRules, Seen, Seen.Answered, Seen.Did, Seen.Lost, Seen.Start}
 use Rattle.xa_tm.specs.Begins.{BeginsWith}
 use Rattle.xa_serve.specs.Following.{AreRight, BookStands, FollowsAll, FollowsAnswer, FollowsLoss, StandsAtStart, StandsIn, StaysAs, then_all}
-use Rattle.xa_serve.specs.Session.{has_line, known_at}
+use Rattle.xa_serve.specs.Session.{known_at}
 use Rattle.xa_serve.specs.Tracking.{KeepsTrack, Tracks, did_all}
 use Rattle.xa_serve.specs.declared.session.Session.{Session}
 use Rattle.xa_serve.proofs.Alone.{alone_back, alone_stands}

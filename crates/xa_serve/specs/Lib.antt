@@ -5,4 +5,5 @@ pub mod Hearing
 pub mod Lending
 pub mod Logging
 pub mod Session
+pub mod Sizes
 pub mod Tracking

@@ -1,29 +1,31 @@
 -- What a session stands at, and what it refuses.
-use Rattle.std.specs.Prelude.{ℕ, ◌≡◌, ◌≤◌, ◌-◌, ◌+◌, ◌++◌, ◌&&◌, ◌||◌, Bool, true, false, not, nat_le, nat_lt, if◌then◌else◌, List, [], length, slice_get, Option, Some, None, Result, Ok, Err}
+use Rattle.std.specs.Prelude.{ℕ, ◌≡◌, ◌≤◌, ◌-◌, ◌+◌, ◌&&◌, Bool, true, false, not, nat_le, if◌then◌else◌, List, [], length, slice_get, Option, Some, None, Result, Ok, Err}
 use Rattle.std.specs.Option.{option_and_then, option_map, option_or}
 use Rattle.xa_base.specs.Answer.{map_answer}
 use Rattle.xa_base.specs.Call.{map_call}
-use Rattle.xa_base.specs.Opening.{has_closed, has_opened}
 use Rattle.xa_base.specs.Xid.{Xid}
 use Rattle.xa_base.specs.declared.answer.Answer.{Answer}
 use Rattle.xa_base.specs.declared.branch.Gtrid.{Gtrid}
 use Rattle.xa_base.specs.declared.call.Call.{Call}
 use Rattle.xa_base.specs.declared.call.Call.TheVariants as Calls
 use Rattle.xa_base.specs.declared.refusal.Refusal.{Refusal}
-use Rattle.xa_base.specs.declared.refusal.Refusal.TheVariants.{Busy, Closed, Full, Limit, LogFault, ManagerDown, NotOpen}
+use Rattle.xa_base.specs.declared.refusal.Refusal.TheVariants.{Busy, Full, Limit, LogFault}
 use Rattle.xa_base.specs.declared.step.Outcome.{Outcome}
+use Rattle.xa_base.specs.declared.step.Part.TheVariants as Parts
 use Rattle.xa_base.specs.declared.step.Step.TheVariants as Steps
-use Rattle.xa_line.specs.Grid.{Grid, HasLine, line_at, new_grid, with_line}
-use Rattle.xa_line.specs.Histories.{AreKnownAs, known}
-use Rattle.xa_line.specs.Traffic.{Flow, Traffic, barred, is_full, issued, places}
+use Rattle.xa_line.specs.Grid.{Grid, HasLine, has_line, line_at, new_grid, with_line}
+use Rattle.xa_line.specs.Histories.{AreKnownAs, known, lines_in}
+use Rattle.xa_line.specs.Traffic.{Traffic, with_more}
+use Rattle.xa_model.specs.Replies.Guards.{recovery_guards, refusal_by, refusal_of}
 use Rattle.xa_model.specs.Replies.History.{name_of}
 use Rattle.xa_model.specs.Replies.Steps.{Step}
+use Rattle.xa_model.specs.Replies.View.{LineView}
 use Rattle.xa_model.specs.Trace.{Branch, Call as KnownCall, line}
 use Rattle.xa_standings.specs.Monitor.{CanExplain, IsSomewhere, states_of}
 use Rattle.xa_tm.specs.Book.{Book}
 use Rattle.xa_tm.specs.Calls.{book_in}
 use Rattle.xa_tm.specs.InTurn as turns
-use Rattle.xa_tm.specs.Refusing.{refusal_in, service_refusal_in}
+use Rattle.xa_tm.specs.Refusing.{resolved_in, resolved_open_in, service_refusal_in, view_in}
 use Rattle.xa_serve.specs.Headroom.{HasHeadroom, first_headroom}
 use Rattle.xa_serve.specs.Hearing.{can_hear}
 use Rattle.xa_serve.specs.declared.session.Session.{Session}
@@ -48,9 +50,16 @@ pub record IsReady {L : Type 0} (s : Session L) : Type 0 where
 abbrev pub is_over : {L : Type 0} → Session L → Bool
 is_over s = nat_le first_headroom s.happenings
 
--- why it refuses a step that asks no line, the first reason that applies
+-- what the table of refusals sees of its lines, and of the recoveries that its book would begin
+abbrev pub lines_seen : {L : Type 0} → Session L → LineView
+lines_seen s = record (lines_in s.lines) {
+  resolving = λ r. length (resolved_in (book_in s.manager) r);
+  resolving_open = λ r. length (resolved_open_in (book_in s.manager) r);
+}
+
+-- why it refuses a step, the first reason that applies: that so much has happened, or what the table of refusals says
 abbrev pub refusal_at : {L : Type 0} → Session L → Step → Option Refusal
-refusal_at s step = if is_over s then Some Limit else refusal_in (book_in s.manager) step
+refusal_at s step = if is_over s then Some Limit else refusal_of (view_in (book_in s.manager)) (lines_seen s) step
 
 -- there is room for so many happenings more, and for one
 abbrev pub has_room_for : {L : Type 0} → Session L → ℕ → Bool
@@ -88,10 +97,6 @@ lines_by _ g = g
 
 -- ** what it refuses of a line
 
--- it has the line of the thread to the resource manager
-abbrev pub has_line : Grid → (thread rm : ℕ) → Bool
-has_line g t r = nat_lt t g.threads && nat_lt r g.rms
-
 -- the call that waits first on the line; none where the session has no such line
 abbrev pub first_waiting : Grid → (thread rm : ℕ) → Option (Call Xid)
 first_waiting g t r = if has_line g t r then slice_get (line_at g t r).calls.waiting 0 else None
@@ -104,18 +109,13 @@ known_waiting g t r = option_and_then known (first_waiting g t r)
 abbrev pub known_at : Grid → (thread rm : ℕ) → ℕ → Option KnownCall
 known_at g t r n = option_and_then known (if has_line g t r then slice_get (line_at g t r).calls.waiting n else None)
 
--- why it refuses whatever is told of a line, the first reason that applies
+-- why it refuses whatever is told of a line: as its loss, so an answer
 abbrev pub line_refusal : {L : Type 0} → Session L → (thread rm : ℕ) → Option Refusal
-line_refusal s t r =
-    if is_over s || not (has_line s.lines t r) then Some Limit else (if not (book_in s.manager).up then Some ManagerDown else None)
+line_refusal s t r = refusal_at s (Steps.Crash (Parts.Line t r))
 
 -- why it refuses a call on the line
 abbrev pub issue_refusal : {L : Type 0} → Session L → (thread rm : ℕ) → Call Xid → Option Refusal
-issue_refusal s t r call =
-    option_or (line_refusal s t r)
-    (option_or (barred (issued (line_at s.lines t r)) call)
-    (option_or (refusal_in (book_in s.manager) (Steps.Issue t r (map_call name_of call)))
-    (if is_full (line_at s.lines t r) then Some Full else None)))
+issue_refusal s t r call = refusal_at s (Steps.Issue t r (map_call name_of call))
 
 -- the call is an xa_recover
 abbrev pub is_scan : Option (Call Xid) → Bool
@@ -126,17 +126,25 @@ is_scan call = false
 abbrev pub awaits_page : Traffic → Bool
 awaits_page t = is_scan (slice_get t.calls.waiting 0)
 
--- why the line of the first thread takes no recovery of so many calls
-abbrev pub recovery_bar : Traffic → (calls : ℕ) → Option Refusal
-recovery_bar t n =
-    if not (has_opened (issued t)) then Some NotOpen
-    else (if has_closed (issued t) then Some Closed
-    else (if awaits_page t then Some Busy
-    else (if nat_lt places (length t.calls.waiting + n) then Some Full else None)))
+-- while a page is awaited, a recovery is Busy: before Full, which comes after it in the order of the refusals, and if nothing else applies
+abbrev pub behind_page : (awaited : Bool) → Option Refusal → Option Refusal
+behind_page true None = Some Busy
+behind_page true (Some Full) = Some Busy
+behind_page awaited why = why
 
--- why it refuses a recovery of so many calls at a resource manager
+-- why it refuses a recovery of so many calls at a resource manager, which goes over the line of the first thread
 abbrev pub recovery_refusal : {L : Type 0} → Session L → (rm calls : ℕ) → Option Refusal
-recovery_refusal s r n = option_or (line_refusal s 0 r) (recovery_bar (line_at s.lines 0 r) n)
+recovery_refusal s r n =
+    behind_page (awaits_page (line_at s.lines 0 r))
+    (if is_over s then Some Limit
+    else refusal_by (has_line s.lines 0 r) (recovery_guards (view_in (book_in s.manager)) (lines_seen s) r n))
+
+-- of one that ends what was listed, and of one that first rolls back what is open of that
+abbrev pub resolve_refusal : {L : Type 0} → Session L → (rm : ℕ) → Option Refusal
+resolve_refusal s r = recovery_refusal s r ((lines_seen s).resolving r)
+
+abbrev pub resolve_open_refusal : {L : Type 0} → Session L → (rm : ℕ) → Option Refusal
+resolve_open_refusal s r = recovery_refusal s r ((lines_seen s).resolving_open r)
 
 -- why it doesn't hear an answer to the call that waits first
 abbrev pub unfit_for : Option (Call Xid) → Answer Xid → Option Unfit
@@ -159,10 +167,6 @@ abbrev pub IsExplainable : {L : Type 0} → Session L → (thread rm : ℕ) → 
 IsExplainable s t r answer = (b : Branch) → IsSomewhere (states_of s.monitor) b → BranchExplains s t r answer b
 
 -- ** recoveries
-
--- several items more wait, last
-abbrev pub with_more : {T : Type 0} → Flow T → List T → Flow T
-with_more f xs = record { gone = f.gone; waiting = f.waiting ++ xs }
 
 -- calls wait last on the first thread's line to a resource manager, which a history knows as these. No other line changed
 pub record LetsWait (rm : ℕ) (known : List KnownCall) (old new : Grid) : Type 0 where

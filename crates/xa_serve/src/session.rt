@@ -1,17 +1,7 @@
 //! A session: the manager over its log, the lines, and the monitor of the branches. A file for each family of requests.
 
-ghost use Rattle.std.specs.Prelude.{◌≡◌, Bool, true, Err, IfOk, IsSomeAnd};
-ghost use Rattle.xa_line.specs.Grid.{new_grid};
-ghost use Rattle.xa_log.specs.Contract.{Honestly};
-ghost use Rattle.xa_model.specs.Trace.{Origin};
-ghost use Rattle.xa_standings.specs.Explained.{IsOldLog};
-ghost use Rattle.xa_tm.specs.Begins.{BeginsWith};
-ghost use Rattle.xa_tm.specs.Calls.{book_in, log_in};
-ghost use Rattle.xa_tm.specs.Started.{IsStarted, IsStartedOver};
-ghost use Rattle.xa_tm.specs.StartFaults.{IsOnlyRead, IsToBlame};
-ghost use Rattle.xa_serve.specs.Following.{StandsAtStart};
-ghost use Rattle.xa_serve.specs.Logging.{AreRowsOf, HoldsItsBook};
-ghost use Rattle.xa_serve.specs.Session.{IsReady, happenings_by, has_room_for, is_over, lines_by};
+ghost use Rattle.xa_tm.specs.Calls.{book_in};
+ghost use Rattle.xa_serve.specs.Sizes.{IsSized};
 
 pub(crate) mod answers;
 mod calls;
@@ -36,16 +26,30 @@ const HAPPENING_LIMIT: u64 = 4_611_686_018_427_387_904;
 /// Each method asks that the session is ready (`IsReady`), and leaves it so, whatever was answered. A session that
 /// [`Session::new`] gives is ready.
 #[derive(Drop)]
-pub struct Session<L: DecisionLog + Drop> {
+pub struct Session<L: Drop> {
     pub(crate) manager: Manager<L>,
     pub(crate) lines: SessionLines,
     /// The states of the branches, by all that was answered.
     pub(crate) monitor: Monitor,
     /// How many steps have happened since the start, a failure of the log among them.
     pub(crate) happenings: u64,
+    ghost sized: { IsSized (book_in manager) lines },
 }
 
 impl<L: DecisionLog + Drop> Session<L> {
+    ghost use Rattle.std.specs.Prelude.{◌≡◌, Bool, true, Err, IfOk, IsSomeAnd};
+    ghost use Rattle.xa_line.specs.Grid.{has_line, new_grid};
+    ghost use Rattle.xa_log.specs.Contract.{Honestly};
+    ghost use Rattle.xa_model.specs.Trace.{Origin};
+    ghost use Rattle.xa_standings.specs.Explained.{IsOldLog};
+    ghost use Rattle.xa_tm.specs.Begins.{BeginsWith};
+    ghost use Rattle.xa_tm.specs.Calls.{log_in};
+    ghost use Rattle.xa_tm.specs.Started.{IsStarted, IsStartedOver};
+    ghost use Rattle.xa_tm.specs.StartFaults.{IsOnlyRead, IsToBlame};
+    ghost use Rattle.xa_serve.specs.Following.{StandsAtStart};
+    ghost use Rattle.xa_serve.specs.Logging.{AreRowsOf, HoldsItsBook};
+    ghost use Rattle.xa_serve.specs.Session.{IsReady, happenings_by, has_room_for, is_over, lines_by};
+
     /// A session over a log, of so many threads and resource managers, and the rows that the log had.
     ///
     /// The rows are read before room is made for lines, so that the log has only been read where memory is refused.
@@ -137,6 +141,13 @@ impl<L: DecisionLog + Drop> Session<L> {
         ensures { result ≡ self.now.lines.rms }
     {
         self.lines.rms()
+    }
+
+    /// Whether there is a line of the thread to the resource manager.
+    pub fn has_line(&self, thread: u32, rm: u32) -> bool
+        ensures { result ≡ has_line self.now.lines thread rm }
+    {
+        self.lines.has(thread, rm)
     }
 
     /// Whether so much has happened that nothing more may.

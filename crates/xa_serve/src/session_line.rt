@@ -28,11 +28,13 @@ impl Model for SessionLine {
 }
 
 impl SessionLine {
-    ghost use Rattle.std.specs.Prelude.{◌+◌, ◌-◌, IfSome, IsSome, None, OnErr, OnOk, length, nat_lt, slice_get, true};
+    ghost use Rattle.std.specs.Prelude.{◌+◌, ◌++◌, ◌≤◌, IfSome, IsSome, None, OnErr, OnOk, length, slice_get, vec_len};
+    ghost use Rattle.std.specs.Prelude.{false, true};
     ghost use Rattle.std.specs.Option.{option_copied};
     ghost use Rattle.std.specs.Result.{result_err};
     ghost use Rattle.xa_base.specs.Opening.{has_closed, has_opened};
-    ghost use Rattle.xa_line.specs.Traffic.{no_traffic, places, refusal, with_one_more};
+    ghost use Rattle.xa_line.specs.Traffic.{no_traffic, places, with_more, with_one_more};
+    ghost use Rattle.xa_line.specs.Traffic.{barred, opening_refusal, refusal, room_refusal};
 
     /// A line that isn't open. It takes no memory.
     pub(crate) fn new() -> SessionLine
@@ -106,33 +108,49 @@ impl SessionLine {
         self.line.is_some()
     }
 
-    /// Whether an xa_close was issued since the line was new or renewed.
-    pub(crate) fn is_closed(&self) -> bool
-        ensures { result ≡ has_closed (issued self.now) }
+    /// Says why a call may not follow those that were issued, as [`Line::check`] does.
+    pub(crate) fn check(&self, call: &Call) -> Result<(), Refusal>
+        ensures { result_err result ≡ barred (issued self.now) call.now }
+    {
+        if let Some(line) = &self.line {
+            return line.check(call);
+        }
+        if !matches!(call, Call::OpenRm) {
+            return Err(Refusal::NotOpen);
+        }
+        Ok(())
+    }
+
+    /// The same for any call but xa_open.
+    pub(crate) fn check_open(&self) -> Result<(), Refusal>
+        ensures { result_err result ≡ opening_refusal (issued self.now) }
     {
         match &self.line {
-            Some(line) => line.is_closed(),
-            None => false,
+            Some(line) => line.check_open(),
+            None => Err(Refusal::NotOpen),
         }
     }
 
-    /// How many more calls may wait, 0 to 64.
-    pub(crate) fn free_calls(&self) -> usize
-        ensures { result ≡ places - length self.now.calls.waiting }
+    /// Refuses this many calls more, as [`Refusal::Full`], if they are too many to wait.
+    pub(crate) fn check_room(&self, count: usize) -> Result<(), Refusal>
+        ensures { result_err result ≡ room_refusal self.now count }
     {
         match &self.line {
-            Some(line) => line.free_calls(),
-            None => LINE_LIMIT,
+            Some(line) => line.check_room(count),
+            None if count > LINE_LIMIT => Err(Refusal::Full),
+            None => Ok(()),
         }
     }
 
-    /// Whether this many calls more are too many to wait: with those that wait they would be over 64.
-    pub(crate) fn is_full_for(&self, count: usize) -> bool
-        ensures { result ≡ nat_lt places (length self.now.calls.waiting + count) }
+    /// Lets these calls wait, in turn, as [`Line::issue_all`] does.
+    pub(crate) fn issue_all(&mut self, calls: Vec<Call>)
+        requires room { length self.old.calls.waiting + vec_len calls ≤ places }
+        requires open { has_opened (issued self.old) ≡ true }
+        requires unclosed { has_closed (issued self.old ++ calls.items) ≡ false }
+        ensures { self.new ≡ record self.old { calls = with_more self.old.calls calls.items } }
     {
-        match &self.line {
-            Some(line) => line.is_full_for(count),
-            None => count > LINE_LIMIT,
+        if let Some(line) = &mut self.line {
+            line.issue_all(calls);
         }
     }
 }

@@ -29,7 +29,7 @@ impl Model for SessionLines {
 impl SessionLines {
     ghost use Rattle.std.specs.Prelude.{◌≡◌, ◌+◌, ◌*◌, ◌<◌, length, IfOk, IfSome, None, true};
     ghost use Rattle.std.specs.Borrow.{sem};
-    ghost use Rattle.xa_line.specs.Grid.{HasLine, IsWhole, line_at, new_grid, place};
+    ghost use Rattle.xa_line.specs.Grid.{HasLine, IsWhole, has_line, line_at, new_grid, place};
     ghost use Rattle.xa_base.specs.Opening.{has_opened};
     ghost use Rattle.xa_line.specs.Traffic.{issued, no_traffic};
     ghost use Rattle.xa_serve.specs.Lending.{LendsLine};
@@ -65,6 +65,14 @@ impl SessionLines {
         ensures whole { IsWhole self.now }
     {
         self.rms
+    }
+
+    /// Whether there is a line of the thread to the resource manager.
+    pub(crate) fn has(&self, thread: u32, rm: u32) -> bool
+        ensures value { result ≡ has_line self.now thread rm }
+        ensures whole { IsWhole self.now }
+    {
+        thread < self.threads && rm < self.rms
     }
 
     /// The line of a thread to a resource manager.

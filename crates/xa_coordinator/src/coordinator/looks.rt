@@ -13,7 +13,7 @@ impl<L: DecisionLog + Drop> Coordinator<L> {
     pub(super) fn waiting(&self, thread: u32, rm: u32) -> Response
         ensures { result ≡ waiting_reply thread rm self.now }
     {
-        if thread >= self.session.threads() || rm >= self.session.rms() {
+        if !self.session.has_line(thread, rm) {
             return Response::Refused(Refusal::Limit);
         }
         match self.session.waiting(thread, rm) {

@@ -36,6 +36,16 @@ pub enum Unfit {
     NoSuchState(Branch),
 }
 
+impl From<Refusal> for Unfit {
+    ghost use Rattle.xa_serve.specs.declared.session.answers.Unfit.TheVariants as Unfits;
+
+    ghost from_gives = { λ refusal unfit. unfit ≡ Unfits.Refused refusal };
+
+    fn from(refusal: Refusal) -> Unfit {
+        Unfit::Refused(refusal)
+    }
+}
+
 impl<L: DecisionLog + Drop> Session<L> {
     /// The call that waits first on a line was done, and answered so. What is answered is heard by the manager and by the
     /// monitor, or by neither. Where the log fails, the manager is down and all lines break.
@@ -71,9 +81,7 @@ impl<L: DecisionLog + Drop> Session<L> {
         ensures keeps { KeepsLog L.moment self.old.manager self.new.manager }
     {
         books_have_headroom();
-        if let Some(refusal) = self.line_refusal(thread, rm) {
-            return Err(Unfit::Refused(refusal));
-        }
+        self.check_line(thread, rm)?;
         let Some(front) = self.lines.line(thread, rm).front() else {
             return Err(Unfit::NothingWaits);
         };

@@ -2,10 +2,11 @@
 
 ghost use Rattle.std.specs.Prelude.{◌≡◌, Some, None, Err, IfErr, OnErr, OnOk};
 ghost use Rattle.std.specs.Option.{option_copied};
+ghost use Rattle.std.specs.Result.{result_err};
 ghost use Rattle.xa_base.specs.Call.{map_call};
 ghost use Rattle.xa_base.specs.declared.refusal.Refusal.TheVariants as Refusals;
 ghost use Rattle.xa_line.specs.Grid.{line_at, with_line};
-ghost use Rattle.xa_line.specs.Traffic.{barred, issued, with_one_more};
+ghost use Rattle.xa_line.specs.Traffic.{with_one_more};
 ghost use Rattle.xa_model.specs.Replies.History.{name_of};
 ghost use Rattle.xa_model.specs.Replies.Steps.{accepted};
 ghost use Rattle.xa_model.specs.Trace.{Call as KnownCall, Happening.Issued, line};
@@ -17,48 +18,41 @@ ghost use Rattle.xa_serve.specs.Session.{IsReady, first_waiting, issue_refusal, 
 
 use super::Session;
 use crate::laws::books_have_headroom;
-use crate::session_line::SessionLine;
 use xa_base::{Call, Refusal};
 use xa_log::DecisionLog;
 
 impl<L: DecisionLog + Drop> Session<L> {
-    /// Why nothing is told of a line now, whatever it is.
-    pub(super) fn line_refusal(&self, thread: u32, rm: u32) -> Option<Refusal>
-        ensures { result ≡ line_refusal self.now thread rm }
+    /// Says why nothing is told of a line now, whatever it is.
+    pub(super) fn check_line(&self, thread: u32, rm: u32) -> Result<(), Refusal>
+        ensures { result_err result ≡ line_refusal self.now thread rm }
     {
-        if self.is_over() || thread >= self.lines.threads() || rm >= self.lines.rms() {
-            return Some(Refusal::Limit);
+        if self.is_over() || !self.lines.has(thread, rm) {
+            return Err(Refusal::Limit);
         }
         if !self.manager.is_up() {
-            return Some(Refusal::ManagerDown);
+            return Err(Refusal::ManagerDown);
         }
-        None
+        Ok(())
     }
 
-    /// Why a call may not wait on a line now. The first reason that applies is told.
-    pub fn may_issue(&self, thread: u32, rm: u32, call: &Call) -> Option<Refusal>
-        ensures { result ≡ issue_refusal self.now thread rm call.now }
+    /// Says why a call may not wait on a line now: the first reason that applies.
+    pub fn check_issue(&self, thread: u32, rm: u32, call: &Call) -> Result<(), Refusal>
+        ensures { result_err result ≡ issue_refusal self.now thread rm call.now }
     {
-        if let Some(refusal) = self.line_refusal(thread, rm) {
-            return Some(refusal);
-        }
-        if let Some(refusal) = bar(self.lines.line(thread, rm), call) {
-            return Some(refusal);
-        }
+        self.check_line(thread, rm)?;
+        let line = self.lines.line(thread, rm);
+        line.check(call)?;
         if let Some(refusal) = self.manager.may_issue(thread, rm, call) {
-            return Some(refusal);
+            return Err(refusal);
         }
-        if self.lines.line(thread, rm).free_calls() == 0 {
-            return Some(Refusal::Full);
-        }
-        None
+        line.check_room(1)
     }
 
     /// The call that waits first on a line, if there is one.
     pub fn waiting(&self, thread: u32, rm: u32) -> Option<&Call>
         ensures { option_copied result ≡ first_waiting self.now.lines thread rm }
     {
-        if thread >= self.lines.threads() || rm >= self.lines.rms() {
+        if !self.lines.has(thread, rm) {
             return None;
         }
         self.lines.line(thread, rm).front()
@@ -93,32 +87,13 @@ impl<L: DecisionLog + Drop> Session<L> {
         ensures lines_stay { OnErr result (self.new.lines ≡ self.old.lines) }
     {
         books_have_headroom();
-        if let Some(refusal) = self.may_issue(thread, rm, call) {
-            return Err(refusal);
-        }
+        self.check_issue(thread, rm, call)?;
         let Ok(room) = self.lines.room(thread, rm) else {
             return Err(Refusal::Memory);
         };
-        match self.manager.note_issued(thread, rm, call) {
-            Ok(()) => {
-                let _ = self.lines.line_mut(thread, rm).issue(call.copy(), room);
-                self.happenings += 1;
-                Ok(())
-            }
-            Err(refusal) => Err(refusal),
-        }
+        self.manager.note_issued(thread, rm, call)?;
+        let _ = self.lines.line_mut(thread, rm).issue(call.copy(), room);
+        self.happenings += 1;
+        Ok(())
     }
-}
-
-/// Why a line takes no such call, however little waits on it.
-fn bar(line: &SessionLine, call: &Call) -> Option<Refusal>
-    ensures { result ≡ barred (issued line.now) call.now }
-{
-    if !matches!(call, Call::OpenRm) && !line.is_open() {
-        return Some(Refusal::NotOpen);
-    }
-    if line.is_closed() {
-        return Some(Refusal::Closed);
-    }
-    None
 }

@@ -44,9 +44,7 @@ impl<L: DecisionLog + Drop> Session<L> {
         ensures lines_stay { OnErr result (self.new.lines ≡ self.old.lines) }
     {
         books_have_headroom();
-        if let Some(refusal) = self.line_refusal(thread, rm) {
-            return Err(refusal);
-        }
+        self.check_line(thread, rm)?;
         let call = self.lines.line(thread, rm).front();
         let Ok(()) = self.monitor.lose_line(thread, rm, call) else {
             return Err(Refusal::Memory);

@@ -1,16 +1,16 @@
 //! The manager ends what a resource manager lists.
 
-ghost use Rattle.std.specs.Prelude.{◌≡◌, ◌+◌, ◌++◌, ◌≤◌, true, false, length, vec_len, Some, None, Err, IfErr, IfOk, OnErr, OnOk};
-ghost use Rattle.xa_base.specs.Opening.{has_closed, has_opened};
+ghost use Rattle.std.specs.Prelude.{◌≡◌, length, Some, None, Err, IfErr, IfOk, OnErr, OnOk};
+ghost use Rattle.std.specs.Result.{result_err};
 ghost use Rattle.xa_base.specs.declared.refusal.Refusal.TheVariants as Refusals;
-ghost use Rattle.xa_line.specs.Traffic.{issued, places};
 ghost use Rattle.xa_model.specs.Trace.{Happening.Resolved, Happening.ResolvedOpen};
 ghost use Rattle.xa_tm.specs.Book.{after};
 ghost use Rattle.xa_tm.specs.Calls.{book_in, log_in};
 ghost use Rattle.xa_tm.specs.Refusing.{resolved_in, resolved_open_in};
 ghost use Rattle.xa_serve.specs.Following.{Follows, StaysAs};
 ghost use Rattle.xa_serve.specs.Logging.{KeepsLog};
-ghost use Rattle.xa_serve.specs.Session.{IsReady, LetsWait, awaits_page, recovery_refusal, with_more};
+ghost use Rattle.xa_serve.specs.Session.{IsReady, LetsWait, awaits_page};
+ghost use Rattle.xa_serve.specs.Session.{recovery_refusal, resolve_open_refusal, resolve_refusal};
 
 use super::Session;
 use crate::laws::books_have_headroom;
@@ -20,27 +20,17 @@ use xa_log::DecisionLog;
 use xa_tm::recoveries_are_read;
 
 impl<L: DecisionLog + Drop> Session<L> {
-    /// Why no recovery of so many calls may begin at a resource manager. The first reason that applies is told.
-    fn no_recovery(&self, rm: u32, count: usize) -> Option<Refusal>
-        ensures { result ≡ recovery_refusal self.now rm count }
+    /// Says why no recovery of so many calls may begin at a resource manager: the first reason that applies.
+    fn check_recovery(&self, rm: u32, count: usize) -> Result<(), Refusal>
+        ensures { result_err result ≡ recovery_refusal self.now rm count }
     {
-        if let Some(refusal) = self.line_refusal(0, rm) {
-            return Some(refusal);
-        }
+        self.check_line(0, rm)?;
         let line = self.lines.line(0, rm);
-        if !line.is_open() {
-            return Some(Refusal::NotOpen);
-        }
-        if line.is_closed() {
-            return Some(Refusal::Closed);
-        }
+        line.check_open()?;
         if awaits_page(line) {
-            return Some(Refusal::Busy);
+            return Err(Refusal::Busy);
         }
-        if line.is_full_for(count) {
-            return Some(Refusal::Full);
-        }
-        None
+        line.check_room(count)
     }
 
     /// Lets the calls wait, on the line of the first thread, that end what a resource manager listed last. Gives their
@@ -50,13 +40,10 @@ impl<L: DecisionLog + Drop> Session<L> {
         ensures ready { IsReady self.new }
         // A rule that refuses changes nothing.
         ensures refused { (n : Refusal) →
-            recovery_refusal self.old rm
-            (length (resolved_in (book_in self.old.manager) rm)) ≡ Some n →
+            resolve_refusal self.old rm ≡ Some n →
             (result ≡ Err n) × (self.new ≡ self.old) }
-        ensures allowed { OnOk result (recovery_refusal self.old rm
-            (length (resolved_in (book_in self.old.manager) rm)) ≡ None) }
-        ensures err { recovery_refusal self.old rm
-            (length (resolved_in (book_in self.old.manager) rm)) ≡ None →
+        ensures allowed { OnOk result (resolve_refusal self.old rm ≡ None) }
+        ensures err { resolve_refusal self.old rm ≡ None →
             IfErr result (λ n. (n ≡ Refusals.Memory) × (self.new ≡ self.old)) }
         // The calls.
         ensures value { IfOk result
@@ -72,17 +59,11 @@ impl<L: DecisionLog + Drop> Session<L> {
         books_have_headroom();
         recoveries_are_read();
         let count = self.manager.resolve_len(rm);
-        if let Some(refusal) = self.no_recovery(rm, count) {
-            return Err(refusal);
-        }
-        match self.manager.resolve(rm) {
-            Ok(calls) => {
-                issue_all(self.lines.line_mut(0, rm), calls);
-                self.happenings += 1;
-                Ok(count)
-            }
-            Err(refusal) => Err(refusal),
-        }
+        self.check_recovery(rm, count)?;
+        let calls = self.manager.resolve(rm)?;
+        self.lines.line_mut(0, rm).issue_all(calls);
+        self.happenings += 1;
+        Ok(count)
     }
 
     /// The same; and before that what is open of what is listed is rolled back.
@@ -90,13 +71,10 @@ impl<L: DecisionLog + Drop> Session<L> {
         requires { IsReady self.old }
         ensures ready { IsReady self.new }
         // A rule that refuses changes nothing.
-        ensures refused { (n : Refusal) → recovery_refusal self.old rm
-            (length (resolved_open_in (book_in self.old.manager) rm)) ≡ Some n →
+        ensures refused { (n : Refusal) → resolve_open_refusal self.old rm ≡ Some n →
             (result ≡ Err n) × (self.new ≡ self.old) }
-        ensures allowed { OnOk result (recovery_refusal self.old rm
-            (length (resolved_open_in (book_in self.old.manager) rm)) ≡ None) }
-        ensures err { recovery_refusal self.old rm
-            (length (resolved_open_in (book_in self.old.manager) rm)) ≡ None →
+        ensures allowed { OnOk result (resolve_open_refusal self.old rm ≡ None) }
+        ensures err { resolve_open_refusal self.old rm ≡ None →
             IfErr result (λ n. (n ≡ Refusals.Memory)
             × (book_in self.new.manager ≡ book_in self.old.manager)) }
         // The calls.
@@ -116,17 +94,11 @@ impl<L: DecisionLog + Drop> Session<L> {
         books_have_headroom();
         recoveries_are_read();
         let count = self.manager.resolve_open_len(rm);
-        if let Some(refusal) = self.no_recovery(rm, count) {
-            return Err(refusal);
-        }
-        match self.manager.resolve_open(rm) {
-            Ok(calls) => {
-                issue_all(self.lines.line_mut(0, rm), calls);
-                self.happenings += 1;
-                Ok(count)
-            }
-            Err(refusal) => Err(refusal),
-        }
+        self.check_recovery(rm, count)?;
+        let calls = self.manager.resolve_open(rm)?;
+        self.lines.line_mut(0, rm).issue_all(calls);
+        self.happenings += 1;
+        Ok(count)
     }
 }
 
@@ -135,16 +107,4 @@ fn awaits_page(line: &SessionLine) -> bool
     ensures { result ≡ awaits_page line.now }
 {
     matches!(line.front(), Some(Call::Recover { .. }))
-}
-
-/// Lets calls wait on a line that has room for all of them, is open, and isn't closed by one of them.
-fn issue_all(line: &mut SessionLine, calls: Vec<Call>)
-    requires room { length line.old.calls.waiting + vec_len calls ≤ places }
-    requires open { has_opened (issued line.old) ≡ true }
-    requires unclosed { has_closed (issued line.old ++ calls.items) ≡ false }
-    ensures { line.new ≡ record line.old { calls = with_more line.old.calls calls.items } }
-{
-    for call in calls {
-        let _ = line.issue(call, None);
-    }
 }

@@ -7,7 +7,7 @@ use Rattle.xa_tm.specs.Calls.{book_in}
 use Rattle.xa_tm.specs.Refusing.{refusal_in}
 use Rattle.xa_serve.proofs.Following.{abandoned_follows}
 use Rattle.xa_serve.proofs.Refusals.{begun_if_abandoned}
-use Rattle.xa_serve.proofs.Sessions.{has_few, refused_or, same_leaves, stays_by, step_leaves}
+use Rattle.xa_serve.proofs.Sessions.{has_few, refused_or, same_leaves, sized_by, stays_by, step_leaves}
 use Rattle.xa_serve.proofs.Logging.{quiet_keeps, same_abandoned, same_book}
 use Rattle.xa_serve.proofs.session.Session.abandon.Goals as goal
 
@@ -35,7 +35,7 @@ returns-in-Ok-clause-follows g c = record {
 pub returns-in-Err-clause-stays : goal.returns-in-Err-clause-stays
 returns-in-Err-clause-stays g c =
     let s = c.args.self.now in
-    stays_by s _
+    stays_by s _ refl refl refl
     (refused_or (refusal_in (book_in s.manager) (Steps.Abandon c.args.gtrid)) _ _
     (λ n is. ap book_in (c.in-Err.ensures.refused n is).1) (λ none. (c.in-Err.ensures.err none).1)) c.in-Err.ensures.log
 
@@ -52,3 +52,12 @@ returns-in-Err-clause-keeps g c =
     (same_book (book_in s.manager) (book_in c.abandon.new.self)
     (refused_or (refusal_in (book_in s.manager) (Steps.Abandon c.args.gtrid)) _ _
     (λ n is. ap book_in (c.in-Err.ensures.refused n is).1) (λ none. (c.in-Err.ensures.err none).1)))
+
+pub invariant_of-self-in-Err-1 : goal.invariant_of-self-in-Err-1
+invariant_of-self-in-Err-1 g c =
+    let s = c.args.self.now in
+    record {
+      sized = sized_by s (book_in c.abandon.new.self)
+          (refused_or (refusal_in (book_in s.manager) (Steps.Abandon c.args.gtrid)) _ _
+          (λ n is. ap book_in (c.in-Err.ensures.refused n is).1) (λ none. (c.in-Err.ensures.err none).1));
+    }

@@ -17,7 +17,7 @@ use Rattle.xa_tm.specs.Book.{Doubt.NoDoubt, doubt_of}
 use Rattle.xa_tm.specs.Calls.{FailsBy, book_in}
 use Rattle.xa_serve.proofs.Hearings.{answer_heard, has_answer, hearable}
 use Rattle.xa_serve.proofs.Lines.{all_with, may_tell, waiting_known}
-use Rattle.xa_serve.proofs.Sessions.{book_kept, failed, has_few, kept_stays, room_for_one, step_leaves}
+use Rattle.xa_serve.proofs.Sessions.{book_kept, failed, has_few, kept_stays, room_for_one, sized_after, sized_by_failure, step_leaves}
 use Rattle.xa_serve.proofs.Telling.{answered_follows}
 use Rattle.xa_serve.specs.Hearing.{with_answer}
 use Rattle.xa_serve.specs.declared.session.answers.Unfit.TheVariants.{Refused}
@@ -38,11 +38,11 @@ returns-in-Some-unexplained-clause-unexplained g c = λ b e.
     let s = c.args.self.now in
     let t = c.args.thread in
     let r = c.args.rm in
-    let may = may_tell s t r (sym c.line_refusal.ensures ∙ c.in_default.is) in
+    let may = may_tell s t r (sym c.in_ok-check_line.ensures) in
     let same : c.in-Some-unexplained.b ≡ b = cc in
     let knows = (hearable (map_call name_of c.copy-call.result) (map_answer name_of c.args.answer) (sym c.can_hear.ensures ∙ c.if-not-can_hear.false)).known in
     let waits : slice_get (line_at s.lines t r).calls.waiting 0 ≡ Some c.copy-call.result =
-    ap (λ (l : Traffic). slice_get l.calls.waiting 0) (sym c.line.ensures.value) ∙ sym c.front.ensures ∙ ap option_copied c.in-Some-front.is
+    ap (λ (l : Traffic). slice_get l.calls.waiting 0) (sym c.line.ensures.value) ∙ sym c.front.ensures ∙ ap option_copied c.in-Some.is
     ∙ ap (λ k. Some k) (sym c.copy-call.ensures)
     in (
       (λ explains.
@@ -60,9 +60,9 @@ returns-in-Ok-hear-clause-explained g c = λ fit not q some d is.
     let s = c.args.self.now in
     let t = c.args.thread in
     let r = c.args.rm in
-    let may = may_tell s t r (sym c.line_refusal.ensures ∙ c.in_default.is) in
+    let may = may_tell s t r (sym c.in_ok-check_line.ensures) in
     let waits : slice_get (line_at s.lines t r).calls.waiting 0 ≡ Some c.copy-call.result =
-    ap (λ (l : Traffic). slice_get l.calls.waiting 0) (sym c.line.ensures.value) ∙ sym c.front.ensures ∙ ap option_copied c.in-Some-front.is
+    ap (λ (l : Traffic). slice_get l.calls.waiting 0) (sym c.line.ensures.value) ∙ sym c.front.ensures ∙ ap option_copied c.in-Some.is
     ∙ ap (λ k. Some k) (sym c.copy-call.ensures)
     in
     c.unexplained.ensures.none c.in_default-unexplained.is t d (sym (waiting_known s.lines t r c.copy-call.result may.there waits) ∙ is) q some
@@ -72,7 +72,7 @@ returns-in-Ok-hear-clause-ready g c =
     let s = c.args.self.now in
     let t = c.args.thread in
     let r = c.args.rm in
-    let may = may_tell s t r (sym c.line_refusal.ensures ∙ c.in_default.is) in
+    let may = may_tell s t r (sym c.in_ok-check_line.ensures) in
     let knows = (hearable (map_call name_of c.copy-call.result) (map_answer name_of c.args.answer) (sym c.can_hear.ensures ∙ c.if-not-can_hear.false)).known in
     step_leaves s _ NoDoubt (Heard (line t r) knows.0 (map_answer name_of c.args.answer)) c.requires (has_few s may.free) tt refl
     (c.in-Ok-hear.ensures.ok knows.0 knows.1)
@@ -88,9 +88,9 @@ returns-in-Ok-hear-clause-heard g c = λ d front.
     let call = front.0 in
     let first = front.1 in
     let is = front.2 in
-    let may = may_tell s t r (sym c.line_refusal.ensures ∙ c.in_default.is) in
+    let may = may_tell s t r (sym c.in_ok-check_line.ensures) in
     let waits : slice_get (line_at s.lines t r).calls.waiting 0 ≡ Some c.copy-call.result =
-    ap (λ (l : Traffic). slice_get l.calls.waiting 0) (sym c.line.ensures.value) ∙ sym c.front.ensures ∙ ap option_copied c.in-Some-front.is
+    ap (λ (l : Traffic). slice_get l.calls.waiting 0) (sym c.line.ensures.value) ∙ sym c.front.ensures ∙ ap option_copied c.in-Some.is
     ∙ ap (λ k. Some k) (sym c.copy-call.ensures)
     in
     let knows : known c.copy-call.result ≡ Some d = subst (λ k. known k ≡ Some d) (some_is _ _ (sym first ∙ waits)) is in
@@ -113,7 +113,7 @@ returns-in-Err-clause-ready g c =
     let s = c.args.self.now in
     let t = c.args.thread in
     let r = c.args.rm in
-    let may = may_tell s t r (sym c.line_refusal.ensures ∙ c.in_default.is) in
+    let may = may_tell s t r (sym c.in_ok-check_line.ensures) in
     let knows = (hearable (map_call name_of c.copy-call.result) (map_answer name_of c.args.answer) (sym c.can_hear.ensures ∙ c.if-not-can_hear.false)).known in
     failed s _ _ 1 (doubt_of (record_of knows.0 (map_answer name_of c.args.answer))) (InHear (line t r)) c.in-Err.refusal c.requires may.free
     (record { manager = c.conclude.ensures.manager; lines = c.conclude.ensures.lines; happenings = c.conclude.ensures.happenings }) tt
@@ -124,9 +124,9 @@ returns-in-Err-clause-err g c = λ n e none d front.
     let s = c.args.self.now in
     let t = c.args.thread in
     let r = c.args.rm in
-    let may = may_tell s t r (sym c.line_refusal.ensures ∙ c.in_default.is) in
+    let may = may_tell s t r (sym c.in_ok-check_line.ensures) in
     let waits : slice_get (line_at s.lines t r).calls.waiting 0 ≡ Some c.copy-call.result =
-    ap (λ (l : Traffic). slice_get l.calls.waiting 0) (sym c.line.ensures.value) ∙ sym c.front.ensures ∙ ap option_copied c.in-Some-front.is
+    ap (λ (l : Traffic). slice_get l.calls.waiting 0) (sym c.line.ensures.value) ∙ sym c.front.ensures ∙ ap option_copied c.in-Some.is
     ∙ ap (λ k. Some k) (sym c.copy-call.ensures)
     in
     let same : c.in-Err.refusal ≡ n = cc in
@@ -140,9 +140,9 @@ returns-in-Err-clause-explained g c = λ fit not q some d is.
     let s = c.args.self.now in
     let t = c.args.thread in
     let r = c.args.rm in
-    let may = may_tell s t r (sym c.line_refusal.ensures ∙ c.in_default.is) in
+    let may = may_tell s t r (sym c.in_ok-check_line.ensures) in
     let waits : slice_get (line_at s.lines t r).calls.waiting 0 ≡ Some c.copy-call.result =
-    ap (λ (l : Traffic). slice_get l.calls.waiting 0) (sym c.line.ensures.value) ∙ sym c.front.ensures ∙ ap option_copied c.in-Some-front.is
+    ap (λ (l : Traffic). slice_get l.calls.waiting 0) (sym c.line.ensures.value) ∙ sym c.front.ensures ∙ ap option_copied c.in-Some.is
     ∙ ap (λ k. Some k) (sym c.copy-call.ensures)
     in
     c.unexplained.ensures.none c.in_default-unexplained.is t d (sym (waiting_known s.lines t r c.copy-call.result may.there waits) ∙ is) q some
@@ -152,7 +152,7 @@ returns-in-Err-clause-stays g c = λ not.
     let s = c.args.self.now in
     let t = c.args.thread in
     let r = c.args.rm in
-    let may = may_tell s t r (sym c.line_refusal.ensures ∙ c.in_default.is) in
+    let may = may_tell s t r (sym c.in_ok-check_line.ensures) in
     let knows = (hearable (map_call name_of c.copy-call.result) (map_answer name_of c.args.answer) (sym c.can_hear.ensures ∙ c.if-not-can_hear.false)).known in
     let fault : c.in-Err.refusal ≢ LogFault = λ e. not (ap (λ n. Refused n) e) in
     let same : SaysTheSame s.monitor c.conclude.new.self.monitor =
@@ -165,7 +165,7 @@ returns-in-Err-clause-stays g c = λ not.
 
 pub conclude-requires : goal.conclude-requires
 conclude-requires g c =
-    let may = may_tell c.args.self.now c.args.thread c.args.rm (sym c.line_refusal.ensures ∙ c.in_default.is) in
+    let may = may_tell c.args.self.now c.args.thread c.args.rm (sym c.in_ok-check_line.ensures) in
     room_for_one c.args.self.now may.free
 
 pub returns-in-Ok-hear-clause-keeps : goal.returns-in-Ok-hear-clause-keeps
@@ -174,7 +174,7 @@ returns-in-Ok-hear-clause-keeps g c =
     let t = c.args.thread in
     let r = c.args.rm in
     let a = map_answer name_of c.args.answer in
-    let may = may_tell s t r (sym c.line_refusal.ensures ∙ c.in_default.is) in
+    let may = may_tell s t r (sym c.in_ok-check_line.ensures) in
     let knows = (hearable (map_call name_of c.copy-call.result) a (sym c.can_hear.ensures ∙ c.if-not-can_hear.false)).known in
     let e = c.in-Ok-hear.ensures in
     heard_keeps g.L.DecisionLog.moment (line t r) knows.0 a s.manager c.hear.new.self (λ log b d order is left. g.met.L.DecisionLog.durable log b d order is left)
@@ -187,9 +187,29 @@ returns-in-Err-clause-keeps g c =
     let t = c.args.thread in
     let r = c.args.rm in
     let a = map_answer name_of c.args.answer in
-    let may = may_tell s t r (sym c.line_refusal.ensures ∙ c.in_default.is) in
+    let may = may_tell s t r (sym c.in_ok-check_line.ensures) in
     let knows = (hearable (map_call name_of c.copy-call.result) a (sym c.can_hear.ensures ∙ c.if-not-can_hear.false)).known in
     let e = c.in-Err.ensures in
     subst (KeepsLog moment s.manager) (sym c.conclude.ensures.manager)
     (unheard_keeps moment (line t r) knows.0 a s.manager c.hear.new.self c.in-Err.refusal
     (λ log b d order is left. g.met.L.DecisionLog.durable log b d order is left) may.up (e.asks knows.0 knows.1) e.tied e.kept (e.err may.up knows.0 knows.1))
+
+pub invariant_of-self-in-Ok-hear : goal.invariant_of-self-in-Ok-hear
+invariant_of-self-in-Ok-hear g c =
+    let s = c.args.self.now in
+    let a = map_answer name_of c.args.answer in
+    let knows = (hearable (map_call name_of c.copy-call.result) a (sym c.can_hear.ensures ∙ c.if-not-can_hear.false)).known in
+    record {
+      sized = sized_after s (book_in c.hear.new.self) NoDoubt (Heard (line c.args.thread c.args.rm) knows.0 a) (c.in-Ok-hear.ensures.ok knows.0 knows.1);
+    }
+
+pub invariant_of-self-in-Err : goal.invariant_of-self-in-Err
+invariant_of-self-in-Err g c =
+    let s = c.args.self.now in
+    let a = map_answer name_of c.args.answer in
+    let may = may_tell s c.args.thread c.args.rm (sym c.in_ok-check_line.ensures) in
+    let knows = (hearable (map_call name_of c.copy-call.result) a (sym c.can_hear.ensures ∙ c.if-not-can_hear.false)).known in
+    record {
+      sized = sized_by_failure s (book_in c.hear.new.self) (doubt_of (record_of knows.0 a)) (InHear (line c.args.thread c.args.rm)) c.in-Err.refusal
+          (c.in-Err.ensures.err may.up knows.0 knows.1);
+    }

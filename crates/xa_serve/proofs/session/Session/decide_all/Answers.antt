@@ -8,7 +8,7 @@ use Rattle.xa_tm.specs.Calls.{book_in, written_by}
 use Rattle.xa_tm.specs.InTurn.{decide_refusal, rows_added}
 use Rattle.xa_serve.proofs.Following.{follows_if_ok}
 use Rattle.xa_serve.proofs.Refusals.{no_fault_in_turn}
-use Rattle.xa_serve.proofs.Sessions.{concluded, concluded_refused, refusal_of_all_is}
+use Rattle.xa_serve.proofs.Sessions.{concluded, concluded_refused, refusal_of_all_is, sized_by_call}
 use Rattle.xa_serve.proofs.Turns.{decisions_lead, decisions_may}
 use Rattle.std.proofs.Common.{refl, subst}
 use Rattle.xa_serve.proofs.Headroom.{sound}
@@ -72,3 +72,14 @@ returns-clause-keeps g c =
       change = λ none fault. decisions_change o k gs (sound _ k c.requires.headroom) none (call.ensures.asked none fault);
       still = λ n. refl;
     }))
+
+pub invariant_of-self : goal.invariant_of-self
+invariant_of-self g c =
+    let s = c.args.self.now in
+    let k = book_in s.manager in
+    let gs = c.args.gtrids.now in
+    let call = c.decide_all-reply in
+    record {
+      sized = sized_by_call s call.new.self (decide_refusal c.args.outcome k gs) (rows_added c.args.outcome k gs) (InDecide (written_by c.args.outcome k gs)) (map (λ g. Decided g c.args.outcome) gs) call.result call.ensures.refused
+          call.ensures.ok call.ensures.err;
+    }

@@ -8,11 +8,10 @@ use Rattle.xa_tm.specs.InTurn.{done_refusal}
 use Rattle.xa_tm.specs.Calls.{book_in}
 use Rattle.xa_serve.proofs.Following.{follows_if_ok}
 use Rattle.xa_serve.proofs.Refusals.{no_fault_in_turn}
-use Rattle.xa_serve.proofs.Sessions.{concluded, concluded_refused, refusal_of_all_is}
+use Rattle.xa_serve.proofs.Sessions.{concluded, concluded_refused, refusal_of_all_is, sized_by_call}
 use Rattle.xa_serve.proofs.Turns.{done_lead, done_may}
 use Rattle.xa_serve.specs.Logging.{KeepsLog}
-use Rattle.std.proofs.Common.{ap, refl, subst}
-use Rattle.xa_serve.proofs.Headroom.{sound}
+use Rattle.std.proofs.Common.{refl, subst}
 use Rattle.xa_serve.proofs.Logging.{all_done, asked_keeps, removals_change}
 use Rattle.xa_serve.proofs.session.Session.done_all.Goals as goal
 use Rattle.xa_tm.specs.Book.{Doubt.Drops}
@@ -71,3 +70,14 @@ returns-clause-keeps g c =
       change = λ none fault. removals_change k gs none (call.ensures.asked fault);
       still = λ n. refl;
     }))
+
+pub invariant_of-self : goal.invariant_of-self
+invariant_of-self g c =
+    let s = c.args.self.now in
+    let k = book_in s.manager in
+    let gs = c.args.gtrids.now in
+    let call = c.done_all-reply in
+    record {
+      sized = sized_by_call s call.new.self (done_refusal k gs) (Drops gs) (InDone gs) (map (λ g. Done g) gs) call.result call.ensures.refused
+          call.ensures.ok call.ensures.err;
+    }

@@ -7,46 +7,46 @@ use Rattle.xa_model.specs.Trace.{Happening.Issued, line}
 use Rattle.xa_tm.specs.Book.{Doubt.NoDoubt}
 use Rattle.xa_tm.specs.Calls.{book_in}
 use Rattle.xa_serve.proofs.Lines.{all_with, may_issue_so}
-use Rattle.xa_serve.proofs.Recoveries.{line_took}
+use Rattle.xa_line.proofs.SeveralCalls.{line_took}
 use Rattle.xa_serve.proofs.Refusals.{known_issue}
-use Rattle.xa_serve.proofs.Sessions.{has_few, stays_by, step_leaves}
+use Rattle.xa_serve.proofs.Sessions.{has_few, if_err, sized_after, stays_by, step_leaves}
 use Rattle.xa_serve.proofs.Telling.{issued_follows}
 use Rattle.xa_serve.proofs.Logging.{quiet_keeps, same_book, same_issued}
 use Rattle.xa_serve.proofs.session.Session.issue.Goals as goal
 
-pub returns-in-Ok-note_issued-clause-ready : goal.returns-in-Ok-note_issued-clause-ready
-returns-in-Ok-note_issued-clause-ready g c =
+pub returns-clause-ready : goal.returns-clause-ready
+returns-clause-ready g c =
     let s = c.args.self.now in
     let t = c.args.thread in
     let r = c.args.rm in
-    let may = may_issue_so s t r c.args.call.now (sym c.may_issue.ensures ∙ c.in_default.is) in
+    let may = may_issue_so s t r c.args.call.now (sym c.in_ok-check_issue.ensures) in
     let known = known_issue (book_in s.manager) t r (map_call name_of c.args.call.now) may.book in
     let put =
     line_took (line_at s.lines t r) c.line_mut.result.now c.args.call.now c.copy.result c.issue.result c.issue.new.self c.line_mut.ensures.value c.copy.ensures
     c.issue.ensures.reason c.issue.ensures.accepted may.bar may.room in
-    step_leaves s _ NoDoubt (Issued (line t r) known.0) c.requires (has_few s may.tell.free) tt refl (c.in-Ok-note_issued.ensures.ok known.0 known.1)
+    step_leaves s _ NoDoubt (Issued (line t r) known.0) c.requires (has_few s may.tell.free) tt refl (c.in_ok-note_issued.ensures.ok known.0 known.1)
     (all_with s.lines t r c.issue.new.self c.line_mut.ensures.whole may.tell.has
     (ap (λ (l : Traffic). l.answers.waiting) put ∙ c.requires.heard t r may.tell.has) c.requires.heard)
 
-pub returns-in-Ok-note_issued-clause-lines : goal.returns-in-Ok-note_issued-clause-lines
-returns-in-Ok-note_issued-clause-lines g c =
+pub returns-clause-lines : goal.returns-clause-lines
+returns-clause-lines g c =
     let s = c.args.self.now in
     let t = c.args.thread in
     let r = c.args.rm in
-    let may = may_issue_so s t r c.args.call.now (sym c.may_issue.ensures ∙ c.in_default.is) in
+    let may = may_issue_so s t r c.args.call.now (sym c.in_ok-check_issue.ensures) in
     ap (with_line s.lines t r)
     (line_took (line_at s.lines t r) c.line_mut.result.now c.args.call.now c.copy.result c.issue.result c.issue.new.self c.line_mut.ensures.value c.copy.ensures
     c.issue.ensures.reason c.issue.ensures.accepted may.bar may.room)
 
-pub returns-in-Ok-note_issued-clause-follows : goal.returns-in-Ok-note_issued-clause-follows
-returns-in-Ok-note_issued-clause-follows g c = λ d is.
+pub returns-clause-follows : goal.returns-clause-follows
+returns-clause-follows g c = λ d is.
     let s = c.args.self.now in
     let t = c.args.thread in
     let r = c.args.rm in
-    let may = may_issue_so s t r c.args.call.now (sym c.may_issue.ensures ∙ c.in_default.is) in
+    let may = may_issue_so s t r c.args.call.now (sym c.in_ok-check_issue.ensures) in
     record {
       leads =
-          issued_follows s _ t r c.args.call.now d is may (c.in-Ok-note_issued.ensures.ok d is)
+          issued_follows s _ t r c.args.call.now d is may (c.in_ok-note_issued.ensures.ok d is)
           (ap (with_line s.lines t r)
           (line_took (line_at s.lines t r) c.line_mut.result.now c.args.call.now c.copy.result c.issue.result c.issue.new.self c.line_mut.ensures.value
           c.copy.ensures c.issue.ensures.reason c.issue.ensures.accepted may.bar may.room));
@@ -54,21 +54,32 @@ returns-in-Ok-note_issued-clause-follows g c = λ d is.
       states = λ b. refl;
     }
 
-pub returns-in-Err-clause-stays : goal.returns-in-Err-clause-stays
-returns-in-Err-clause-stays g c = stays_by c.args.self.now _ c.in-Err.ensures.err.1 c.in-Err.ensures.log
+pub returns-in_err-note_issued-clause-stays : goal.returns-in_err-note_issued-clause-stays
+returns-in_err-note_issued-clause-stays g c =
+    if_err c.from_residual-in_err-note_issued.result
+    (stays_by c.args.self.now _ refl refl refl c.in_err-note_issued.ensures.err.1 c.in_err-note_issued.ensures.log)
 
-pub returns-in-Ok-note_issued-clause-keeps : goal.returns-in-Ok-note_issued-clause-keeps
-returns-in-Ok-note_issued-clause-keeps g c =
+pub returns-clause-keeps : goal.returns-clause-keeps
+returns-clause-keeps g c =
     let s = c.args.self.now in
     let t = c.args.thread in
     let r = c.args.rm in
-    let may = may_issue_so s t r c.args.call.now (sym c.may_issue.ensures ∙ c.in_default.is) in
+    let may = may_issue_so s t r c.args.call.now (sym c.in_ok-check_issue.ensures) in
     let known = known_issue (book_in s.manager) t r (map_call name_of c.args.call.now) may.book in
-    quiet_keeps g.L.DecisionLog.moment s.manager c.note_issued.new.self c.in-Ok-note_issued.ensures.log
-    (same_issued (book_in s.manager) (book_in c.note_issued.new.self) (line t r) known.0 (c.in-Ok-note_issued.ensures.ok known.0 known.1))
+    quiet_keeps g.L.DecisionLog.moment s.manager c.note_issued.new.self c.in_ok-note_issued.ensures.log
+    (same_issued (book_in s.manager) (book_in c.note_issued.new.self) (line t r) known.0 (c.in_ok-note_issued.ensures.ok known.0 known.1))
 
-pub returns-in-Err-clause-keeps : goal.returns-in-Err-clause-keeps
-returns-in-Err-clause-keeps g c =
+pub returns-in_err-note_issued-clause-keeps : goal.returns-in_err-note_issued-clause-keeps
+returns-in_err-note_issued-clause-keeps g c =
     let s = c.args.self.now in
-    quiet_keeps g.L.DecisionLog.moment s.manager c.note_issued.new.self c.in-Err.ensures.log
-    (same_book (book_in s.manager) (book_in c.note_issued.new.self) c.in-Err.ensures.err.1)
+    quiet_keeps g.L.DecisionLog.moment s.manager c.note_issued.new.self c.in_err-note_issued.ensures.log
+    (same_book (book_in s.manager) (book_in c.note_issued.new.self) c.in_err-note_issued.ensures.err.1)
+
+pub invariant_of-self-2 : goal.invariant_of-self-2
+invariant_of-self-2 g c =
+    let s = c.args.self.now in
+    let t = c.args.thread in
+    let r = c.args.rm in
+    let may = may_issue_so s t r c.args.call.now (sym c.in_ok-check_issue.ensures) in
+    let known = known_issue (book_in s.manager) t r (map_call name_of c.args.call.now) may.book in
+    record { sized = sized_after s (book_in c.note_issued.new.self) NoDoubt (Issued (line t r) known.0) (c.in_ok-note_issued.ensures.ok known.0 known.1) }

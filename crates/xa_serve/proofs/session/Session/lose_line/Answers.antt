@@ -19,7 +19,7 @@ returns-clause-ready g c =
     let s = c.args.self.now in
     let t = c.args.thread in
     let r = c.args.rm in
-    let may = may_tell s t r (sym c.line_refusal.ensures ∙ c.in_default.is) in
+    let may = may_tell s t r (sym c.in_ok-check_line.ensures) in
     step_leaves s _ NoDoubt (Crashed (Parts.Line t r)) c.requires (has_few s may.free) tt refl c.crash.ensures.book
     (all_with s.lines t r c.renew.new.self c.line_mut.ensures.whole may.has (ap (λ (l : Traffic). l.answers.waiting) c.renew.ensures) c.requires.heard)
 
@@ -28,7 +28,7 @@ returns-clause-follows g c =
     let s = c.args.self.now in
     let t = c.args.thread in
     let r = c.args.rm in
-    let may = may_tell s t r (sym c.line_refusal.ensures ∙ c.in_default.is) in
+    let may = may_tell s t r (sym c.in_ok-check_line.ensures) in
     record {
       leads = lost_follows s _ t r may c.crash.ensures.book (ap (with_line s.lines t r) c.renew.ensures);
       counted = refl;

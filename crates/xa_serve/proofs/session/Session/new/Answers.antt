@@ -2,7 +2,7 @@ use Rattle.std.specs.Prelude.{Err}
 use Rattle.std.proofs.Common.{◌≡◌, [], false, ◌∙◌, ap, arith, refl, subst, sym}
 use Rattle.xa_base.specs.HeldBranch.{new_branch}
 use Rattle.xa_base.specs.Scan.{Scan.NotOpen}
-use Rattle.xa_line.specs.Grid.{IsWhole, line_at}
+use Rattle.xa_line.specs.Grid.{Grid, IsWhole, line_at}
 use Rattle.xa_line.specs.Histories.{LineStands}
 use Rattle.xa_line.proofs.GridLaws.{line_at-new_grid, whole-new_grid}
 use Rattle.xa_model.specs.Facts.Distinct.{ApartRows}
@@ -99,3 +99,25 @@ pub returns-in-Err-clause-log_fault : goal.returns-in-Err-clause-log_fault
 returns-in-Err-clause-log_fault g c = λ is.
     blamed_behind g.L.DecisionLog c.args.log c.rows.new.self c.in-Ok.rows c.in-Ok.ensures.reads
     (c.in-Err.ensures.log_fault (let same : c.in-Err.fault ≡ starts.Log = cc in ap (λ f. Err f) same))
+
+pub invariant_of-session : goal.invariant_of-session
+invariant_of-session g c =
+    let m = c.in-Ok-new-2.manager in
+    let o : Origin = record {
+      threads = c.args.threads;
+      rms = c.args.rms;
+      incarnation = (book_in m).incarnation;
+      rows = rows_begun m;
+      heuristic_rows = records_begun m;
+      held = λ r x. new_branch;
+      in_doubt = λ r. [];
+      scans = λ r. NotOpen;
+    } in
+    let is = c.in-Ok-new-2.ensures.started.book o
+    (record { threads_are = refl; rms_are = refl; incarnation = refl; rows = refl; records = refl }) in
+    record {
+      sized = (
+        ap (λ (k : Book). k.threads) is ∙ sym (ap (λ (l : Grid). l.threads) c.in-Ok-new.ensures),
+        ap (λ (k : Book). k.rms) is ∙ sym (ap (λ (l : Grid). l.rms) c.in-Ok-new.ensures),
+      );
+    }

@@ -4,15 +4,15 @@ use Rattle.xa_serve.proofs.session.Session.release.Goals as goal
 pub returns-clause-ready : goal.returns-clause-ready
 returns-clause-ready g c =
     let is = c.release.ensures in
-    release_ready c.args.self.now c.release.new.self c.args.gtrid c.release.result is.over is.released (λ e. is.same e) c.requires
+    release_ready c.args.self.now c.release.new.self _ c.args.gtrid c.release.result is.over is.released (λ e. is.same e) c.requires
 
 pub returns-clause-stands : goal.returns-clause-stands
 returns-clause-stands g c =
     let is = c.release.ensures in
-    release_stands c.args.self.now c.release.new.self c.args.gtrid c.release.result is.over is.released (λ e. is.same e)
+    release_stands c.args.self.now c.release.new.self _ c.args.gtrid c.release.result is.over is.released (λ e. is.same e)
 
 pub returns-clause-keeps : goal.returns-clause-keeps
 returns-clause-keeps g c =
     let is = c.release.ensures in
-    release_keeps g.L.DecisionLog.moment c.args.self.now (record c.args.self.now { manager = c.release.new.self }) c.args.gtrid c.release.result is.released
+    release_keeps g.L.DecisionLog.moment c.args.self.now.manager c.release.new.self c.args.gtrid c.release.result is.released
     (λ e. is.same e) is.log

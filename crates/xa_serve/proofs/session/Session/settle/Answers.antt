@@ -8,7 +8,7 @@ use Rattle.xa_tm.specs.Calls.{book_in}
 use Rattle.xa_tm.specs.Refusing.{refusal_in}
 use Rattle.xa_serve.proofs.Refusals.{begun_if_settled, no_fault}
 use Rattle.xa_serve.proofs.Following.{settled_follows, follows_if_ok}
-use Rattle.xa_serve.proofs.Sessions.{concluded, concluded_err, concluded_stays, refusal_is, room_for_one}
+use Rattle.xa_serve.proofs.Sessions.{concluded, concluded_err, concluded_refused, concluded_stays, refusal_is, room_for_one, sized_by_call}
 use Rattle.xa_serve.specs.Logging.{KeepsLog}
 use Rattle.std.proofs.Common.{subst}
 use Rattle.xa_serve.proofs.Headroom.{sound}
@@ -28,6 +28,14 @@ returns-clause-ready g c =
     (no_fault (book_in s.manager) (Steps.Settle c.args.gtrid)) c.settle-reply.ensures.refused
     (on_ok c.settle-reply.result _ _ (λ none. (begun_if_settled (book_in s.manager) c.args.gtrid none, tt)) c.settle-reply.ensures.allowed)
     c.settle-reply.ensures.ok c.settle-reply.ensures.err
+
+pub returns-clause-refused : goal.returns-clause-refused
+returns-clause-refused g c = λ n some.
+    let s = c.args.self.now in
+    concluded_refused s c.conclude.new.self _ 1 (refusal_in (book_in s.manager) (Steps.Settle c.args.gtrid)) _ c.settle-reply.result _ n
+    (refusal_is s (Steps.Settle c.args.gtrid) (sym c.is_over.ensures ∙ c.if-is_over.false)) (no_fault (book_in s.manager) (Steps.Settle c.args.gtrid))
+    (record { manager = c.conclude.ensures.manager; lines = c.conclude.ensures.lines; happenings = c.conclude.ensures.happenings })
+    c.conclude.ensures.value c.conclude.ensures.monitor c.settle-reply.ensures.refused some
 
 pub returns-clause-err : goal.returns-clause-err
 returns-clause-err g c =
@@ -81,3 +89,12 @@ returns-clause-keeps g c =
       change = λ none fault. settlement_changes k h (sound _ k c.requires.headroom) none;
       still = λ n. refl;
     }))
+
+pub invariant_of-self : goal.invariant_of-self
+invariant_of-self g c =
+    let s = c.args.self.now in
+    let call = c.settle-reply in
+    record {
+      sized = sized_by_call s call.new.self (refusal_in (book_in s.manager) (Steps.Settle c.args.gtrid)) (Adds (rows_for (book_in s.manager) (c.args.gtrid ∷ []))) (InDecide (c.args.gtrid ∷ [])) (Decided c.args.gtrid Outcomes.Commit ∷ []) call.result call.ensures.refused
+          call.ensures.ok call.ensures.err;
+    }
