@@ -1,11 +1,11 @@
 -- The calls of a line say what they say in a history.
-use Rattle.std.proofs.Common.{◌≡◌, refl, sym, ap, List, [], ◌∷◌, Bool, false, ◌||◌, Option, Some, None}
+use Rattle.std.proofs.Common.{◌≡◌, refl, sym, ap, ◌∙◌, List, [], ◌∷◌, Bool, false, not, ◌&&◌, ◌||◌, Option, Some, None}
 use Rattle.std.proofs.lemmas.Option.{none-some, same_Some}
-use Rattle.std.specs.List.{list_any}
+use Rattle.std.specs.List.{cons_option, filter_map, list_any}
 use Rattle.std.specs.Option.{option_map}
 use Rattle.xa_base.specs.Call.{map_call}
 use Rattle.xa_model.specs.Replies.History.{name_of}
-use Rattle.xa_base.specs.Opening.{opens, closes, has_opened, has_closed}
+use Rattle.xa_base.specs.Opening.{opens, closes, comes_unopened, has_opened, has_closed}
 use Rattle.xa_model.specs.Replies.Steps.{ours_of}
 use Rattle.xa_model.specs.Trace.{Call as KnownCall}
 use Rattle.xa_base.specs.Xid.{Xid}
@@ -68,3 +68,40 @@ opened_known calls ks e = some_known opens opens opens_known calls ks e
 
 pub closed_known : (calls : List (Call Xid)) (ks : List KnownCall) → AreKnownAs calls ks → has_closed calls ≡ has_closed ks
 closed_known calls ks e = some_known closes closes closes_known calls ks e
+
+pub unopened_known : (calls : List (Call Xid)) (ks : List KnownCall) (c : Call Xid) → AreKnownAs calls ks
+    → comes_unopened calls c ≡ comes_unopened ks (map_call name_of c)
+unopened_known calls ks c e = λ i. not (sym (opens_mapped name_of c) i) && not (opened_known calls ks e i)
+
+-- ** those of the calls that a history knows
+
+-- a call that no history knows is on another manager's branch, so it neither opens nor closes
+opens_unknown : (c : Call Xid) → known c ≡ None → opens c ≡ false
+opens_unknown Calls.OpenRm e = absurd (none-some _ (sym e))
+opens_unknown _ e = refl
+
+closes_unknown : (c : Call Xid) → known c ≡ None → closes c ≡ false
+closes_unknown Calls.CloseRm e = absurd (none-some _ (sym e))
+closes_unknown _ e = refl
+
+-- whether one of them passes a test that no other passes
+some_of_known : (test : Call Xid → Bool) (known_test : KnownCall → Bool)
+    → ((c : Call Xid) (k : KnownCall) → known c ≡ Some k → test c ≡ known_test k) → ((c : Call Xid) → known c ≡ None → test c ≡ false)
+    → (calls : List (Call Xid)) → list_any known_test (filter_map known calls) ≡ list_any test calls
+some_of_known test known_test alike fails [] = refl
+some_of_known test known_test alike fails (c ∷ cs) = by (known c) refl (some_of_known test known_test alike fails cs)
+  where
+    by : (o : Option KnownCall) → known c ≡ o → list_any known_test (filter_map known cs) ≡ list_any test cs
+        → list_any known_test (cons_option o (filter_map known cs)) ≡ (test c || list_any test cs)
+    by (Some k) e rest = λ i. sym (alike c k e) i || rest i
+    by None e rest = rest ∙ ap (λ b. b || list_any test cs) (sym (fails c e))
+
+pub opened_of_known : (calls : List (Call Xid)) → has_opened (filter_map known calls) ≡ has_opened calls
+opened_of_known calls = some_of_known opens opens opens_known opens_unknown calls
+
+pub closed_of_known : (calls : List (Call Xid)) → has_closed (filter_map known calls) ≡ has_closed calls
+closed_of_known calls = some_of_known closes closes closes_known closes_unknown calls
+
+-- an asked call that comes before any xa_open
+pub unopened_of_known : (calls : List (Call Xid)) (c : Call Xid) → comes_unopened (filter_map known calls) (map_call name_of c) ≡ comes_unopened calls c
+unopened_of_known calls c = λ i. not (opens_mapped name_of c i) && not (opened_of_known calls i)

@@ -1,5 +1,5 @@
 -- The lines of a system: one for each thread and each resource manager, both numbered from 0.
-use Rattle.std.specs.Prelude.{◌≡◌, ◌≢◌, ℕ, ◌+◌, ◌*◌, ◌<◌, List, length, slice_index_or, slice_set, replicate}
+use Rattle.std.specs.Prelude.{◌≡◌, ◌≢◌, ℕ, ◌+◌, ◌*◌, ◌<◌, Bool, ◌&&◌, nat_lt, List, length, slice_index_or, slice_set, replicate}
 use Rattle.xa_line.specs.Traffic.{Traffic, no_traffic}
 
 -- the lines of thread 0 in order of their resource managers, then those of thread 1, and so on
@@ -18,6 +18,10 @@ place g t r = t * g.rms + r
 
 abbrev pub HasLine : Grid → (thread rm : ℕ) → Type 0
 HasLine g t r = (t < g.threads) × (r < g.rms)
+
+-- whether the line is there
+abbrev pub has_line : Grid → (thread rm : ℕ) → Bool
+has_line g t r = nat_lt t g.threads && nat_lt r g.rms
 
 -- the traffic of that line
 abbrev pub line_at : Grid → (thread rm : ℕ) → Traffic

@@ -1,15 +1,18 @@
 -- What goes over a line, as histories know it.
-use Rattle.std.specs.Prelude.{◌≡◌, ◌++◌, List, map, Option, Some}
+use Rattle.std.specs.Prelude.{◌≡◌, ◌++◌, true, List, filter_map, length, map, Option, Some}
 use Rattle.std.specs.Option.{option_map}
 use Rattle.xa_base.specs.Answer.{map_answer}
 use Rattle.xa_base.specs.Call.{map_call}
 use Rattle.xa_model.specs.Facts as facts
 use Rattle.xa_model.specs.Replies.History.{name_of}
 use Rattle.xa_model.specs.Replies.Steps.{accepted}
+use Rattle.xa_model.specs.Replies.View.{LineView}
 use Rattle.xa_model.specs.Trace.{Happening, Line, Trace, Answer as KnownAnswer, Call as KnownCall}
 use Rattle.xa_base.specs.Xid.{Xid}
 use Rattle.xa_base.specs.declared.answer.Answer.{Answer}
 use Rattle.xa_base.specs.declared.call.Call.{Call}
+use Rattle.xa_base.specs.declared.state.Standing.TheVariants.{Unstarted}
+use Rattle.xa_line.specs.Grid.{Grid, line_at}
 use Rattle.xa_line.specs.Traffic.{Traffic, answered, heard, issued, taken}
 
 -- a call as a history knows it. None knows a call on another manager's identifier
@@ -45,3 +48,16 @@ pub record LineStands (tr : Trace) (l : Line) (t : Traffic) : Type 0 where
   pub all_answered : AreAnsweredAs (answered t) (facts.taken tr l)
   pub all_heard : AreAnsweredAs (heard t) (facts.heard tr l)
   pub each_answered : taken t ≡ map (λ p. p.0) (answered t)
+
+-- What the table of refusals sees of lines. Each resource manager is up, since the lines don't know better; and a recovery and a branch are
+-- nothing to them.
+abbrev pub lines_in : Grid → LineView
+lines_in g = record {
+  rm_up = λ r. true;
+  issued = λ l. filter_map known (issued (line_at g l.thread l.rm));
+  waiting = λ l. length (line_at g l.thread l.rm).calls.waiting;
+  unheard = λ l. length (line_at g l.thread l.rm).answers.waiting;
+  resolving = λ r. 0;
+  resolving_open = λ r. 0;
+  standing = λ b. Unstarted;
+}

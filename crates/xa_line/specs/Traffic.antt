@@ -1,10 +1,10 @@
 -- The traffic of a line since it was new or renewed: the calls to the resource manager, and the answers back.
 -- Which calls a line takes is the model's rule, over what the line itself has seen.
 use Rattle.xa_base.specs.declared.limits.TheConstants.{LINE_LIMIT}
-use Rattle.std.specs.Prelude.{ℕ, Bool, Option, Some, None, List, [], ◌∷◌, ◌++◌, length, nat_le, ◌≡◌, if◌then◌else◌}
+use Rattle.std.specs.Prelude.{ℕ, ◌+◌, Bool, not, Option, Some, None, List, [], ◌∷◌, ◌++◌, length, nat_le, nat_lt, ◌≡◌, if◌then◌else◌}
 use Rattle.std.specs.Option.{option_or}
 use Rattle.xa_base.specs.declared.answer.Answer.{Answer}
-use Rattle.xa_base.specs.Opening.{has_closed, comes_unopened}
+use Rattle.xa_base.specs.Opening.{has_closed, has_opened, comes_unopened}
 use Rattle.xa_base.specs.Xid.{Xid}
 use Rattle.xa_base.specs.declared.call.Call.{Call}
 use Rattle.xa_base.specs.declared.refusal.Refusal.{Refusal}
@@ -29,6 +29,10 @@ module _ {T : Type 0} where
   -- one item more waits, last
   abbrev pub with_one_more : Flow T → T → Flow T
   with_one_more f x = record { gone = f.gone; waiting = f.waiting ++ x ∷ [] }
+
+  -- several items more wait, last
+  abbrev pub with_more : Flow T → List T → Flow T
+  with_more f xs = record { gone = f.gone; waiting = f.waiting ++ xs }
 
   -- the oldest waiting item came out
   pub record PassesOn (f : Flow T) (x : T) (g : Flow T) : Type 0 where
@@ -71,6 +75,14 @@ is_full t = nat_le places (length t.calls.waiting)
 -- why a call may not follow those issued, the first reason that applies
 abbrev pub barred : (issued : List (Call Xid)) → Call Xid → Option Refusal
 barred calls call = if comes_unopened calls call then Some NotOpen else (if has_closed calls then Some Closed else None)
+
+-- why no other call than xa_open may follow those issued, the first reason that applies
+abbrev pub opening_refusal : (issued : List (Call Xid)) → Option Refusal
+opening_refusal calls = if not (has_opened calls) then Some NotOpen else (if has_closed calls then Some Closed else None)
+
+-- why so many calls more may not wait
+abbrev pub room_refusal : Traffic → (calls : ℕ) → Option Refusal
+room_refusal t n = if nat_lt places (length t.calls.waiting + n) then Some Full else None
 
 -- why a line refuses a call, the first reason that applies
 abbrev pub refusal : Traffic → Call Xid → Option Refusal

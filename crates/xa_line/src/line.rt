@@ -31,13 +31,14 @@ impl Model for Line {
 }
 
 impl Line {
-    ghost use Rattle.std.specs.Prelude.{◌≡◌, ◌+◌, ◌-◌, ◌≤◌, ◌↔◌, ◌∷◌, ◌++◌, [], length, slice_get};
-    ghost use Rattle.std.specs.Prelude.{IsErr, IfOk, IfErr, IfSome, IfNone, OnErr, OnOk, nat_lt};
+    ghost use Rattle.std.specs.Prelude.{◌≡◌, ◌+◌, ◌-◌, ◌≤◌, ◌↔◌, ◌∷◌, ◌++◌, [], length, slice_get, vec_len};
+    ghost use Rattle.std.specs.Prelude.{IsErr, IfOk, IfErr, IfSome, IfNone, OnErr, OnOk, false, nat_lt, true};
     ghost use Rattle.std.specs.Option.{option_copied};
     ghost use Rattle.std.specs.Result.{result_err};
     ghost use Rattle.xa_line.specs.Ends.{AreEndsOfOne, answered_by, heard_by, issued_by, taken_by};
     ghost use Rattle.xa_line.specs.Ends.{free_answers_of, free_calls_of, seen_answers_of, seen_calls_of};
-    ghost use Rattle.xa_line.specs.Traffic.{PassesOn, no_traffic, places, refusal, with_one_more};
+    ghost use Rattle.xa_line.specs.Traffic.{PassesOn, no_traffic, places, with_more, with_one_more};
+    ghost use Rattle.xa_line.specs.Traffic.{barred, opening_refusal, refusal, room_refusal};
     ghost use Rattle.xa_base.specs.Opening.{has_closed, has_opened};
     ghost use Rattle.xa_line.specs.Traffic.{answered, heard, issued, taken};
 
@@ -75,6 +76,49 @@ impl Line {
         self.latch = self.latch.after(&call);
         self.calls.push(call);
         Ok(())
+    }
+
+    /// Says why a call may not follow those that were issued, however few of them wait: the first reason that applies,
+    /// as [`Line::issue`] does.
+    pub fn check(&self, call: &Call) -> Result<(), Refusal>
+        ensures { result_err result ≡ barred (issued self.now) call.now }
+    {
+        self.latch.check(call)
+    }
+
+    /// The same for any call but xa_open.
+    pub fn check_open(&self) -> Result<(), Refusal>
+        ensures { result_err result ≡ opening_refusal (issued self.now) }
+    {
+        if !self.is_open() {
+            return Err(Refusal::NotOpen);
+        }
+        if self.is_closed() {
+            return Err(Refusal::Closed);
+        }
+        Ok(())
+    }
+
+    /// Refuses this many calls more, as [`Refusal::Full`], if they are too many to wait.
+    pub fn check_room(&self, count: usize) -> Result<(), Refusal>
+        ensures { result_err result ≡ room_refusal self.now count }
+    {
+        if self.is_full_for(count) {
+            return Err(Refusal::Full);
+        }
+        Ok(())
+    }
+
+    /// Lets these calls wait, in turn.
+    pub fn issue_all(&mut self, calls: Vec<Call>)
+        requires room { length self.old.calls.waiting + vec_len calls ≤ places }
+        requires open { has_opened (issued self.old) ≡ true }
+        requires unclosed { has_closed (issued self.old ++ calls.items) ≡ false }
+        ensures { self.new ≡ record self.old { calls = with_more self.old.calls calls.items } }
+    {
+        for call in calls {
+            let _ = self.issue(call);
+        }
     }
 
     /// Takes the oldest waiting call; None where none waits.

@@ -1,18 +1,15 @@
 -- Calls whose kind is any, and calls as histories know them.
-use Rattle.std.proofs.Common.{◌≡◌, ℕ, List, [], ◌∷◌, map, Bool, not, ◌&&◌, ◌||◌, Some, None, refl, sym, ap, ◌∙◌}
+use Rattle.std.proofs.Common.{◌≡◌, ℕ, Bool, Some, None, refl, ap, ◌∙◌}
 use Rattle.std.specs.Prelude.{if◌then◌else◌}
 use Rattle.xa_base.specs.Branch.{branch_eq}
 use Rattle.xa_model.specs.Facts.Standings.{moved_by}
 use Rattle.xa_base.specs.Call.{map_call}
 use Rattle.xa_model.specs.Facts as facts
-use Rattle.xa_model.specs.Replies.History.{name_of}
 use Rattle.xa_model.specs.Facts.InDoubt.{scan}
-use Rattle.xa_base.specs.Opening.{closes, comes_unopened, has_closed, has_opened, opens}
 use Rattle.xa_model.specs.Protocol.{RightAnswer}
 use Rattle.xa_base.specs.StateTable.{Kind, Kind.Start, Kind.Join, Kind.End, Kind.Prepare, Kind.Commit, Kind.OnePhase, Kind.Rollback, Kind.Forget, answer, asks_of, moved, on, state_of}
 use Rattle.xa_model.specs.Replies.Steps.{accepted}
 use Rattle.xa_model.specs.Trace.{Answer, Call, Happening.Took, Line, Name, Name.Foreign, Name.Ours, Trace, Trace.Then}
-use Rattle.xa_base.specs.Xid.{Xid}
 use Rattle.xa_base.specs.declared.answer.Answer.TheVariants.{Ret, Page}
 use Rattle.xa_base.specs.declared.branch.Branch.{Branch}
 use Rattle.xa_base.specs.declared.call.Call as Asking
@@ -20,7 +17,6 @@ use Rattle.xa_base.specs.declared.call.Call.TheVariants as Calls
 use Rattle.xa_base.specs.declared.code.Code.{Code}
 use Rattle.xa_base.proofs.StateLemmas.{asks_on}
 use Rattle.xa_base.proofs.Options.{some_is}
-use Rattle.xa_line.specs.Histories.{known}
 use Rattle.xa_system.specs.Trace.{IsHome}
 
 -- ** any kind
@@ -114,49 +110,3 @@ ours_back (Calls.Rollback (Ours b)) k e = ap (map_call Ours) (some_is _ _ e)
 ours_back (Calls.Rollback (Foreign z)) k e = absurd (cc)
 ours_back (Calls.Forget (Ours b)) k e = ap (map_call Ours) (some_is _ _ e)
 ours_back (Calls.Forget (Foreign z)) k e = absurd (cc)
-
--- ** what opens and closes a line
-
-opens_ours : (k : Call) → opens (map_call Ours k) ≡ opens k
-opens_ours Calls.OpenRm = refl
-opens_ours _ = refl
-
-opens_named : (c : Asking.Call Xid) → opens (map_call name_of c) ≡ opens c
-opens_named Calls.OpenRm = refl
-opens_named _ = refl
-
-opens_known : (call : Asking.Call Name) (k : Call) → accepted call ≡ Some k → opens call ≡ opens k
-opens_known call k e = ap opens (ours_back call k e) ∙ opens_ours k
-
-pub opened_alike : (calls : List (Asking.Call Xid)) (ks : List Call) → map known calls ≡ map Some ks → has_opened calls ≡ has_opened ks
-opened_alike [] [] e = refl
-opened_alike [] (k ∷ ks) e = absurd (cc)
-opened_alike (c ∷ cs) [] e = absurd (cc)
-opened_alike (c ∷ cs) (k ∷ ks) e =
-    let first : known c ≡ Some k = cc in
-    let rest : map known cs ≡ map Some ks = cc in
-    λ i. (sym (opens_named c) ∙ opens_known (map_call name_of c) k first) i || opened_alike cs ks rest i
-
-closes_ours : (k : Call) → closes (map_call Ours k) ≡ closes k
-closes_ours Calls.CloseRm = refl
-closes_ours _ = refl
-
-closes_named : (c : Asking.Call Xid) → closes (map_call name_of c) ≡ closes c
-closes_named Calls.CloseRm = refl
-closes_named _ = refl
-
-closes_known : (call : Asking.Call Name) (k : Call) → accepted call ≡ Some k → closes call ≡ closes k
-closes_known call k e = ap closes (ours_back call k e) ∙ closes_ours k
-
-pub closed_alike : (calls : List (Asking.Call Xid)) (ks : List Call) → map known calls ≡ map Some ks → has_closed calls ≡ has_closed ks
-closed_alike [] [] e = refl
-closed_alike [] (k ∷ ks) e = absurd (cc)
-closed_alike (c ∷ cs) [] e = absurd (cc)
-closed_alike (c ∷ cs) (k ∷ ks) e =
-    let first : known c ≡ Some k = cc in
-    let rest : map known cs ≡ map Some ks = cc in
-    λ i. (sym (closes_named c) ∙ closes_known (map_call name_of c) k first) i || closed_alike cs ks rest i
-
-pub unopened_alike : (calls : List (Asking.Call Xid)) (ks : List Call) (c : Asking.Call Xid) → map known calls ≡ map Some ks
-    → comes_unopened calls c ≡ comes_unopened ks (map_call name_of c)
-unopened_alike calls ks c e = λ i. not (sym (opens_named c) i) && not (opened_alike calls ks e i)

@@ -26,7 +26,7 @@ impl<R: ResourceManager + Drop, L: DecisionLog + Drop> System<R, L> {
             result ≡ Fates.Unstarted }
     {
         match xid.branch() {
-            Some(branch) if self.parts.has_line(branch.thread, branch.rm) => {
+            Some(branch) if self.parts.lines.has(branch.thread, branch.rm) => {
                 self.parts.sites[branch.rm as usize].rm.fate(xid)
             }
             _ => Fate::Unstarted,

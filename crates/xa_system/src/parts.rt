@@ -1,5 +1,5 @@
 //! What a step reads and changes.
-ghost use Rattle.std.specs.Prelude.{◌≡◌, ℕ, ◌&&◌, nat_lt};
+ghost use Rattle.std.specs.Prelude.{◌≡◌, ℕ};
 ghost use Rattle.xa_base.specs.declared.reply.Reply.TheVariants as Replies;
 ghost use Rattle.xa_base.specs.declared.step.Side.TheVariants as Sides;
 ghost use Rattle.xa_base.specs.declared.step.Step.TheVariants as Steps;
@@ -36,13 +36,6 @@ pub struct Parts<R: Drop, L: Drop> {
 }
 
 impl<R: ResourceManager + Drop, L: DecisionLog + Drop> Parts<R, L> {
-    /// Whether the system has the thread and the resource manager.
-    pub(crate) fn has_line(&self, thread: u32, rm: u32) -> bool
-        ensures { result ≡ (nat_lt thread self.now.lines.threads && nat_lt rm self.now.lines.rms) }
-    {
-        thread < self.lines.threads() && rm < self.lines.rms()
-    }
-
     /// Does a step, or refuses it.
     pub(crate) fn step(&mut self, step: &Step) -> Twin
         requires stands { StandsSomewhere (sees R.look L.moment) self.old }

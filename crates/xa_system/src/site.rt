@@ -1,15 +1,12 @@
 //! A resource manager of the system.
-ghost use Rattle.std.specs.Prelude.{◌≡◌, ◌≢◌, ◌≤◌, ◌<◌, ◌+◌, ◌++◌, true, false, length, vec_len, slice_get, IsSomeAnd, OnErr, IfOk};
-ghost use Rattle.std.specs.Result.{result_err};
+ghost use Rattle.std.specs.Prelude.{◌≡◌, ◌≢◌, ◌<◌, length, slice_get, IsSomeAnd, OnErr, IfOk};
 ghost use Rattle.xa_model.specs.Replies.History.{name_of};
-ghost use Rattle.xa_base.specs.Opening.{has_closed, has_opened};
 ghost use Rattle.xa_model.specs.Replies.ReadBack.{CallHasXid};
 ghost use Rattle.xa_model.specs.Replies.Guards.{is_at};
 ghost use Rattle.xa_base.specs.declared.reply.Reply.TheVariants as Replies;
 ghost use Rattle.xa_base.specs.declared.refusal.Refusal.TheVariants as Refusals;
 ghost use Rattle.xa_line.specs.Grid.{new_grid};
-ghost use Rattle.xa_line.specs.Traffic.{barred, issued, places};
-ghost use Rattle.xa_system.specs.Lines.{with_more};
+ghost use Rattle.xa_line.specs.Traffic.{places};
 ghost use Rattle.xa_system.specs.Steps.{AllCrash, Applies, AreCrashed, HearsOne, IsSame, Takes};
 
 use crate::spare::Spare;
@@ -101,19 +98,6 @@ pub(crate) fn crash_rms<R: ResourceManager>(rms: &mut Vec<R>)
     }
 }
 
-/// Whether a line that has room takes such a call.
-pub(crate) fn check_line(line: &Line, call: &Call) -> Result<(), Refusal>
-    ensures { result_err result ≡ barred (issued line.now) call.now }
-{
-    if !matches!(call, Call::OpenRm) && !line.is_open() {
-        return Err(Refusal::NotOpen);
-    }
-    if line.is_closed() {
-        return Err(Refusal::Closed);
-    }
-    Ok(())
-}
-
 /// The line's oldest answer, which is heard; `copy` is that answer too.
 pub(crate) fn heard(line: &mut Line, copy: Answer) -> Twin
     requires { IsSomeAnd (slice_get line.old.answers.waiting 0) (λ pair. pair.1 ≡ copy) }
@@ -155,17 +139,5 @@ pub(crate) fn is_at(xid: &Xid, rm: u32) -> bool
     match xid.branch() {
         Some(branch) => branch.rm == rm,
         None => false,
-    }
-}
-
-/// Lets calls wait on a line that has room for all of them, is open, and isn't closed by one of them.
-pub(crate) fn issue_all(line: &mut Line, calls: Vec<Call>)
-    requires room { length line.old.calls.waiting + vec_len calls ≤ places }
-    requires open { has_opened (issued line.old) ≡ true }
-    requires unclosed { has_closed (issued line.old ++ calls.items) ≡ false }
-    ensures { line.new ≡ record line.old { calls = with_more line.old.calls calls.items } }
-{
-    for call in calls {
-        let _ = line.issue(call);
     }
 }

@@ -1,8 +1,6 @@
 -- A call that is issued, or refused.
 use Rattle.std.proofs.Common.{◌≡◌, ◌≢◌, ◌-◌, ℕ, Bool, true, false, [], ◌∷◌, length, refl, sym, ap, ◌∙◌, subst, arith, append_assoc}
-use Rattle.std.specs.Prelude.{◌&&◌, not, if◌then◌else◌, Option, Some, None, Result, Ok, Err, OnOk, slice_get, nat_le, nat_lt}
-use Rattle.std.specs.Option.{option_or}
-use Rattle.std.specs.Result.{result_err}
+use Rattle.std.specs.Prelude.{◌&&◌, not, Option, Some, None, slice_get, nat_le, nat_lt}
 use Rattle.std.proofs.lemmas.Bool.Decides.{nat_tests}
 use Rattle.std.proofs.lemmas.List.{append-nil}
 use Rattle.xa_model.specs.Replies.Allowed.{Allowed, Allowed.As_value}
@@ -32,9 +30,9 @@ use Rattle.xa_model.proofs.Keys.{line_eq-refl}
 use Rattle.xa_model.proofs.Replies.Guards.{bar_of, issue_rule, issue_why, known_call as known_asked}
 use Rattle.xa_model.proofs.Replies.Replies.{allowed_right}
 use Rattle.xa_line.specs.Grid.{HasLine, line_at, with_line}
-use Rattle.xa_line.specs.Traffic.{Traffic, barred, heard, answered, issued, refusal, taken, with_one_more}
+use Rattle.xa_line.specs.Traffic.{Traffic, barred, heard, answered, issued, taken, with_one_more}
 use Rattle.xa_line.proofs.GridLaws.{whole-with_line}
-use Rattle.xa_system.proofs.OnBranch.{closed_alike, unopened_alike}
+use Rattle.xa_line.proofs.HistoryLaws.{closed_known, unopened_known}
 use Rattle.xa_line.specs.Histories.{LineStands, known as known_call}
 use Rattle.xa_system.specs.Parts.{OneMore, Sees, Stands}
 use Rattle.xa_system.specs.declared.parts.Parts.{Parts}
@@ -74,11 +72,6 @@ call_rule tr t r a run there up =
 call_is : (t r : ℕ) (a : Asked) (c : Call) → accepted a ≡ Some c → happened (Steps.Issue t r a) Replies.Issued ≡ Issued (line t r) c
 call_is t r a c e = ap (if_ours (λ k. Issued (line t r) k)) e
 
--- what a line did, where nothing refused the call
-pub issued_so : {P : Type 0} (result : Result (Unit {0}) Refusal) → result_err result ≡ None → OnOk result P → P
-issued_so (Ok u) e p = p
-issued_so (Err n) e p = absurd (cc)
-
 issued_line : (tr : Trace) (t r : ℕ) (c : Call) (call : Asking.Call Xid) (old new : Traffic) → known_call call ≡ Some c
     → LineStands tr (line t r) old → new ≡ record old { calls = with_one_more old.calls call } → LineStands (Then tr (Issued (line t r) c)) (line t r) new
 issued_line tr t r c call old new is stands put =
@@ -93,8 +86,8 @@ module _ {R L : Type 0} (see : Sees R L) where
       → bar_of (is_shut_to tr t r (map_call name_of call)) (facts.is_closed tr (line t r)) ≡ barred (issued (line_at parts.lines t r)) call
   same_bar tr parts t r call stands has =
       let alike = (stands.lines t r has).all_issued in
-      λ i. bar_of (sym (unopened_alike (issued (line_at parts.lines t r)) (facts.issued tr (line t r)) call alike) i)
-      (sym (closed_alike (issued (line_at parts.lines t r)) (facts.issued tr (line t r)) alike) i)
+      λ i. bar_of (sym (unopened_known (issued (line_at parts.lines t r)) (facts.issued tr (line t r)) call alike) i)
+      (sym (closed_known (issued (line_at parts.lines t r)) (facts.issued tr (line t r)) alike) i)
 
   -- and what the manager says of it
   same_call : (tr : Trace) (parts : Parts R L) (t r : ℕ) (call : Asking.Call Xid) → Stands see tr parts
@@ -194,13 +187,3 @@ is_full_at free n is zero_free = grind (arith, nat_tests)
 
 pub has_room_at : (free n : ℕ) → free ≡ 64 - n → free ≢ 0 → nat_le 64 n ≡ false
 has_room_at free n is some_free = grind (arith, nat_tests)
-
--- what a line that didn't refuse the call has
-pub line_took : (at read : Traffic) (call copied : Asking.Call Xid) (result : Result (Unit {0}) Refusal) (new : Traffic)
-    → read ≡ at → copied ≡ call → result_err result ≡ refusal read copied
-    → OnOk result (new ≡ record read { calls = with_one_more read.calls copied }) → barred (issued at) call ≡ None → nat_le 64 (length at.calls.waiting) ≡ false
-    → new ≡ record at { calls = with_one_more at.calls call }
-line_took at read call copied result new same copy reason accepted_so bar room =
-    let none : refusal at call ≡ None = λ i. option_or (bar i) (if room i then Some Refusals.Full else None) in
-    let done = issued_so result (reason ∙ (λ i. refusal (same i) (copy i)) ∙ none) accepted_so in
-    done ∙ λ i. record (same i) { calls = with_one_more (same i).calls (copy i) }

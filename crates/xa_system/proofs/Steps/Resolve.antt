@@ -1,18 +1,17 @@
 -- Recoveries: Resolve and ResolveOpen.
-use Rattle.std.proofs.Common.{◌≡◌, ◌≤◌, ◌<◌, ℕ, suc, Bool, true, false, List, [], ◌∷◌, ◌++◌, length, map, refl, sym, ap, ◌∙◌, subst, arith, append_assoc, length-append}
-use Rattle.std.specs.Prelude.{◌&&◌, ◌||◌, ◌+◌, not, if◌then◌else◌, Option, Some, None, nat_le, nat_lt, slice_get, Result, OnOk}
-use Rattle.std.specs.Result.{result_err}
+use Rattle.std.proofs.Common.{◌≡◌, ◌≤◌, ◌<◌, ℕ, Bool, true, false, List, [], ◌∷◌, ◌++◌, length, map, refl, sym, ap, ◌∙◌, subst, arith, append_assoc}
+use Rattle.std.specs.Prelude.{◌&&◌, ◌||◌, ◌+◌, not, if◌then◌else◌, Option, Some, None, nat_lt, slice_get}
+use Rattle.std.specs.Option.{option_or}
 use Rattle.std.proofs.lemmas.Bool.Decides.{nat_tests}
 use Rattle.std.proofs.lemmas.Bool.{lt-ltb, not-false}
 use Rattle.std.proofs.lemmas.List.{append-nil}
-use Rattle.std.specs.List.{list_any}
 use Rattle.std.proofs.lemmas.List.Folds.{list_any-append}
 use Rattle.xa_base.specs.StateTable.{on}
 use Rattle.xa_base.specs.Xid.{Xid}
 use Rattle.xa_model.specs.Replies.Allowed.{Allowed, Allowed.As_value}
 use Rattle.xa_model.specs.Facts as facts
 use Rattle.xa_model.specs.Replies.History.{reply_of, step_of}
-use Rattle.xa_base.specs.Opening.{closes, has_closed, has_opened, opens}
+use Rattle.xa_base.specs.Opening.{closes, has_closed, has_opened}
 use Rattle.xa_model.specs.Facts.{rm_up, waiting}
 use Rattle.xa_model.specs.Replies.ReadBack.{StepHasXids}
 use Rattle.xa_model.specs.Replies.Guards.{refusal_by}
@@ -30,7 +29,7 @@ use Rattle.xa_base.proofs.StateLemmas.{closes_on}
 use Rattle.xa_model.proofs.Keys.{line_eq-refl}
 use Rattle.xa_model.proofs.Replies.Replies.{allowed_right}
 use Rattle.xa_line.specs.Grid.{HasLine, line_at, with_line}
-use Rattle.xa_line.specs.Traffic.{Traffic, answered, barred, refusal, with_one_more, heard, issued, taken}
+use Rattle.xa_line.specs.Traffic.{Traffic, answered, heard, issued, opening_refusal, room_refusal, taken, with_more}
 use Rattle.xa_line.proofs.GridLaws.{whole-with_line}
 use Rattle.xa_log.specs.Content.{last_number}
 use Rattle.xa_tm.specs.declared.manager.Manager.{Manager}
@@ -38,16 +37,14 @@ use Rattle.xa_system.specs.LogInHistory.{LogFollows}
 use Rattle.xa_system.proofs.Log.Changes.{log_stays}
 use Rattle.xa_tm.specs.Calls.{book_in, log_in}
 use Rattle.xa_line.specs.Histories.{LineStands, known as known_call}
-use Rattle.xa_system.specs.Lines.{with_more}
 use Rattle.xa_system.specs.Parts.{GoesOn, HindersRecovery, OneMore, Sees, Stands, StandsSomewhere}
 use Rattle.xa_system.specs.declared.parts.Parts.{Parts}
 use Rattle.xa_system.specs.declared.site.Site.{Site}
 use Rattle.xa_system.proofs.Steps.Crash.{rm_there}
-use Rattle.xa_system.proofs.Steps.Issue.{line_took}
 use Rattle.xa_line.proofs.TrafficLaws.{as_many_calls, line_goes_on, same_length}
 use Rattle.xa_system.proofs.LineLaws.{line_stays}
 use Rattle.xa_system.proofs.Steps.OfManager.{book_then, with_manager}
-use Rattle.xa_system.proofs.OnBranch.{closed_alike, opened_alike}
+use Rattle.xa_line.proofs.HistoryLaws.{closed_known, opened_known}
 use Rattle.xa_system.proofs.Histories.Standing.{Follows, IsEvent, IsNothingTo, goes_as, has_line, lacking_goes, lines_with, refused_goes, site_stays, up_is}
 use Rattle.xa_tm.specs.Book.{Book, after, book_of}
 use Rattle.xa_tm.specs.Refusing.{live_in, resolved_in, resolved_open_in, resolving_calls_in, resolving_kind_in}
@@ -109,47 +106,14 @@ recovery_free false up rm_is_up shut closed full e = absurd (cc)
 room_for : (waits n : ℕ) → nat_lt 64 (waits + n) ≡ false → waits + n ≤ 64
 room_for waits n e = grind (arith, nat_tests, e)
 
+-- what the line says of one, if all are up
+line_says : (shut closed full : Bool) → recovery_why true true true shut closed full
+    ≡ option_or (if shut then Some Refusals.NotOpen else (if closed then Some Refusals.Closed else None)) (if full then Some Refusals.Full else None)
+line_says true closed full = refl
+line_says false true full = refl
+line_says false false full = refl
+
 -- ** what a line takes
-
-shut_not : (x : Bool) → (x && not true) ≡ false
-shut_not true = refl
-shut_not false = refl
-
-not_first : (a b : Bool) → (a || b) ≡ false → a ≡ false
-not_first false b e = refl
-not_first true b e = absurd (cc)
-
--- one call more of several that a line takes
-pub took_more : (old now : Traffic) (all yielded rest left : List (Asking.Call Xid)) (call : Asking.Call Xid) (count : ℕ)
-    (result : Result (Unit {0}) Refusal) (new : Traffic) → now ≡ record old { calls = with_more old.calls yielded } → all ≡ yielded ++ rest → rest ≡ call ∷ left
-    → length old.calls.waiting + count ≤ 64 → count ≡ length all → has_opened (issued old) ≡ true
-    → has_closed (issued old ++ all) ≡ false → result_err result ≡ refusal now call
-    → OnOk result (new ≡ record now { calls = with_one_more now.calls call })
-    → (new ≡ record old { calls = with_more old.calls (yielded ++ call ∷ []) }) × (all ≡ (yielded ++ call ∷ []) ++ left)
-took_more old now all yielded rest left call count result new here split first room many opened unclosed_all reason accepted =
-    let at = record old { calls = with_more old.calls yielded } in
-    let parted : all ≡ yielded ++ (call ∷ left) = split ∙ ap (λ xs. yielded ++ xs) first in
-    let open_now : has_opened (issued at) ≡ true =
-    ap has_opened (sym (append_assoc old.calls.gone old.calls.waiting yielded)) ∙ list_any-append opens (issued old) yielded
-    ∙ ap (λ b. b || list_any opens yielded) opened in
-    let so_far : has_closed (issued old ++ yielded) ≡ false =
-    not_first _ (list_any closes (call ∷ left))
-    (sym (list_any-append closes (issued old ++ yielded) (call ∷ left)) ∙ ap has_closed
-    (append_assoc (issued old) yielded (call ∷ left) ∙ ap (λ xs. issued old ++ xs) (sym parted)) ∙ unclosed_all) in
-    let closed_now : has_closed (issued at) ≡ false = ap has_closed (sym (append_assoc old.calls.gone old.calls.waiting yielded)) ∙ so_far in
-    let shut : (not (opens call) && not (has_opened (issued at))) ≡ false = ap (λ b. not (opens call) && not b) open_now ∙ shut_not (not (opens call)) in
-    let bar : barred (issued at) call ≡ None = λ i. if shut i then Some Refusals.NotOpen else (if closed_now i then Some Refusals.Closed else None) in
-    let number : length all ≡ length yielded + suc (length left) = ap length parted ∙ length-append yielded (call ∷ left) in
-    let waits : length (old.calls.waiting ++ yielded) ≡ length old.calls.waiting + length yielded = length-append old.calls.waiting yielded in
-    let free : nat_le 64 (length (old.calls.waiting ++ yielded)) ≡ false =
-    le_not (length (old.calls.waiting ++ yielded)) (omega (arith, room, many, number, waits)) in
-    let done = line_took at now call call result new here refl reason accepted bar free in (
-      done ∙ ap (λ ws. record old { calls = record { gone = old.calls.gone; waiting = ws } }) (append_assoc old.calls.waiting yielded (call ∷ [])),
-      parted ∙ sym (append_assoc yielded (call ∷ []) left),
-    )
-  where
-    le_not : (n : ℕ) → n < 64 → nat_le 64 n ≡ false
-    le_not n lt = grind (arith, nat_tests, lt)
 
 -- several calls wait
 more_issued : (tr : Trace) (e : Happening) (l : Line) (old new : Traffic) (calls : List (Asking.Call Xid)) → LineStands tr l old
@@ -271,11 +235,11 @@ module _ {R L : Type 0} (see : Sees R L) where
 
   same_open : (tr : Trace) (parts : Parts R L) (r : ℕ) → Stands see tr parts → HasLine parts.lines 0 r
       → has_opened (issued (line_at parts.lines 0 r)) ≡ facts.is_open tr (line 0 r)
-  same_open tr parts r stands has = opened_alike (issued (line_at parts.lines 0 r)) (facts.issued tr (line 0 r)) (stands.lines 0 r has).all_issued
+  same_open tr parts r stands has = opened_known (issued (line_at parts.lines 0 r)) (facts.issued tr (line 0 r)) (stands.lines 0 r has).all_issued
 
   same_closed : (tr : Trace) (parts : Parts R L) (r : ℕ) → Stands see tr parts → HasLine parts.lines 0 r
       → has_closed (issued (line_at parts.lines 0 r)) ≡ facts.is_closed tr (line 0 r)
-  same_closed tr parts r stands has = closed_alike (issued (line_at parts.lines 0 r)) (facts.issued tr (line 0 r)) (stands.lines 0 r has).all_issued
+  same_closed tr parts r stands has = closed_known (issued (line_at parts.lines 0 r)) (facts.issued tr (line 0 r)) (stands.lines 0 r has).all_issued
 
   -- as it is found
   pub recovery_found : (tr : Trace) (parts : Parts R L) (r n : ℕ) (site : Site R) → Stands see tr parts → r < parts.lines.rms
@@ -290,6 +254,18 @@ module _ {R L : Type 0} (see : Sees R L) where
       let many = as_many_calls tr (line 0 r) (line_at parts.lines 0 r) (stands.lines 0 r has) in
       λ i. recovery_why (there i) (sym (up_is see tr parts stands) i) (sym (stands.sites r site at).is_up i)
       (not (sym (same_open tr parts r stands has) i)) (sym (same_closed tr parts r stands has) i) (nat_lt 64 (sym many i + n))
+
+  -- if all are up, the line says what it is refused for
+  pub recovery_by_line : (tr : Trace) (parts : Parts R L) (r n : ℕ) (site : Site R) → Stands see tr parts → r < parts.lines.rms
+      → slice_get parts.sites.items r ≡ Some site → (book_in parts.manager).up ≡ true → site.is_up ≡ true
+      → recovery_why (has_rm tr r) (facts.up tr) (rm_up tr r) (not (facts.is_open tr (line 0 r))) (facts.is_closed tr (line 0 r))
+      (nat_lt 64 (waiting tr (line 0 r) + n))
+      ≡ option_or (opening_refusal (issued (line_at parts.lines 0 r))) (room_refusal (line_at parts.lines 0 r) n)
+  recovery_by_line tr parts r n site stands within at up site_up =
+      let here = line_at parts.lines 0 r in
+      recovery_found tr parts r n site stands within at
+      ∙ (λ i. recovery_why true (up i) (site_up i) (not (has_opened (issued here))) (has_closed (issued here)) (nat_lt 64 (length here.calls.waiting + n)))
+      ∙ line_says (not (has_opened (issued here))) (has_closed (issued here)) (nat_lt 64 (length here.calls.waiting + n))
 
   -- ** a recovery that nothing hinders
 
@@ -321,7 +297,7 @@ module _ {R L : Type 0} (see : Sees R L) where
         let free = recovery_free _ _ _ _ _ _ (sym (hinders tr at.1)) in
         list_any-append closes (issued x) calls
         ∙ unclosed _ _ (ap (λ t. has_closed (issued t)) is ∙ same_closed tr parts r at.1 (has_first tr parts r at.1 free.0) ∙ free.3)
-        (closed_alike calls ks are ∙ plain)
+        (closed_known calls ks are ∙ plain)
 
   -- ** Resolve
 

@@ -4,7 +4,7 @@ ghost use Rattle.xa_base.specs.declared.step.Step.TheVariants as Steps;
 ghost use Rattle.xa_system.specs.Parts.{GoesOn, StandsSomewhere, sees};
 
 use super::Parts;
-use crate::site::{check_line, heard, take, undone};
+use crate::site::{heard, take, undone};
 use crate::twin::Twin;
 use xa_base::{Call, Refusal, Reply};
 use xa_log::DecisionLog;
@@ -19,7 +19,7 @@ impl<R: ResourceManager + Drop, L: DecisionLog + Drop> Parts<R, L> {
         ensures { GoesOn (sees R.look L.moment) (Steps.Issue thread rm call.now) result self.old
             self.new }
     {
-        if !self.has_line(thread, rm) {
+        if !self.lines.has(thread, rm) {
             return Twin::refused(Refusal::Limit);
         }
         if !self.manager.is_up() {
@@ -28,7 +28,7 @@ impl<R: ResourceManager + Drop, L: DecisionLog + Drop> Parts<R, L> {
         if !self.sites[rm as usize].is_up {
             return Twin::refused(Refusal::RmDown);
         }
-        if let Err(refusal) = check_line(self.lines.line(thread, rm), call) {
+        if let Err(refusal) = self.lines.line(thread, rm).check(call) {
             return Twin::refused(refusal);
         }
         if let Some(refusal) = self.manager.may_issue(thread, rm, call) {
@@ -63,7 +63,7 @@ impl<R: ResourceManager + Drop, L: DecisionLog + Drop> Parts<R, L> {
         requires { StandsSomewhere (sees R.look L.moment) self.old }
         ensures { GoesOn (sees R.look L.moment) (Steps.Take thread rm) result self.old self.new }
     {
-        if !self.has_line(thread, rm) {
+        if !self.lines.has(thread, rm) {
             return Twin::refused(Refusal::Limit);
         }
         if !self.sites[rm as usize].is_up {
@@ -81,7 +81,7 @@ impl<R: ResourceManager + Drop, L: DecisionLog + Drop> Parts<R, L> {
         requires { StandsSomewhere (sees R.look L.moment) self.old }
         ensures { GoesOn (sees R.look L.moment) (Steps.Hear thread rm) result self.old self.new }
     {
-        if !self.has_line(thread, rm) {
+        if !self.lines.has(thread, rm) {
             return Twin::refused(Refusal::Limit);
         }
         if !self.manager.is_up() {

@@ -23,7 +23,7 @@ impl<R: ResourceManager + Drop, L: DecisionLog + Drop> Parts<R, L> {
         ensures { GoesOn (sees R.look L.moment) (Steps.Crash (KnownParts.Line thread rm)) result
             self.old self.new }
     {
-        if !self.has_line(thread, rm) {
+        if !self.lines.has(thread, rm) {
             return Twin::refused(Refusal::Limit);
         }
         if !self.manager.is_up() {

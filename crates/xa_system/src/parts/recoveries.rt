@@ -4,7 +4,6 @@ ghost use Rattle.xa_base.specs.declared.step.Step.TheVariants as Steps;
 ghost use Rattle.xa_system.specs.Parts.{GoesOn, HindersRecovery, StandsSomewhere, sees};
 
 use super::Parts;
-use crate::site::issue_all;
 use crate::twin::Twin;
 use xa_base::{Refusal, Reply};
 use xa_log::DecisionLog;
@@ -28,16 +27,8 @@ impl<R: ResourceManager + Drop, L: DecisionLog + Drop> Parts<R, L> {
             return Err(Refusal::RmDown);
         }
         let line = self.lines.line(0, rm);
-        if !line.is_open() {
-            return Err(Refusal::NotOpen);
-        }
-        if line.is_closed() {
-            return Err(Refusal::Closed);
-        }
-        if line.is_full_for(count) {
-            return Err(Refusal::Full);
-        }
-        Ok(())
+        line.check_open()?;
+        line.check_room(count)
     }
 
     /// The manager ends the branches that a resource manager listed last: all of them, or none.
@@ -51,7 +42,7 @@ impl<R: ResourceManager + Drop, L: DecisionLog + Drop> Parts<R, L> {
         }
         match self.manager.resolve(rm) {
             Ok(calls) => {
-                issue_all(self.lines.line_mut(0, rm), calls);
+                self.lines.line_mut(0, rm).issue_all(calls);
                 Twin::new(Reply::Resolved(count), Reply::Resolved(count))
             }
             Err(refusal) => Twin::refused(refusal),
@@ -69,7 +60,7 @@ impl<R: ResourceManager + Drop, L: DecisionLog + Drop> Parts<R, L> {
         }
         match self.manager.resolve_open(rm) {
             Ok(calls) => {
-                issue_all(self.lines.line_mut(0, rm), calls);
+                self.lines.line_mut(0, rm).issue_all(calls);
                 Twin::new(Reply::Resolved(count), Reply::Resolved(count))
             }
             Err(refusal) => Twin::refused(refusal),

@@ -9,12 +9,12 @@ use Rattle.xa_system.proofs.Steps.Crash.{crash_line_down, crash_line_leads, cras
 use Rattle.xa_system.proofs.Histories.Standing.{refused_goes, site_read}
 use Rattle.xa_system.proofs.parts.Parts.crash_line.Goals as goal
 
-pub returns-then-not-has_line : goal.returns-then-not-has_line
-returns-then-not-has_line g c =
+pub returns-then-not-has : goal.returns-then-not-has
+returns-then-not-has g c =
     let see = sees g.R.ResourceManager.look g.L.DecisionLog.moment in
     let p = c.args.self.now in
     refused_goes see (Steps.Crash (KnownParts.Line c.args.thread c.args.rm)) p c.refused.result Refusals.Limit tt c.refused.ensures
-    (λ tr stands. crash_line_limit see tr p c.args.thread c.args.rm (sym c.has_line.ensures ∙ c.if-not-has_line.true) stands)
+    (λ tr stands. crash_line_limit see tr p c.args.thread c.args.rm (sym c.has.ensures.value ∙ c.if-not-has.true) stands)
 
 pub returns-then-not-is_up : goal.returns-then-not-is_up
 returns-then-not-is_up g c =
@@ -22,7 +22,7 @@ returns-then-not-is_up g c =
     let p = c.args.self.now in
     refused_goes see (Steps.Crash (KnownParts.Line c.args.thread c.args.rm)) p c.refused-then-not-is_up.result Refusals.ManagerDown tt
     c.refused-then-not-is_up.ensures
-    (λ tr stands. crash_line_down see tr p c.args.thread c.args.rm (sym c.has_line.ensures ∙ c.if-not-has_line.false)
+    (λ tr stands. crash_line_down see tr p c.args.thread c.args.rm (sym c.has.ensures.value ∙ c.if-not-has.false)
     (sym c.is_up.ensures ∙ c.if-not-is_up.true) stands)
 
 pub returns-then-not-index : goal.returns-then-not-index
@@ -31,16 +31,16 @@ returns-then-not-index g c =
     let p = c.args.self.now in
     refused_goes see (Steps.Crash (KnownParts.Line c.args.thread c.args.rm)) p c.refused-then-not-index.result Refusals.RmDown tt
     c.refused-then-not-index.ensures
-    (λ tr stands. crash_line_rm_down see tr p c.args.thread c.args.rm c.index.result.now (sym c.has_line.ensures ∙ c.if-not-has_line.false)
+    (λ tr stands. crash_line_rm_down see tr p c.args.thread c.args.rm c.index.result.now (sym c.has.ensures.value ∙ c.if-not-has.false)
     (sym c.is_up.ensures ∙ c.if-not-is_up.false)
     (site_read see tr p c.args.thread c.args.rm c.index.result.now stands
-    (sym c.has_line.ensures ∙ c.if-not-has_line.false) c.index.ensures) c.if-not-index.true stands)
+    (sym c.has.ensures.value ∙ c.if-not-has.false) c.index.ensures) c.if-not-index.true stands)
 
 pub returns : goal.returns
 returns g c tr stands few =
     let see = sees g.R.ResourceManager.look g.L.DecisionLog.moment in
     let p = c.args.self.now in
-    let there = sym c.has_line.ensures ∙ c.if-not-has_line.false in
+    let there = sym c.has.ensures.value ∙ c.if-not-has.false in
     let at = site_read see tr p c.args.thread c.args.rm c.index_mut.result.now stands there c.index_mut.ensures.value in
     let up =
     same_up p.sites.items c.args.rm at (site_read see tr p c.args.thread c.args.rm c.index.result.now stands there c.index.ensures) c.if-not-index.false in

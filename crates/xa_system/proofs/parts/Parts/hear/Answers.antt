@@ -15,14 +15,14 @@ use Rattle.xa_system.proofs.Histories.Standing.{refused_goes, site_read}
 use Rattle.xa_system.proofs.Log.Changes.{log_undone}
 use Rattle.xa_system.proofs.parts.Parts.hear.Goals as goal
 
-pub returns-then-not-has_line : goal.returns-then-not-has_line
-returns-then-not-has_line g c =
+pub returns-then-not-has : goal.returns-then-not-has
+returns-then-not-has g c =
     let see = sees g.R.ResourceManager.look g.L.DecisionLog.moment in
     let p = c.args.self.now in
     let t = c.args.thread in
     let r = c.args.rm in
     refused_goes see (Steps.Hear t r) p c.refused.result Refusals.Limit tt c.refused.ensures
-    (λ tr stands. hear_limit see tr p t r (sym c.has_line.ensures ∙ c.if-not-has_line.true) stands)
+    (λ tr stands. hear_limit see tr p t r (sym c.has.ensures.value ∙ c.if-not-has.true) stands)
 
 pub returns-then-not-is_up : goal.returns-then-not-is_up
 returns-then-not-is_up g c =
@@ -30,7 +30,7 @@ returns-then-not-is_up g c =
     let p = c.args.self.now in
     let t = c.args.thread in
     let r = c.args.rm in
-    let there = sym c.has_line.ensures ∙ c.if-not-has_line.false in
+    let there = sym c.has.ensures.value ∙ c.if-not-has.false in
     refused_goes see (Steps.Hear t r) p c.refused-then-not-is_up.result Refusals.ManagerDown tt c.refused-then-not-is_up.ensures
     (λ tr stands. hear_found see tr p t r false _ there (sym c.is_up.ensures ∙ c.if-not-is_up.true) refl stands)
 
@@ -40,7 +40,7 @@ returns-then-not-index g c =
     let p = c.args.self.now in
     let t = c.args.thread in
     let r = c.args.rm in
-    let there = sym c.has_line.ensures ∙ c.if-not-has_line.false in
+    let there = sym c.has.ensures.value ∙ c.if-not-has.false in
     let up = sym c.is_up.ensures ∙ c.if-not-is_up.false in
     refused_goes see (Steps.Hear t r) p c.refused-then-not-index.result Refusals.RmDown tt c.refused-then-not-index.ensures
     (λ tr stands. hear_found see tr p t r true false there up
@@ -52,7 +52,7 @@ returns-in_default g c tr stands few =
     let p = c.args.self.now in
     let t = c.args.thread in
     let r = c.args.rm in
-    let there = sym c.has_line.ensures ∙ c.if-not-has_line.false in
+    let there = sym c.has.ensures.value ∙ c.if-not-has.false in
     let up = sym c.is_up.ensures ∙ c.if-not-is_up.false in
     let none =
     hear_found see tr p t r true true there up
@@ -66,7 +66,7 @@ returns-in_default-copy g c tr stands few =
     let p = c.args.self.now in
     let t = c.args.thread in
     let r = c.args.rm in
-    let there = sym c.has_line.ensures ∙ c.if-not-has_line.false in
+    let there = sym c.has.ensures.value ∙ c.if-not-has.false in
     let up = sym c.is_up.ensures ∙ c.if-not-is_up.false in
     let none =
     hear_found see tr p t r true true there up
@@ -89,7 +89,7 @@ hear-requires-clause-answers g c =
     let r = c.args.rm in
     let tr = c.requires.0 in
     let stands = c.requires.1 in
-    let there = sym c.has_line.ensures ∙ c.if-not-has_line.false in
+    let there = sym c.has.ensures.value ∙ c.if-not-has.false in
     let up = sym c.is_up.ensures ∙ c.if-not-is_up.false in
     let none =
     hear_found see tr p t r true true there up
@@ -105,7 +105,7 @@ hear-requires-clause-fits g c =
     let r = c.args.rm in
     let tr = c.requires.0 in
     let stands = c.requires.1 in
-    let there = sym c.has_line.ensures ∙ c.if-not-has_line.false in
+    let there = sym c.has.ensures.value ∙ c.if-not-has.false in
     let up = sym c.is_up.ensures ∙ c.if-not-is_up.false in
     let none =
     hear_found see tr p t r true true there up
@@ -119,7 +119,7 @@ returns-in-Ok-hear g c tr stands few =
     let p = c.args.self.now in
     let t = c.args.thread in
     let r = c.args.rm in
-    let there = sym c.has_line.ensures ∙ c.if-not-has_line.false in
+    let there = sym c.has.ensures.value ∙ c.if-not-has.false in
     let up = sym c.is_up.ensures ∙ c.if-not-is_up.false in
     let none =
     hear_found see tr p t r true true there up
@@ -145,7 +145,7 @@ returns-in-Err g c tr stands few =
     let p = c.args.self.now in
     let t = c.args.thread in
     let r = c.args.rm in
-    let there = sym c.has_line.ensures ∙ c.if-not-has_line.false in
+    let there = sym c.has.ensures.value ∙ c.if-not-has.false in
     let up = sym c.is_up.ensures ∙ c.if-not-is_up.false in
     let none =
     hear_found see tr p t r true true there up

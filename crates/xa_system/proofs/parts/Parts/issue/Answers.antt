@@ -9,9 +9,10 @@ use Rattle.xa_base.specs.declared.step.Step.TheVariants as Steps
 use Rattle.xa_model.proofs.Replies.Guards.{issue_why}
 use Rattle.xa_line.specs.Grid.{line_at}
 use Rattle.xa_line.specs.Traffic.{barred, issued}
+use Rattle.xa_line.proofs.SeveralCalls.{line_took}
 use Rattle.xa_tm.specs.Calls.{book_in}
 use Rattle.xa_system.specs.Parts.{sees}
-use Rattle.xa_system.proofs.Steps.Issue.{has_room_at, is_full_at, issue_did, issue_found, issue_limit, issue_manager_down, line_took}
+use Rattle.xa_system.proofs.Steps.Issue.{has_room_at, is_full_at, issue_did, issue_found, issue_limit, issue_manager_down}
 use Rattle.xa_system.proofs.Steps.OfManager.{sound_book}
 use Rattle.xa_system.proofs.Histories.Standing.{lacking_goes, refused_goes, site_read}
 use Rattle.xa_tm.specs.Refusing.{refusal_in}
@@ -26,15 +27,15 @@ note_issued-requires g c =
     let call = c.args.call.now in
     sound_book see p c.requires.stands
 
-pub returns-then-not-has_line : goal.returns-then-not-has_line
-returns-then-not-has_line g c =
+pub returns-then-not-has : goal.returns-then-not-has
+returns-then-not-has g c =
     let see = sees g.R.ResourceManager.look g.L.DecisionLog.moment in
     let p = c.args.self.now in
     let t = c.args.thread in
     let r = c.args.rm in
     let call = c.args.call.now in
     refused_goes see (Steps.Issue t r call) p c.refused.result Refusals.Limit c.requires.has_xid c.refused.ensures
-    (λ tr stands. issue_limit see tr p t r call (sym c.has_line.ensures ∙ c.if-not-has_line.true) stands)
+    (λ tr stands. issue_limit see tr p t r call (sym c.has.ensures.value ∙ c.if-not-has.true) stands)
 
 pub returns-then-not-is_up : goal.returns-then-not-is_up
 returns-then-not-is_up g c =
@@ -43,7 +44,7 @@ returns-then-not-is_up g c =
     let t = c.args.thread in
     let r = c.args.rm in
     let call = c.args.call.now in
-    let there = sym c.has_line.ensures ∙ c.if-not-has_line.false in
+    let there = sym c.has.ensures.value ∙ c.if-not-has.false in
     refused_goes see (Steps.Issue t r call) p c.refused-then-not-is_up.result Refusals.ManagerDown c.requires.has_xid c.refused-then-not-is_up.ensures
     (λ tr stands. issue_manager_down see tr p t r call there (sym c.is_up.ensures ∙ c.if-not-is_up.true) stands)
 
@@ -54,7 +55,7 @@ returns-then-not-index g c =
     let t = c.args.thread in
     let r = c.args.rm in
     let call = c.args.call.now in
-    let there = sym c.has_line.ensures ∙ c.if-not-has_line.false in
+    let there = sym c.has.ensures.value ∙ c.if-not-has.false in
     let up = sym c.is_up.ensures ∙ c.if-not-is_up.false in
     refused_goes see (Steps.Issue t r call) p c.refused-then-not-index.result Refusals.RmDown c.requires.has_xid c.refused-then-not-index.ensures
     (λ tr stands. issue_found see tr p t r c.index.result.now call stands there up
@@ -69,9 +70,9 @@ returns-in-Err g c =
     let t = c.args.thread in
     let r = c.args.rm in
     let call = c.args.call.now in
-    let there = sym c.has_line.ensures ∙ c.if-not-has_line.false in
+    let there = sym c.has.ensures.value ∙ c.if-not-has.false in
     let up = sym c.is_up.ensures ∙ c.if-not-is_up.false in
-    let barred_so = sym (c.check_line.ensures ∙ ap (λ l. barred (issued l) call) c.line.ensures.value) ∙ ap result_err c.in-Err.is in
+    let barred_so = sym (c.check.ensures ∙ ap (λ l. barred (issued l) call) c.line.ensures.value) ∙ ap result_err c.in-Err.is in
     refused_goes see (Steps.Issue t r call) p c.refused-in-Err.result c.in-Err.refusal c.requires.has_xid c.refused-in-Err.ensures
     (λ tr stands. issue_found see tr p t r c.index.result.now call stands there up
     (site_read see tr p t r c.index.result.now stands there c.index.ensures)
@@ -85,9 +86,9 @@ returns-in-Some g c =
     let t = c.args.thread in
     let r = c.args.rm in
     let call = c.args.call.now in
-    let there = sym c.has_line.ensures ∙ c.if-not-has_line.false in
+    let there = sym c.has.ensures.value ∙ c.if-not-has.false in
     let up = sym c.is_up.ensures ∙ c.if-not-is_up.false in
-    let barred_so = sym (c.check_line.ensures ∙ ap (λ l. barred (issued l) call) c.line.ensures.value) ∙ ap result_err c.in_default.is in
+    let barred_so = sym (c.check.ensures ∙ ap (λ l. barred (issued l) call) c.line.ensures.value) ∙ ap result_err c.in_default.is in
     refused_goes see (Steps.Issue t r call) p c.refused-in-Some.result c.in-Some.refusal c.requires.has_xid
     c.refused-in-Some.ensures
     (λ tr stands. issue_found see tr p t r c.index.result.now call stands there up
@@ -102,9 +103,9 @@ returns-then-free_calls-eq0 g c =
     let t = c.args.thread in
     let r = c.args.rm in
     let call = c.args.call.now in
-    let there = sym c.has_line.ensures ∙ c.if-not-has_line.false in
+    let there = sym c.has.ensures.value ∙ c.if-not-has.false in
     let up = sym c.is_up.ensures ∙ c.if-not-is_up.false in
-    let barred_so = sym (c.check_line.ensures ∙ ap (λ l. barred (issued l) call) c.line.ensures.value) ∙ ap result_err c.in_default.is in
+    let barred_so = sym (c.check.ensures ∙ ap (λ l. barred (issued l) call) c.line.ensures.value) ∙ ap result_err c.in_default.is in
     let free = sym c.may_issue.ensures ∙ c.in_default-may_issue.is in
     let full =
     is_full_at c.free_calls.result (length (line_at p.lines t r).calls.waiting)
@@ -121,9 +122,9 @@ returns-in-Err-note_issued g c tr stands few =
     let t = c.args.thread in
     let r = c.args.rm in
     let call = c.args.call.now in
-    let there = sym c.has_line.ensures ∙ c.if-not-has_line.false in
+    let there = sym c.has.ensures.value ∙ c.if-not-has.false in
     let up = sym c.is_up.ensures ∙ c.if-not-is_up.false in
-    let barred_so = sym (c.check_line.ensures ∙ ap (λ l. barred (issued l) call) c.line.ensures.value) ∙ ap result_err c.in_default.is in
+    let barred_so = sym (c.check.ensures ∙ ap (λ l. barred (issued l) call) c.line.ensures.value) ∙ ap result_err c.in_default.is in
     let free = sym c.may_issue.ensures ∙ c.in_default-may_issue.is in
     let full =
     has_room_at c.free_calls.result (length (line_at p.lines t r).calls.waiting)
@@ -141,9 +142,9 @@ returns g c tr stands few =
     let t = c.args.thread in
     let r = c.args.rm in
     let call = c.args.call.now in
-    let there = sym c.has_line.ensures ∙ c.if-not-has_line.false in
+    let there = sym c.has.ensures.value ∙ c.if-not-has.false in
     let up = sym c.is_up.ensures ∙ c.if-not-is_up.false in
-    let barred_so = sym (c.check_line.ensures ∙ ap (λ l. barred (issued l) call) c.line.ensures.value) ∙ ap result_err c.in_default.is in
+    let barred_so = sym (c.check.ensures ∙ ap (λ l. barred (issued l) call) c.line.ensures.value) ∙ ap result_err c.in_default.is in
     let free = sym c.may_issue.ensures ∙ c.in_default-may_issue.is in
     let full =
     has_room_at c.free_calls.result (length (line_at p.lines t r).calls.waiting)

@@ -1,8 +1,7 @@
 use Rattle.std.proofs.Common.{sym, ap, ◌∙◌}
 use Rattle.std.specs.Result.{result_err}
-use Rattle.xa_line.specs.Traffic.{Traffic}
 use Rattle.xa_tm.specs.Calls.{book_in}
-use Rattle.xa_system.specs.Lines.{with_more}
+use Rattle.xa_line.specs.Traffic.{Traffic, with_more}
 use Rattle.xa_system.specs.Parts.{sees}
 use Rattle.xa_system.proofs.Steps.Resolve.{resolved_closes_none, recovery_open, recovery_room, recovery_unclosed, resolve_did, resolve_hindered, resolve_lacks}
 use Rattle.xa_tm.specs.Refusing.{resolved_in}
@@ -48,7 +47,7 @@ returns-in-Ok g c =
     let p = c.args.self.now in
     let r = c.args.rm in
     let put = c.issue_all.ensures ∙ ap (λ (t : Traffic). record t { calls = with_more t.calls c.in-Ok.calls.items }) c.line_mut.ensures.value in
-    resolve_did see p r c.resolve_len-count.result c.in-Ok.calls.items c.issue_all.new.line c.new.result c.new.ensures c.resolve_len-count.ensures
+    resolve_did see p r c.resolve_len-count.result c.in-Ok.calls.items c.issue_all.new.self c.new.result c.new.ensures c.resolve_len-count.ensures
     (λ tr stands. sym (ap result_err c.in_default.is) ∙ c.check_recovery.ensures tr stands) c.in-Ok.ensures.ok put
 
 pub returns-in-Err-resolve : goal.returns-in-Err-resolve

@@ -1,10 +1,9 @@
 use Rattle.std.proofs.Common.{refl, sym, ap, ◌∙◌}
 use Rattle.std.specs.Result.{result_err}
-use Rattle.xa_line.specs.Traffic.{Traffic}
 use Rattle.xa_tm.specs.Calls.{book_in}
 use Rattle.xa_model.specs.Trace.{Happening.ResolvedOpen}
 use Rattle.xa_system.proofs.Log.Changes.{log_kept}
-use Rattle.xa_system.specs.Lines.{with_more}
+use Rattle.xa_line.specs.Traffic.{Traffic, with_more}
 use Rattle.xa_system.specs.Parts.{sees}
 use Rattle.xa_system.proofs.Steps.Resolve.{open_closes_none, recovery_open, recovery_room, recovery_unclosed, open_did, open_hindered, open_lacks}
 use Rattle.xa_tm.specs.Refusing.{resolved_open_in}
@@ -50,7 +49,7 @@ returns-in-Ok g c =
     let p = c.args.self.now in
     let r = c.args.rm in
     let put = c.issue_all.ensures ∙ ap (λ (t : Traffic). record t { calls = with_more t.calls c.in-Ok.calls.items }) c.line_mut.ensures.value in
-    open_did see p r c.resolve_open_len-count.result c.in-Ok.calls.items c.issue_all.new.line c.resolve_open.new.self c.new.result c.new.ensures
+    open_did see p r c.resolve_open_len-count.result c.in-Ok.calls.items c.issue_all.new.self c.resolve_open.new.self c.new.result c.new.ensures
     c.resolve_open_len-count.ensures (λ tr stands. sym (ap result_err c.in_default.is) ∙ c.check_recovery.ensures tr stands) c.in-Ok.ensures.calls put c.in-Ok.ensures.ok
     (λ tr. log_kept see.moment (ResolvedOpen r) p.manager c.resolve_open.new.self (λ n. refl) c.in-Ok.ensures.log c.in-Ok.ensures.tied)
 

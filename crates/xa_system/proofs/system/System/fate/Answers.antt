@@ -8,7 +8,7 @@ use Rattle.xa_system.proofs.system.System.fate.Goals as goal
 pub returns-in_Some-branch-clause-own : goal.returns-in_Some-branch-clause-own
 returns-in_Some-branch-clause-own g c b own e =
     let see = observes g.R.ResourceManager.look g.L.DecisionLog.moment in
-    let there = sym c.has_line.ensures ∙ c.if-has_line.true in
+    let there = sym c.has.ensures.value ∙ c.if-has.true in
     let found = c.in_Some-branch.branch in
     let at = site_read _ _ c.self.inside.parts found.thread found.rm c.index.result.now c.self.invariant.stands there c.index.ensures in
     subst (λ v. c.fate.result ≡ fate (trace_in see.look v) b) c.self.view_is
