@@ -5,7 +5,7 @@ use Rattle.xa_workers.proofs.verify.taken_rms.Goals as goal
 
 pub loop-left-preserved : goal.loop-left-preserved
 loop-left-preserved g c =
-    let here : c.in-Some.left.rm.number ≡ length c.loop-left.rms.items = search rules in
+    let here : c.into_inner-rm.result.rm.number ≡ length c.loop-left.rms.items = search rules in
     let last : HasOnly (g.J.Run.is_own (length c.loop-left.rms.items)) c.into_rm.result =
     subst (λ (m : ℕ). HasOnly (g.J.Run.is_own m) c.into_rm.result) here c.into_rm.ensures in (
       tt,
