@@ -53,6 +53,7 @@ pub(crate) enum Yielded {
 pub(crate) struct Idle {
     /// How often it looks before it yields: not at all where workers share processors.
     most_looks: u32,
+    most_yields: u32,
     looks: u32,
     yields: u32,
     announced: bool,
@@ -93,12 +94,23 @@ impl Idle {
     pub(crate) fn new(most_looks: u32) -> Idle {
         Idle {
             most_looks,
+            most_yields: MOST_YIELDS,
             looks: 0,
             yields: 0,
             announced: false,
             sleeps: u32::from(most_looks > 0),
             penalty: FIRST_SLEEPS,
             short: 0,
+        }
+    }
+
+    /// A resource manager's worker that has just begun. Where workers share processors it sleeps at once, and the threads that
+    /// call serve themselves.
+    pub(crate) fn new_rm(most_looks: u32) -> Idle {
+        let most_yields = if most_looks > 0 { MOST_YIELDS } else { 0 };
+        Idle {
+            most_yields,
+            ..Idle::new(most_looks)
         }
     }
 
@@ -120,12 +132,22 @@ impl Idle {
         pause
     }
 
+    /// Whether the worker is to look again at once.
+    pub(crate) fn look_again(&mut self) -> bool {
+        if self.sleeps > 0 || self.looks >= self.most_looks {
+            return false;
+        }
+        self.looks += 1;
+        hint::spin_loop();
+        true
+    }
+
     fn next(&mut self) -> Pause {
         if self.sleeps == 0 && self.looks < self.most_looks {
             self.looks += 1;
             return Pause::Spin;
         }
-        if self.sleeps == 0 && self.yields < MOST_YIELDS {
+        if self.sleeps == 0 && self.yields < self.most_yields {
             self.yields += 1;
             return Pause::Yield;
         }

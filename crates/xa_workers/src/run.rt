@@ -17,13 +17,14 @@ use crate::fault::Halt;
 use crate::halts::{end_of, first_fault};
 use crate::journal::{Journal, write_rows};
 use crate::limits::JOB_LIMIT;
+use crate::serve::Served;
 use crate::signals::Signals;
-use crate::start::{Hands, Joined, Team, start_all};
+use crate::start::{Hands, Joined, Team, start_all, to_serve};
 use crate::verify::{Work, verified_outcomes};
 use crate::{Board, Gate, Jobs, Outcomes, WorkFault};
 use std::alloc::Global;
 use std::marker::{Brand, PhantomData};
-use std::sync::Wait;
+use std::sync::{Mutex, Wait};
 use std::thread;
 use std::thread::{Scope, Threads};
 use std::time::Clock;
@@ -39,9 +40,9 @@ fn work_of<J: Run, L: Drop>(
 ) -> Result<Work<J, L>, WorkFault>
     // All ended well, those too that left nothing to work with.
     ensures started { IfOk result (λ _. IsOk started × IsOk logged) }
-    ensures swept { IfOk result (λ _. IsOk joined.swept) }
+    ensures ended { IfOk result (λ _. IsOk joined.swept × IsOk joined.served) }
     ensures left { IfOk result (λ work. (joined.controlled ≡ Ok work.controlled)
-        × (joined.served ≡ Ok work.served) × (work.journal ≡ journal)) }
+        × (work.journal ≡ journal)) }
 
     ensures fault { IfErr result (λ fault. fault ≡ first_told (started ∷ logged
         ∷ end_of joined.controlled ∷ end_of joined.swept ∷ end_of joined.served ∷ [])) }
@@ -59,9 +60,8 @@ fn work_of<J: Run, L: Drop>(
         end_of(&served),
     ]);
     match (started, logged, controlled, swept, served) {
-        (Ok(()), Ok(()), Ok(controlled), Ok(_), Ok(served)) => Ok(Work {
+        (Ok(()), Ok(()), Ok(controlled), Ok(_), Ok(_)) => Ok(Work {
             controlled,
-            served,
             journal,
         }),
         _ => Err(fault),
@@ -81,6 +81,7 @@ fn run_crew<
     rt: &'s R,
     alloc: Global,
     crew: &'s Crew<'s, J, G>,
+    served: &'s Vec<Mutex<Served<J>>>,
     hands: Hands<J>,
     mut journal: Journal<L>,
 ) -> Result<Work<J, L>, WorkFault>
@@ -92,7 +93,7 @@ fn run_crew<
         HasRowsOf L.DecisionLog crew.now.jobs.now crew.now.incarnation work.journal) }
 {
     let mut team = Team::new(alloc);
-    let started = start_all(scope, rt, alloc, crew, hands, &mut team);
+    let started = start_all(scope, rt, alloc, crew, served, hands, &mut team);
     if started.is_err() {
         crew.signals.stop();
     }
@@ -114,6 +115,7 @@ fn run_all<
     rt: &R,
     alloc: Global,
     crew: &Crew<'_, J, G>,
+    served: &Vec<Mutex<Served<J>>>,
     hands: Hands<J>,
     journal: Journal<L>,
 ) -> Result<Work<J, L>, WorkFault>
@@ -135,7 +137,7 @@ fn run_all<
             ensures kept { IfOk result (λ work.
                 HasRowsOf L.DecisionLog crew.entry.now.jobs.now
                 crew.entry.now.incarnation work.journal) }
-        { run_crew(scope, rt, alloc, crew, hands, journal) },
+        { run_crew(scope, rt, alloc, crew, served, hands, journal) },
     )
 }
 
@@ -194,12 +196,12 @@ fn run_named<
     };
     let hands = Hands::<J> {
         threads: by_thread(alloc, jobs, issuers)?,
-        rms: by_rm(alloc, jobs, takers)?,
         seat,
     };
+    let served = to_serve(alloc, jobs, incarnation, by_rm(alloc, jobs, takers)?)?;
     let journal = Journal::new(alloc, jobs, incarnation, first, log)?;
-    let work = run_all(rt, alloc, &crew, hands, journal)?;
-    verified_outcomes(alloc, jobs, incarnation, work)
+    let work = run_all(rt, alloc, &crew, &served, hands, journal)?;
+    verified_outcomes(alloc, jobs, incarnation, work, served)
 }
 
 /// Runs the jobs by two-phase commit with presumed rollback (XA, section 2.3): one worker for each thread of control, one
@@ -214,7 +216,8 @@ fn run_named<
 /// What a job's last calls are answered is heard together with the votes of the thread's next job, so that each job takes one
 /// round trip. All answers were heard when it returns outcomes.
 ///
-/// A worker with nothing to do looks again for a while, yields, and then sleeps until it is woken. Before it writes, the log's
+/// A worker with nothing to do looks again for a while, yields, and then sleeps until it is woken. A thread of control that waits
+/// for an answer serves its line itself, if the resource manager's worker doesn't look for calls. Before it writes, the log's
 /// worker waits a little for further rows. The clock tells only how long yields and writes take, and so how long is waited.
 ///
 /// The clauses say what the jobs came to, for some incarnation that the log gave: `ends`, that each job ended as its

@@ -5,9 +5,10 @@ use crate::crew::Crew;
 use crate::fault::Halt;
 use crate::numbered::NumberedIssuer;
 use crate::patience::Idle;
+use crate::serve::Served;
 use crate::{Gate, WorkFault};
 use std::alloc::Global;
-use std::sync::Wait;
+use std::sync::{Mutex, Wait};
 use std::time::Clock;
 use xa_base::{Answer, Branch, Call, Code, Outcome, Refusal};
 
@@ -51,6 +52,7 @@ pub(crate) struct ThreadLines<'a, J: Run, G> {
     pub(crate) crew: &'a Crew<'a, J, G>,
     pub(crate) thread: u32,
     pub(crate) ends: Vec<NumberedIssuer<J>>,
+    pub(crate) served: &'a Vec<Mutex<Served<J>>>,
     pub(crate) idle: Idle,
 }
 
@@ -67,8 +69,8 @@ impl<'a, J: Run, G: Gate> ThreadLines<'a, J, G> {
         Ok(())
     }
 
-    /// The votes of a job with these branches. All its calls are on their lines before a resource manager is woken, behind
-    /// the last ones of the thread's job before, which `told` were sent. All are answered before this returns.
+    /// The votes of a job with these branches. All its calls are on their lines before the thread waits for an answer, behind
+    /// the last ones of its job before, which `told` were sent. All are answered before this returns.
     pub(crate) fn votes<R: Wait + Clock>(
         &mut self,
         rt: &R,
@@ -79,7 +81,6 @@ impl<'a, J: Run, G: Gate> ThreadLines<'a, J, G> {
         self.send(rt, Phase::Start, branches)?;
         self.send(rt, Phase::End, branches)?;
         self.send(rt, Phase::Prepare, branches)?;
-        self.wake(branches);
         self.hear_last(rt, alloc, told)?;
         self.hear_each(rt, alloc, branches)?;
         self.hear_each(rt, alloc, branches)?;
@@ -93,7 +94,6 @@ impl<'a, J: Run, G: Gate> ThreadLines<'a, J, G> {
         alloc: Global,
         told: &[Branch],
     ) -> Result<(), Halt> {
-        self.wake(told);
         self.hear_each(rt, alloc, told)?;
         Ok(())
     }
@@ -111,11 +111,31 @@ impl<'a, J: Run, G: Gate> ThreadLines<'a, J, G> {
         Ok(())
     }
 
-    /// Wakes the resource managers of these branches.
-    fn wake(&self, branches: &[Branch]) {
-        for branch in branches {
-            self.crew.signals.wake_rm(branch.rm);
+    /// Serves this thread's line to a resource manager, and waits a little where there was nothing to serve. Before it sleeps it
+    /// wakes the worker, since who holds the resource manager may be another thread.
+    fn serve_or_wait<R: Wait + Clock>(&mut self, rt: &R, rm: u32) -> Result<(), Halt> {
+        if self.serve(rm)? {
+            return Ok(());
         }
+        if self.crew.pause_thread(rt, self.thread, &mut self.idle)? {
+            self.crew.signals.wake_rm(rm);
+        }
+        Ok(())
+    }
+
+    /// Serves this thread's line to a resource manager, unless somebody else holds that, and says whether there was a call.
+    fn serve(&self, rm: u32) -> Result<bool, Halt> {
+        if self.crew.signals.is_attended(rm) {
+            return Ok(false);
+        }
+        let Some(served) = self.served.get(rm as usize) else {
+            return Err(Halt::Fault(WorkFault::Mixed));
+        };
+        let Some(mut held) = served.try_lock() else {
+            return Ok(false);
+        };
+        let served = &mut *held;
+        served.serve_line(self.crew, self.thread)
     }
 
     /// The codes that answer the oldest unheard call for each of these branches, once all are there.
@@ -145,8 +165,7 @@ impl<'a, J: Run, G: Gate> ThreadLines<'a, J, G> {
                     return Ok(());
                 }
                 Err(Refusal::Full) => {
-                    self.crew.signals.wake_rm(rm);
-                    self.crew.pause_thread(rt, self.thread, &mut self.idle)?;
+                    self.serve_or_wait(rt, rm)?;
                 }
                 Err(_) => return Err(Halt::Fault(WorkFault::Mixed)),
             }
@@ -166,7 +185,7 @@ impl<'a, J: Run, G: Gate> ThreadLines<'a, J, G> {
                     return Ok(code);
                 }
                 Some(_) => return Err(Halt::Fault(WorkFault::Mixed)),
-                None => self.crew.pause_thread(rt, self.thread, &mut self.idle)?,
+                None => self.serve_or_wait(rt, rm)?,
             }
         }
         unreachable!()

@@ -15,16 +15,16 @@ use crate::reunite::all_met;
 use crate::serve::Served;
 use crate::{Jobs, Outcomes, WorkFault};
 use std::alloc::{AllocError, Global};
+use std::sync::Mutex;
 use xa_base::{Fate, Outcome, Xid};
 use xa_line::Line;
 use xa_log::DecisionLog;
 use xa_rm::{MemRm, ResourceManager};
 
-/// What the workers left.
+/// What the threads of control and the log's worker left.
 #[derive(Drop)]
 pub(crate) struct Work<J: Run, L> {
     pub(crate) controlled: Vec<Controlled<J>>,
-    pub(crate) served: Vec<Served<J>>,
     pub(crate) journal: Journal<L>,
 }
 
@@ -73,10 +73,10 @@ fn may_all_end(sweep: bool, planned: &[Outcome], ends: &[Outcome]) -> bool
     true
 }
 
-/// Takes the resource managers out of what their workers left.
+/// Takes the resource managers out of their locks.
 fn taken_rms<J: Run>(
     alloc: Global,
-    served: Vec<Served<J>>,
+    served: Vec<Mutex<Served<J>>>,
     lines: &mut Vec<NumberedTaker<J>>,
 ) -> Result<Vec<MemRm>, WorkFault>
     ensures { IfOk result (λ rms. (r : ℕ) (rm : _) → slice_get rms.items r ≡ Some rm
@@ -87,7 +87,7 @@ fn taken_rms<J: Run>(
         let Served {
             rm,
             lines: mut ends,
-        } = left;
+        } = left.into_inner();
         lines.append(&mut ends)?;
         if rm.number() as usize != rms.len() {
             return Err(WorkFault::Mixed);
@@ -162,12 +162,13 @@ fn are_all_lines(jobs: &Jobs, lines: &[Line]) -> bool
     lines.len() as u64 == u64::from(jobs.threads) * u64::from(jobs.rms)
 }
 
-/// What the jobs came to, where all that the workers left agrees with it.
+/// What the jobs came to, where all that the workers left, and the resource managers that were served, agree with it.
 pub(crate) fn verified_outcomes<J: Run, L: DecisionLog + Drop>(
     alloc: Global,
     jobs: &Jobs,
     incarnation: u64,
     work: Work<J, L>,
+    served: Vec<Mutex<Served<J>>>,
 ) -> Result<Outcomes<L>, WorkFault>
     requires few { vec_len jobs.now.votes ≤ JOB_LIMIT }
     requires some { 0 < jobs.now.threads }
@@ -182,7 +183,6 @@ pub(crate) fn verified_outcomes<J: Run, L: DecisionLog + Drop>(
 {
     let Work {
         controlled,
-        served,
         journal,
     } = work;
     let ends = gathered_ends(alloc, jobs, &controlled)?;
