@@ -4,7 +4,8 @@ use Rattle.std.specs.Prelude.{MatchBool}
 use Rattle.xa_base.specs.Answer.{answer_number}
 use Rattle.xa_base.specs.Xid.{Xid}
 use Rattle.xa_base.specs.declared.answer.Answer.{Answer}
-use Rattle.xa_coordinator.specs.Calls.{Hears, PerformsAnswer, answer_reply, waits_for_other}
+use Rattle.xa_coordinator.specs.Calls.{PerformsAnswer, answer_reply, waits_for_other}
+use Rattle.xa_serve.specs.Steps.{Hears}
 use Rattle.xa_coordinator.specs.Standing.{LacksMemory, OnlyTells, StandsFor}
 use Rattle.xa_coordinator.specs.declared.coordinator.Coordinator.{Coordinator}
 use Rattle.xa_requests.specs.declared.request.CallName.{CallName}

@@ -13,7 +13,8 @@ use Rattle.xa_base.specs.declared.refusal.Refusal.{Refusal}
 use Rattle.xa_base.specs.declared.refusal.Refusal.TheVariants.{Limit, LogFault, Memory}
 use Rattle.xa_base.specs.declared.step.Part.TheVariants as Parts
 use Rattle.xa_base.specs.declared.step.Step.TheVariants as Steps
-use Rattle.xa_coordinator.specs.Calls.{Hears, answer_reply, waits_for_other}
+use Rattle.xa_coordinator.specs.Calls.{answer_reply, waits_for_other}
+use Rattle.xa_serve.specs.Steps.{Hears}
 use Rattle.xa_coordinator.specs.Faults.{AsksForRows}
 use Rattle.xa_coordinator.specs.Performing.{Performs}
 use Rattle.xa_coordinator.specs.Releasing.{ReleasesAll, if_taken, transaction_of}

@@ -1,12 +1,12 @@
 -- What managers of different names tell their drivers.
-use Rattle.std.proofs.Common.{◌≡◌, ◌≢◌, ◌∙◌, ◌⊎◌, inl, inr, ℕ, ◌+◌, ◌==◌, zero, suc, Bool, true, false, ◌&&◌, List, [], ◌∷◌, map, filter, Option, Some, None, refl, sym, ap, subst, All, get_or, nat_lt}
+use Rattle.std.proofs.Common.{◌≡◌, ◌∙◌, ◌⊎◌, inl, inr, ℕ, ◌+◌, ◌==◌, zero, suc, Bool, true, false, List, filter, Option, Some, None, refl, sym, ap, subst, All, get_or, nat_lt}
 use Rattle.std.specs.Option.{option_map}
 use Rattle.std.specs.Prelude.{MatchBool, Result, Ok, Err, if◌then◌else◌, slice_get, IfSome}
 use Rattle.std.proofs.lemmas.Bool.{and_parts, ltb-true}
 use Rattle.std.proofs.lemmas.List.Elements.{All-map}
 use Rattle.xa_base.specs.Answer.{answer_number}
 use Rattle.xa_base.specs.Branch.{branch_of_xid, xid_of_branch}
-use Rattle.xa_base.specs.Call.{map_call, xid_in}
+use Rattle.xa_base.specs.Call.{xid_in}
 use Rattle.xa_base.specs.Xid.{Xid}
 use Rattle.xa_base.specs.declared.answer.Answer as Given
 use Rattle.xa_base.specs.declared.branch.Branch.{Branch}
@@ -15,10 +15,11 @@ use Rattle.xa_base.specs.declared.call.Call.TheVariants as Calls
 use Rattle.xa_base.specs.declared.refusal.Refusal.{Refusal}
 use Rattle.xa_base.specs.declared.refusal.Refusal.TheVariants.{Limit, Memory}
 use Rattle.xa_coordinator.proofs.KnownCalls.{known_issue}
-use Rattle.xa_coordinator.specs.Calls.{Hears, Issues, answer_reply, waits_for_other}
+use Rattle.xa_coordinator.specs.Calls.{answer_reply, waits_for_other}
+use Rattle.xa_serve.specs.Steps.{Hears, Issues}
 use Rattle.xa_coordinator.specs.Crashes.{LosesFrom}
 use Rattle.xa_coordinator.specs.Looks.{first_reply, waiting_reply}
-use Rattle.xa_coordinator.specs.Managers.{IsOnOwn, ManagersAreApart, Replied, RepliesTellOwn, TellsOwn, told_xid}
+use Rattle.xa_coordinator.specs.Managers.{IsOnOwn, ManagersAreApart, RepliesTellOwn, TellsOwn, told_xid}
 use Rattle.xa_coordinator.specs.Performing.{Does}
 use Rattle.xa_coordinator.specs.Recoveries.{TellsOwed}
 use Rattle.xa_coordinator.specs.Replies.{reply_of}
@@ -32,7 +33,7 @@ use Rattle.xa_log.specs.Contract.{Moment}
 use Rattle.xa_model.specs.Facts.{next_call}
 use Rattle.xa_model.specs.Replies.History.{name_by, name_of}
 use Rattle.xa_model.specs.Replies.Steps.{accepted}
-use Rattle.xa_model.specs.Trace.{Call, Name, Name.Foreign, Name.Ours, line}
+use Rattle.xa_model.specs.Trace.{Call, Name, Name.Foreign, line}
 use Rattle.xa_names.proofs.NameLemmas.{bare_gives}
 use Rattle.xa_names.specs.Laws.{NamesAreApart, OwnHaveName}
 use Rattle.xa_names.specs.Names.{IsUnder, renamed}
@@ -42,7 +43,6 @@ use Rattle.xa_requests.specs.declared.request.Request.TheVariants as requests
 use Rattle.xa_requests.specs.declared.response.RequestFault.TheVariants as faults
 use Rattle.xa_requests.specs.declared.response.Response.{Response}
 use Rattle.xa_requests.specs.declared.response.Response.TheVariants as responses
-use Rattle.xa_serve.specs.Session.{first_waiting}
 use Rattle.xa_serve.specs.Tracking.{KeepsTrack, SessionsAreExplained}
 use Rattle.xa_serve.specs.declared.session.Session.{Session}
 use Rattle.xa_serve.specs.declared.session.answers.Unfit.{Unfit}

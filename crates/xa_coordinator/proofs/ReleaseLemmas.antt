@@ -6,37 +6,21 @@ use Rattle.xa_base.specs.declared.branch.Gtrid.{Gtrid}
 use Rattle.xa_coordinator.specs.Performing.{is_not_done, is_one_step}
 use Rattle.xa_coordinator.specs.Releasing.{Releases, ReleasesAll, all_if_taken, ended_by, if_taken, is_taken, transaction_of}
 use Rattle.xa_coordinator.specs.declared.coordinator.Coordinator.{Coordinator}
-use Rattle.xa_model.specs.Trace.{Trace}
 use Rattle.xa_requests.specs.declared.request.Request.{Request}
 use Rattle.xa_requests.specs.declared.request.Request.TheVariants as requests
 use Rattle.xa_requests.specs.declared.response.Response.{Response}
 use Rattle.xa_requests.specs.declared.response.Response.TheVariants as responses
-use Rattle.xa_serve.specs.Following.{StandsIn}
+use Rattle.xa_serve.specs.Steps.{Forgets}
 use Rattle.xa_serve.specs.declared.session.Session.{Session}
 use Rattle.xa_tm.specs.Calls.{book_in, log_in}
-use Rattle.xa_tm.specs.Release.{HoldsNothingOf, IsOver, book_without}
+use Rattle.xa_tm.specs.Release.{HoldsNothingOf, IsOver}
 
 -- what a session's release ensures, put together
-pub releases_by : {L : Type 0} (g : Gtrid) (old : Coordinator L) (new : Session L) (is_over : Bool) → (is_over ≡ true → IsOver (book_in old.session.manager) g)
-    → (is_over ≡ true → book_in new.manager ≡ book_without g (book_in old.session.manager)) → (is_over ≡ true → HoldsNothingOf g new.manager)
-    → ((tr : Trace) → StandsIn tr old.session → StandsIn tr new) → (is_over ≡ false → IsOver (book_in old.session.manager) g → ⊥)
-    → (is_over ≡ false → new ≡ old.session) → new.happenings ≡ old.session.happenings → log_in new.manager ≡ log_in old.session.manager
-    → new.lines ≡ old.session.lines → new.monitor ≡ old.session.monitor → Releases g old (record old { session = new })
-releases_by g old new true over released forgotten stands owed same happenings log lines monitor = inl (
-  record {
-    over = over refl;
-    nothing_held = forgotten refl;
-    book = released refl;
-    stands = stands;
-    happenings = happenings;
-    log = log;
-    lines = lines;
-    monitor = monitor;
-  },
-  refl,
-)
-releases_by g old new false over released forgotten stands owed same happenings log lines monitor =
-    inr (owed refl, ap (λ s. record old { session = s }) (same refl))
+pub releases_by : {L : Type 0} (g : Gtrid) (old : Coordinator L) (new : Session L) (is_over : Bool) → (is_over ≡ true → Forgets g old.session new)
+    → (is_over ≡ false → IsOver (book_in old.session.manager) g → ⊥) → (is_over ≡ false → new ≡ old.session)
+    → Releases g old (record old { session = new })
+releases_by g old new true forgets owed same = inl (forgets refl, refl)
+releases_by g old new false forgets owed same = inr (owed refl, ap (λ s. record old { session = s }) (same refl))
 
 module _ {L : Type 0} where
   -- one more is released

@@ -13,12 +13,11 @@ use Rattle.xa_base.specs.declared.refusal.Refusal.TheVariants.{LogFault, Memory}
 use Rattle.xa_base.specs.declared.step.Outcome.{Outcome}
 use Rattle.xa_base.specs.declared.step.Outcome.TheVariants as Outcomes
 use Rattle.xa_coordinator.proofs.KnownCalls.{known_first, known_issue, named_first}
-use Rattle.xa_coordinator.specs.Calls.{Hears, Issues, PerformsAnswer, answer_reply, waits_for_other}
-use Rattle.xa_coordinator.specs.Crashes.{Loses, LosesFrom}
-use Rattle.xa_coordinator.specs.Decisions.{Abandons, Begins, Claims, Decides, Finishes, Settles}
+use Rattle.xa_coordinator.specs.Calls.{PerformsAnswer, answer_reply, waits_for_other}
+use Rattle.xa_serve.specs.Steps.{Abandons, Begins, Claims, Decides, Finishes, Hears, Issues, Loses, Resolves, ResolvesOpen, Settles}
+use Rattle.xa_coordinator.specs.Crashes.{LosesFrom}
 use Rattle.xa_coordinator.specs.Lines.{asked_in}
 use Rattle.xa_coordinator.specs.Performing.{Does, Performs}
-use Rattle.xa_coordinator.specs.Recoveries.{Resolves, ResolvesOpen}
 use Rattle.xa_coordinator.specs.Releasing.{ReleasesAll}
 use Rattle.xa_coordinator.specs.Replies.{reply_of}
 use Rattle.xa_coordinator.specs.Serving.{HaveReplies, RepliesBy}

@@ -8,8 +8,8 @@ use Rattle.xa_base.specs.declared.answer.Answer.{Answer}
 use Rattle.xa_base.specs.declared.branch.Gtrid.{Gtrid}
 use Rattle.xa_base.specs.declared.refusal.Refusal.{Refusal}
 use Rattle.xa_base.specs.declared.refusal.Refusal.TheVariants as Refusals
-use Rattle.xa_coordinator.specs.Calls.{Hears, PerformsAnswer, answer_reply, waits_for_other}
-use Rattle.xa_coordinator.specs.Crashes.{Loses}
+use Rattle.xa_coordinator.specs.Calls.{PerformsAnswer, answer_reply, waits_for_other}
+use Rattle.xa_serve.specs.Steps.{Hears, Loses}
 use Rattle.xa_coordinator.specs.Decisions.{PerformsDone}
 use Rattle.xa_coordinator.specs.Performing.{ChangesNothing, Does, is_not_done, is_one_step}
 use Rattle.xa_coordinator.specs.Replies.{reply_of}

@@ -1,6 +1,5 @@
 -- Votes that are told, and the rows of the commits behind them.
-use Rattle.std.proofs.Common.{◌≡◌, ◌∙◌, ◌⊎◌, inl, inr, ℕ, Bool, true, false, ◌&&◌, ◌||◌, List, [], ◌∷◌, ◌++◌, length, Option, Some, None, IsSome, IsSomeAnd, refl, sym, ap, subst, arith}
-use Rattle.std.specs.FinMap.{get}
+use Rattle.std.proofs.Common.{◌≡◌, ◌∙◌, ◌⊎◌, inl, inr, ℕ, Bool, true, false, ◌&&◌, ◌||◌, List, [], ◌∷◌, ◌++◌, length, Option, Some, None, IsSome, refl, sym, ap, subst, arith}
 use Rattle.std.specs.Option.{option_and_then, option_map}
 use Rattle.std.specs.Prelude.{if◌then◌else◌, slice_get, MatchBool, OnOk, Result, Ok, Err}
 use Rattle.std.proofs.lemmas.Bool.{true≢false}
@@ -9,7 +8,7 @@ use Rattle.xa_base.proofs.XidOrder.{xid_eq-same}
 use Rattle.xa_base.specs.Answer.{answer_number, map_answer}
 use Rattle.xa_base.specs.Call.{are_alike, kind_of, xid_in}
 use Rattle.xa_base.specs.Branch.{branch_of_xid, gtrid_eq}
-use Rattle.xa_base.specs.Xid.{Xid, xid_eq}
+use Rattle.xa_base.specs.Xid.{Xid}
 use Rattle.xa_base.specs.declared.answer.Answer.{Answer}
 use Rattle.xa_base.specs.declared.answer.Answer.TheVariants.{Ret}
 use Rattle.xa_base.specs.declared.branch.Branch.{Branch}
@@ -25,14 +24,14 @@ use Rattle.xa_base.specs.declared.step.Outcome.TheVariants as Outcomes
 use Rattle.xa_coordinator.proofs.KnownCalls.{known_first, named_first}
 use Rattle.xa_coordinator.proofs.LogLemmas.{replies_keep}
 use Rattle.xa_coordinator.proofs.RowLemmas.{commits, decide_up, row_written, settled_up}
-use Rattle.xa_coordinator.specs.Calls.{Hears, PerformsAnswer, answer_reply, are_same, is_to, waits_for_other}
-use Rattle.xa_coordinator.specs.Decisions.{Decides, HappenInTurn}
+use Rattle.xa_coordinator.specs.Calls.{PerformsAnswer, answer_reply, are_same, is_to, waits_for_other}
+use Rattle.xa_serve.specs.Steps.{Decides, HappenInTurn, Hears}
 use Rattle.xa_coordinator.specs.Lines.{asked_in}
 use Rattle.xa_coordinator.specs.Performing.{Performs}
 use Rattle.xa_coordinator.specs.Releasing.{ReleasesAll, transaction_of}
 use Rattle.xa_coordinator.specs.Replies.{reply_of}
 use Rattle.xa_coordinator.specs.Rows.{HasRow, LogsRows, is_among}
-use Rattle.xa_coordinator.specs.Serving.{HaveReplies, RepliesBy, RepliesTo}
+use Rattle.xa_coordinator.specs.Serving.{HaveReplies, RepliesBy}
 use Rattle.xa_coordinator.specs.Standing.{LacksMemory, OnlyTells, StandsFor}
 use Rattle.xa_coordinator.specs.Votes.{AreVotes, CommitsAreLogged, IsLogged, VotedCommitsAreLogged, VotesBy, VotesFor, is_heard}
 use Rattle.xa_coordinator.specs.declared.coordinator.Coordinator.{Coordinator}

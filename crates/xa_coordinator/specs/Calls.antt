@@ -1,63 +1,22 @@
 -- Requests to make calls, and what was answered to them.
-use Rattle.std.specs.Prelude.{◌≡◌, ◌≢◌, ◌+◌, ◌⊎◌, ℕ, Bool, true, false, not, ◌&&◌, MatchBool, Option, Some, None, Result, Ok, Err, IfErr, OnErr, OnOk}
-use Rattle.xa_base.specs.Answer.{answer_number, map_answer}
-use Rattle.xa_base.specs.Call.{are_alike, kind_of, map_call, xid_in}
+use Rattle.std.specs.Prelude.{◌⊎◌, ℕ, Bool, true, false, not, ◌&&◌, MatchBool, Option, Some, None, Result, Ok, Err}
+use Rattle.xa_base.specs.Answer.{answer_number}
+use Rattle.xa_base.specs.Call.{are_alike, kind_of, xid_in}
 use Rattle.xa_base.specs.Xid.{Xid, xid_eq}
 use Rattle.xa_base.specs.declared.answer.Answer.{Answer}
-use Rattle.xa_base.specs.declared.branch.Branch.{Branch}
 use Rattle.xa_base.specs.declared.call.Call.{Call}
-use Rattle.xa_base.specs.declared.refusal.Refusal.{Refusal}
-use Rattle.xa_base.specs.declared.refusal.Refusal.TheVariants as Refusals
-use Rattle.xa_coordinator.specs.Decisions.{Happens, ObeysRules}
 use Rattle.xa_coordinator.specs.Replies.{reply_of}
 use Rattle.xa_coordinator.specs.Standing.{LacksMemory, OnlyTells, StandsFor}
 use Rattle.xa_coordinator.specs.declared.coordinator.Coordinator.{Coordinator}
-use Rattle.xa_line.specs.Grid.{Grid, line_at, new_grid, with_line}
-use Rattle.xa_line.specs.Traffic.{with_one_more}
-use Rattle.xa_model.specs.Replies.History.{name_of}
-use Rattle.xa_model.specs.Replies.Steps.{accepted}
-use Rattle.xa_model.specs.Trace.{Call as KnownCall, Happening.Issued, line}
+use Rattle.xa_line.specs.Grid.{Grid}
 use Rattle.xa_requests.specs.declared.request.CallName.{CallName}
 use Rattle.xa_requests.specs.declared.response.RequestFault.TheVariants as faults
 use Rattle.xa_requests.specs.declared.response.Response.{Response}
 use Rattle.xa_requests.specs.declared.response.Response.TheVariants as responses
-use Rattle.xa_serve.specs.Answering.{FailsToHear, HearsAs, IsFirst}
-use Rattle.xa_serve.specs.Following.{StaysAs}
-use Rattle.xa_serve.specs.Hearing.{with_answer}
-use Rattle.xa_serve.specs.Session.{BranchExplains, IsExplainable, first_waiting, issue_refusal, unfit}
-use Rattle.xa_serve.specs.declared.session.Session.{Session}
+use Rattle.xa_serve.specs.Session.{first_waiting}
+use Rattle.xa_serve.specs.Steps.{Hears, Issues}
 use Rattle.xa_serve.specs.declared.session.answers.Unfit.{Unfit}
 use Rattle.xa_serve.specs.declared.session.answers.Unfit.TheVariants as Unfits
-use Rattle.xa_tm.specs.Calls.{log_in}
-
--- ** what a session does
-
-module _ {L : Type 0} where
-  -- a call waits on a line, last
-  pub record Issues (thread rm : ℕ) (call : Call Xid) (old new : Session L) (result : Result (Unit {0}) Refusal) : Type 0 where
-    pub rules : ObeysRules (issue_refusal old thread rm call) old new result
-    pub issued : OnOk result ((c : KnownCall) → accepted (map_call name_of call) ≡ Some c → Happens (Issued (line thread rm) c) old new)
-    pub memory : issue_refusal old thread rm call ≡ None → IfErr result (λ n. n ≡ Refusals.Memory)
-    pub stays : OnErr result (StaysAs old new)
-    pub log : log_in new.manager ≡ log_in old.manager
-    pub lines : OnOk result (new.lines ≡ with_line old.lines thread rm
-        (record (line_at old.lines thread rm) { calls = with_one_more (line_at old.lines thread rm).calls call }))
-
-  -- the call that waits first on a line was answered
-  pub record Hears (thread rm : ℕ) (answer : Answer Xid) (old new : Session L) (result : Result (Unit {0}) Unfit) : Type 0 where
-    pub refused : (u : Unfit) → unfit old thread rm answer ≡ Some u → (result ≡ Err u) × (new ≡ old)
-    pub allowed : OnOk result (unfit old thread rm answer ≡ None)
-    -- an answer that no state of a branch explains changes nothing
-    pub unexplained : (b : Branch) → result ≡ Err (Unfits.NoSuchState b) → (BranchExplains old thread rm answer b → ⊥) × (new ≡ old)
-    pub explained : unfit old thread rm answer ≡ None → ((b : Branch) → result ≢ Err (Unfits.NoSuchState b)) → IsExplainable old thread rm answer
-    pub heard : OnOk result ((c : KnownCall) → IsFirst old thread rm c → HearsAs thread rm c (map_answer name_of answer) old new)
-    pub lines : OnOk result (new.lines ≡ with_line old.lines thread rm (with_answer (line_at old.lines thread rm) answer))
-    -- where nothing of this refuses it, memory does or the log
-    pub fails : (n : Refusal) → result ≡ Err (Unfits.Refused n) → unfit old thread rm answer ≡ None → (c : KnownCall) → IsFirst old thread rm c
-        → FailsToHear thread rm c (map_answer name_of answer) old new n
-    pub stays : IfErr result (λ u. u ≢ Unfits.Refused Refusals.LogFault → StaysAs old new)
-    pub broken : result ≡ Err (Unfits.Refused Refusals.LogFault) → new.lines ≡ new_grid old.lines.threads old.lines.rms
-    pub fault_counted : result ≡ Err (Unfits.Refused Refusals.LogFault) → new.happenings ≡ old.happenings + 1
 
 -- ** which call an answer is to
 

@@ -3,16 +3,14 @@ use Rattle.std.specs.Prelude.{◌≡◌, ◌⊎◌, Bool, true, false, if◌then
 use Rattle.xa_base.specs.Branch.{branch_of_xid}
 use Rattle.xa_base.specs.declared.branch.Gtrid.{Gtrid}
 use Rattle.xa_coordinator.specs.declared.coordinator.Coordinator.{Coordinator}
-use Rattle.xa_model.specs.Trace.{Trace}
 use Rattle.xa_requests.specs.declared.request.CallName.{CallName}
 use Rattle.xa_requests.specs.declared.request.Request.{Request}
 use Rattle.xa_requests.specs.declared.request.Request.TheVariants as requests
 use Rattle.xa_requests.specs.declared.response.Response.{Response}
 use Rattle.xa_requests.specs.declared.response.Response.TheVariants as responses
-use Rattle.xa_serve.specs.Following.{StandsIn}
-use Rattle.xa_serve.specs.declared.session.Session.{Session}
-use Rattle.xa_tm.specs.Calls.{book_in, log_in}
-use Rattle.xa_tm.specs.Release.{HoldsNothingOf, IsOver, book_without}
+use Rattle.xa_serve.specs.Steps.{Forgets}
+use Rattle.xa_tm.specs.Calls.{book_in}
+use Rattle.xa_tm.specs.Release.{IsOver}
 
 -- ** which
 
@@ -48,17 +46,6 @@ ended_by request reply = []
 -- ** what a release does
 
 module _ {L : Type 0} where
-  -- The transaction was over, and nothing is held of it any more. Nothing happened: wherever the session stood, it still stands.
-  pub record Forgets (g : Gtrid) (old new : Session L) : Type 0 where
-    pub over : IsOver (book_in old.manager) g
-    pub nothing_held : HoldsNothingOf g new.manager
-    pub book : book_in new.manager ≡ book_without g (book_in old.manager)
-    pub stands : (tr : Trace) → StandsIn tr old → StandsIn tr new
-    pub happenings : new.happenings ≡ old.happenings
-    pub log : log_in new.manager ≡ log_in old.manager
-    pub lines : new.lines ≡ old.lines
-    pub monitor : new.monitor ≡ old.monitor
-
   -- a transaction is forgotten if it is over, and else stays
   abbrev pub Releases : Gtrid → (old new : Coordinator L) → Type 0
   Releases g old new =

@@ -10,6 +10,7 @@ mod Recoveries
 mod Hearings
 pub mod Refusals
 pub mod Sessions
+mod StepLemmas
 mod Telling
 mod Tracking
 mod Books

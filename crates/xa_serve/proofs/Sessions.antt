@@ -2,7 +2,7 @@
 use Rattle.std.proofs.Common.{◌≡◌, ◌≢◌, ℕ, ◌+◌, ◌-◌, ◌<◌, ◌≤◌, ◌⊎◌, inl, inr, Bool, true, false, not, ◌&&◌, List, [], ◌∷◌, length, Option, Some, None, refl, sym, ap, ◌∙◌, subst, arith}
 use mathlib.Core.HLevel.{is_prop→PathP}
 use native.Mathlib.Nat.{ℕ_set}
-use Rattle.std.specs.Prelude.{if◌then◌else◌, nat_le, Result, Ok, Err, OnErr, OnOk, IfErr}
+use Rattle.std.specs.Prelude.{if◌then◌else◌, nat_le, Result, Ok, Err, OnOk, IfErr}
 use Rattle.std.proofs.lemmas.Bool.Decides.{nat_tests}
 use Rattle.xa_base.specs.declared.branch.Gtrid.{Gtrid}
 use Rattle.xa_base.specs.declared.refusal.Refusal.{Refusal}
@@ -17,12 +17,12 @@ use Rattle.xa_model.specs.Trace.{Fault, Happening, Happening.Failed, Happening.N
 use Rattle.xa_tm.specs.Book.{after, after_all, Book, book_after, Doubt, Doubt.NoDoubt}
 use Rattle.xa_standings.specs.Monitor.{SaysTheSame, states_of}
 use Rattle.xa_tm.specs.Calls.{FailsBy, book_in, log_in}
-use Rattle.xa_tm.specs.Refusing.{view_in}
+use Rattle.xa_tm.specs.Refusing.{service_refusal_in, view_in}
 use Rattle.xa_tm.specs.declared.manager.Manager.{Manager}
 use Rattle.xa_serve.specs.Following.{StaysAs}
 use Rattle.xa_serve.specs.Headroom.{HasHeadroom, MayHappen, first_headroom}
 use Rattle.xa_serve.specs.Sizes.{IsSized}
-use Rattle.xa_serve.specs.Session.{AllHeard, IsReady, happenings_by, has_room_for, is_over, lines_by, lines_seen, refusal_at, refusal_of_all}
+use Rattle.xa_serve.specs.Session.{AllHeard, IsReady, begin_refusal, happenings_by, has_room_for, is_over, lines_by, lines_seen, refusal_at, refusal_of_all}
 use Rattle.xa_serve.specs.declared.session.Session.{Session}
 use Rattle.xa_serve.proofs.Headroom.{MayHappenInTurn, headroom_kept, headroom_kept_by_all}
 use Rattle.xa_serve.proofs.Refusals.{not_over}
@@ -49,11 +49,6 @@ err_is m n e = cc
 pub on_err : {A : Type 0} (r : Result A Refusal) (P Q : Refusal → Type 0) → ((n : Refusal) → P n → Q n) → IfErr r P → IfErr r Q
 on_err (Ok x) P Q f h = tt
 on_err (Err n) P Q f h = f n h
-
--- where it is so, it is so of any refusal
-pub if_err : {A P : Type 0} (r : Result A Refusal) → P → OnErr r P
-if_err (Ok x) p = tt
-if_err (Err n) p = p
 
 -- ** room
 
@@ -133,6 +128,9 @@ has_few s e = not_over first_headroom s.happenings e
 pub refusal_is : {L : Type 0} (s : Session L) (step : Step) → is_over s ≡ false
     → refusal_at s step ≡ refusal_of (view_in (book_in s.manager)) (lines_seen s) step
 refusal_is s step e = ap (λ t. if t then Some Limit else refusal_of (view_in (book_in s.manager)) (lines_seen s) step) e
+
+pub begin_refusal_is : {L : Type 0} (s : Session L) (t : ℕ) → is_over s ≡ false → begin_refusal s t ≡ service_refusal_in (book_in s.manager) t
+begin_refusal_is s t e = ap (λ b. if b then Some Limit else service_refusal_in (book_in s.manager) t) e
 
 -- no rule is that the log failed
 pub never_the_log : {L : Type 0} (s : Session L) (step : Step) → refusal_at s step ≡ Some LogFault → ⊥

@@ -6,4 +6,5 @@ pub mod Lending
 pub mod Logging
 pub mod Session
 pub mod Sizes
+pub mod Steps
 pub mod Tracking

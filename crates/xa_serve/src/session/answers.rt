@@ -1,18 +1,9 @@
 //! Answers that the driver tells.
 
-ghost use Rattle.std.specs.Prelude.{◌≡◌, ◌≢◌, ◌+◌, [], Some, None, Err, IfErr, OnOk};
-ghost use Rattle.xa_base.specs.Answer.{map_answer};
-ghost use Rattle.xa_base.specs.declared.refusal.Refusal.{Refusal as Refused};
-ghost use Rattle.xa_base.specs.declared.refusal.Refusal.TheVariants as Refusals;
-ghost use Rattle.xa_line.specs.Grid.{line_at, new_grid, with_line};
-ghost use Rattle.xa_model.specs.Replies.History.{name_of};
-ghost use Rattle.xa_model.specs.Trace.{Call as KnownCall};
-ghost use Rattle.xa_serve.specs.Answering.{FailsToHear, HearsAs, IsFirst, IsFoundLater};
-ghost use Rattle.xa_serve.specs.Following.{StaysAs};
-ghost use Rattle.xa_serve.specs.Hearing.{with_answer};
+ghost use Rattle.std.specs.Prelude.{◌≡◌};
 ghost use Rattle.xa_serve.specs.Logging.{KeepsLog};
-ghost use Rattle.xa_serve.specs.Session.{BranchExplains, IsExplainable, IsReady, unfit};
-ghost use Rattle.xa_serve.specs.declared.session.answers.Unfit.TheVariants as Unfits;
+ghost use Rattle.xa_serve.specs.Session.{IsReady};
+ghost use Rattle.xa_serve.specs.Steps.{Hears};
 
 use super::Session;
 use crate::hearing::can_hear;
@@ -52,32 +43,7 @@ impl<L: DecisionLog + Drop> Session<L> {
     pub fn answer(&mut self, thread: u32, rm: u32, answer: Answer) -> Result<(), Unfit>
         requires { IsReady self.old }
         ensures ready { IsReady self.new }
-        // What is unfit changes nothing, nor does what no state of a branch explains.
-        ensures refused { (u : _) → unfit self.old thread rm answer ≡ Some u →
-            (result ≡ Err u) × (self.new ≡ self.old) }
-        ensures allowed { OnOk result (unfit self.old thread rm answer ≡ None) }
-        ensures unexplained { (b : Branch) → result ≡ Err (Unfits.NoSuchState b) →
-            (BranchExplains self.old thread rm answer b → ⊥) × (self.new ≡ self.old) }
-        ensures explained { unfit self.old thread rm answer ≡ None →
-            ((b : Branch) → result ≢ Err (Unfits.NoSuchState b)) →
-            IsExplainable self.old thread rm answer }
-        // What is heard.
-        ensures heard { OnOk result ((c : KnownCall) → IsFirst self.old thread rm c →
-            HearsAs thread rm c (map_answer name_of answer) self.old self.new) }
-        ensures lines { OnOk result (self.new.lines ≡ with_line self.old.lines thread rm
-            (with_answer (line_at self.old.lines thread rm) answer)) }
-        // Else memory was refused, or the log failed.
-        ensures only { unfit self.old thread rm answer ≡ None → IfErr result IsFoundLater }
-        ensures err { (n : Refused) → result ≡ Err (Unfits.Refused n) →
-            unfit self.old thread rm answer ≡ None →
-            (c : KnownCall) → IsFirst self.old thread rm c →
-            FailsToHear thread rm c (map_answer name_of answer) self.old self.new n }
-        ensures stays { IfErr result (λ u. u ≢ Unfits.Refused Refusals.LogFault →
-            StaysAs self.old self.new) }
-        ensures broken { result ≡ Err (Unfits.Refused Refusals.LogFault) →
-            self.new.lines ≡ new_grid self.old.lines.threads self.old.lines.rms }
-        ensures fault_counted { result ≡ Err (Unfits.Refused Refusals.LogFault) →
-            self.new.happenings ≡ self.old.happenings + 1 }
+        ensures hears { Hears thread rm answer self.old self.new result }
         ensures keeps { KeepsLog L.moment self.old.manager self.new.manager }
     {
         books_have_headroom();

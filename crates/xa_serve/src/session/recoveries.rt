@@ -1,16 +1,10 @@
 //! The manager ends what a resource manager lists.
 
-ghost use Rattle.std.specs.Prelude.{◌≡◌, length, Some, None, Err, IfErr, IfOk, OnErr, OnOk};
+ghost use Rattle.std.specs.Prelude.{◌≡◌};
 ghost use Rattle.std.specs.Result.{result_err};
-ghost use Rattle.xa_base.specs.declared.refusal.Refusal.TheVariants as Refusals;
-ghost use Rattle.xa_model.specs.Trace.{Happening.Resolved, Happening.ResolvedOpen};
-ghost use Rattle.xa_tm.specs.Book.{after};
-ghost use Rattle.xa_tm.specs.Calls.{book_in, log_in};
-ghost use Rattle.xa_tm.specs.Refusing.{resolved_in, resolved_open_in};
-ghost use Rattle.xa_serve.specs.Following.{Follows, StaysAs};
 ghost use Rattle.xa_serve.specs.Logging.{KeepsLog};
-ghost use Rattle.xa_serve.specs.Session.{IsReady, LetsWait, awaits_page};
-ghost use Rattle.xa_serve.specs.Session.{recovery_refusal, resolve_open_refusal, resolve_refusal};
+ghost use Rattle.xa_serve.specs.Session.{IsReady, awaits_page, recovery_refusal};
+ghost use Rattle.xa_serve.specs.Steps.{Resolves, ResolvesOpen};
 
 use super::Session;
 use crate::laws::books_have_headroom;
@@ -38,23 +32,8 @@ impl<L: DecisionLog + Drop> Session<L> {
     pub fn resolve(&mut self, rm: u32) -> Result<usize, Refusal>
         requires { IsReady self.old }
         ensures ready { IsReady self.new }
-        // A rule that refuses changes nothing.
-        ensures refused { (n : Refusal) →
-            resolve_refusal self.old rm ≡ Some n →
-            (result ≡ Err n) × (self.new ≡ self.old) }
-        ensures allowed { OnOk result (resolve_refusal self.old rm ≡ None) }
-        ensures err { resolve_refusal self.old rm ≡ None →
-            IfErr result (λ n. (n ≡ Refusals.Memory) × (self.new ≡ self.old)) }
-        // The calls.
-        ensures value { IfOk result
-            (λ count. count ≡ length (resolved_in (book_in self.old.manager) rm)) }
-        ensures lines { OnOk result (LetsWait rm
-            (resolved_in (book_in self.old.manager) rm) self.old.lines self.new.lines) }
-        // The manager.
-        ensures manager { self.new.manager ≡ self.old.manager }
+        ensures resolves { Resolves rm self.old self.new result }
         ensures keeps { KeepsLog L.moment self.old.manager self.new.manager }
-        ensures follows { OnOk result (Follows (Resolved rm) self.old self.new) }
-        ensures stays { OnErr result (StaysAs self.old self.new) }
     {
         books_have_headroom();
         recoveries_are_read();
@@ -70,25 +49,7 @@ impl<L: DecisionLog + Drop> Session<L> {
     pub fn resolve_open(&mut self, rm: u32) -> Result<usize, Refusal>
         requires { IsReady self.old }
         ensures ready { IsReady self.new }
-        // A rule that refuses changes nothing.
-        ensures refused { (n : Refusal) → resolve_open_refusal self.old rm ≡ Some n →
-            (result ≡ Err n) × (self.new ≡ self.old) }
-        ensures allowed { OnOk result (resolve_open_refusal self.old rm ≡ None) }
-        ensures err { resolve_open_refusal self.old rm ≡ None →
-            IfErr result (λ n. (n ≡ Refusals.Memory)
-            × (book_in self.new.manager ≡ book_in self.old.manager)) }
-        // The calls.
-        ensures value { IfOk result
-            (λ count. count ≡ length (resolved_open_in (book_in self.old.manager) rm)) }
-        ensures lines { OnOk result (LetsWait rm
-            (resolved_open_in (book_in self.old.manager) rm) self.old.lines self.new.lines) }
-        ensures lines_stay { OnErr result (self.new.lines ≡ self.old.lines) }
-        // What the book then says, and the log.
-        ensures ok { OnOk result (book_in self.new.manager ≡
-            after (book_in self.old.manager) (ResolvedOpen rm)) }
-        ensures follows { OnOk result (Follows (ResolvedOpen rm) self.old self.new) }
-        ensures stays { OnErr result (StaysAs self.old self.new) }
-        ensures log { log_in self.new.manager ≡ log_in self.old.manager }
+        ensures resolves { ResolvesOpen rm self.old self.new result }
         ensures keeps { KeepsLog L.moment self.old.manager self.new.manager }
     {
         books_have_headroom();

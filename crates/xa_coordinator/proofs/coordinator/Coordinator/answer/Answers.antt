@@ -1,7 +1,8 @@
 use Rattle.std.proofs.Common.{◌∙◌, ap, refl, subst, sym}
 use Rattle.xa_serve.proofs.Logging.{kept}
 use Rattle.xa_coordinator.proofs.AnswerLemmas.{hears_it}
-use Rattle.xa_coordinator.specs.Calls.{Hears, answer_reply}
+use Rattle.xa_coordinator.specs.Calls.{answer_reply}
+use Rattle.xa_serve.specs.Steps.{Hears}
 use Rattle.xa_coordinator.proofs.coordinator.Coordinator.answer.Goals as goal
 
 pub returns-clause-performs : goal.returns-clause-performs
@@ -12,18 +13,7 @@ returns-clause-performs g c =
     (sym c.waits_for_other.ensures ∙ c.if-waits_for_other.false) (record {
       result = call.result;
       does = subst (λ a. Hears c.args.thread c.args.rm a old call.new.self call.result) c.in-Ok.ensures
-          (record {
-            refused = call.ensures.refused;
-            allowed = call.ensures.allowed;
-            unexplained = call.ensures.unexplained;
-            explained = call.ensures.explained;
-            heard = call.ensures.heard;
-            lines = call.ensures.lines;
-            fails = call.ensures.err;
-            stays = call.ensures.stays;
-            broken = call.ensures.broken;
-            fault_counted = call.ensures.fault_counted;
-          });
+          call.ensures.hears;
       told = c.answer_reply.ensures ∙ ap (λ r. answer_reply r call.result) c.heard_of-reply.ensures;
       rest = refl;
     })

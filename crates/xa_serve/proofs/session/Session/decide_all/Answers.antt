@@ -8,12 +8,14 @@ use Rattle.xa_tm.specs.Calls.{book_in, written_by}
 use Rattle.xa_tm.specs.InTurn.{decide_refusal, rows_added}
 use Rattle.xa_serve.proofs.Following.{follows_if_ok}
 use Rattle.xa_serve.proofs.Refusals.{no_fault_in_turn}
-use Rattle.xa_serve.proofs.Sessions.{concluded, concluded_refused, refusal_of_all_is, sized_by_call}
+use Rattle.xa_serve.proofs.Sessions.{Concludes, concluded, refusal_of_all_is, sized_by_call}
 use Rattle.xa_serve.proofs.Turns.{decisions_lead, decisions_may}
 use Rattle.std.proofs.Common.{refl, subst}
 use Rattle.xa_serve.proofs.Headroom.{sound}
 use Rattle.xa_serve.proofs.Logging.{all_decided, asked_keeps, decisions_change}
 use Rattle.xa_serve.specs.Logging.{KeepsLog}
+use Rattle.xa_serve.proofs.StepLemmas.{concluded_asks, concluded_happens, concluded_obeys}
+use Rattle.xa_serve.specs.Session.{decide_refusal as session_refusal}
 use Rattle.xa_serve.proofs.session.Session.decide_all.Goals as goal
 
 pub returns-clause-ready : goal.returns-clause-ready
@@ -29,26 +31,6 @@ returns-clause-ready g c =
     (no_fault_in_turn (λ g. Steps.Decide g c.args.outcome) (λ g. Decided g c.args.outcome) gs k) c.decide_all-reply.ensures.refused
     (on_ok c.decide_all-reply.result _ _ (decisions_may c.args.outcome gs k) c.decide_all-reply.ensures.allowed) c.decide_all-reply.ensures.ok
     c.decide_all-reply.ensures.err
-
-pub returns-clause-refused : goal.returns-clause-refused
-returns-clause-refused g c = λ n some.
-    let s = c.args.self.now in
-    let k = book_in s.manager in
-    let gs = c.args.gtrids.now in
-    concluded_refused s c.conclude.new.self _ (length gs) (decide_refusal c.args.outcome k gs) _ c.decide_all-reply.result _ n
-    (refusal_of_all_is s (decide_refusal c.args.outcome) gs (sym c.has_room_for.ensures ∙ c.if-not-has_room_for.false))
-    (no_fault_in_turn (λ g. Steps.Decide g c.args.outcome) (λ g. Decided g c.args.outcome) gs k)
-    (record { manager = c.conclude.ensures.manager; lines = c.conclude.ensures.lines; happenings = c.conclude.ensures.happenings })
-    c.conclude.ensures.value c.conclude.ensures.monitor c.decide_all-reply.ensures.refused some
-
-pub returns-clause-follows : goal.returns-clause-follows
-returns-clause-follows g c =
-    let s = c.args.self.now in
-    let gs = c.args.gtrids.now in
-    follows_if_ok s c.conclude.new.self (decide_refusal c.args.outcome (book_in s.manager) gs)
-    (map (λ g. Decided g c.args.outcome) gs) c.decide_all-reply.new.self c.decide_all-reply.result _ (length gs)
-    (sym (length-map gs (λ g. Decided g c.args.outcome))) c.conclude.ensures.happenings c.conclude.ensures.value c.conclude.ensures.manager c.conclude.ensures.lines c.decide_all-reply.ensures.allowed c.decide_all-reply.ensures.ok c.conclude.ensures.monitor
-    (decisions_lead s c.conclude.new.self c.args.outcome gs)
 
 pub returns-clause-keeps : goal.returns-clause-keeps
 returns-clause-keeps g c =
@@ -82,4 +64,33 @@ invariant_of-self g c =
     record {
       sized = sized_by_call s call.new.self (decide_refusal c.args.outcome k gs) (rows_added c.args.outcome k gs) (InDecide (written_by c.args.outcome k gs)) (map (λ g. Decided g c.args.outcome) gs) call.result call.ensures.refused
           call.ensures.ok call.ensures.err;
+    }
+
+pub returns-clause-decides : goal.returns-clause-decides
+returns-clause-decides g c =
+    let s = c.args.self.now in
+    let k = book_in s.manager in
+    let gs = c.args.gtrids.now in
+    let call = c.decide_all-reply in
+    let new = c.conclude.new.self in
+    let why = decide_refusal c.args.outcome k gs in
+    let session_why = session_refusal s c.args.outcome gs in
+    let is = refusal_of_all_is s (decide_refusal c.args.outcome) gs (sym c.has_room_for.ensures ∙ c.if-not-has_room_for.false) in
+    let done : Concludes s new call.new.self (length gs) call.result = record {
+      manager = c.conclude.ensures.manager;
+      lines = c.conclude.ensures.lines;
+      happenings = c.conclude.ensures.happenings;
+    } in
+    let same = c.conclude.ensures.value in
+    let monitor = c.conclude.ensures.monitor in
+    let refused = call.ensures.refused in
+    record {
+      rules = concluded_obeys s new call.new.self (length gs) why session_why call.result _ is done same monitor refused (no_fault_in_turn (λ g. Steps.Decide g c.args.outcome) (λ g. Decided g c.args.outcome) gs k) call.ensures.allowed;
+      asks = concluded_asks s new call.new.self (length gs) why session_why call.result _ is done same monitor refused (rows_added c.args.outcome k gs) (InDecide (written_by c.args.outcome k gs)) call.ensures.err
+          call.ensures.kept;
+      decided = concluded_happens s new call.new.self (map (λ g. Decided g c.args.outcome) gs) call.result _ c.conclude.ensures.manager same call.ensures.ok
+          (follows_if_ok s c.conclude.new.self (decide_refusal c.args.outcome (book_in s.manager) gs)
+          (map (λ g. Decided g c.args.outcome) gs) c.decide_all-reply.new.self c.decide_all-reply.result _ (length gs)
+          (sym (length-map gs (λ g. Decided g c.args.outcome))) c.conclude.ensures.happenings c.conclude.ensures.value c.conclude.ensures.manager c.conclude.ensures.lines c.decide_all-reply.ensures.allowed c.decide_all-reply.ensures.ok c.conclude.ensures.monitor
+          (decisions_lead s c.conclude.new.self c.args.outcome gs));
     }

@@ -9,9 +9,11 @@ use Rattle.xa_tm.specs.Calls.{book_in}
 use Rattle.xa_serve.proofs.Lines.{all_with, may_issue_so}
 use Rattle.xa_line.proofs.SeveralCalls.{line_took}
 use Rattle.xa_serve.proofs.Refusals.{known_issue}
-use Rattle.xa_serve.proofs.Sessions.{has_few, if_err, sized_after, stays_by, step_leaves}
+use Rattle.xa_serve.proofs.Sessions.{has_few, sized_after, step_leaves}
 use Rattle.xa_serve.proofs.Telling.{issued_follows}
 use Rattle.xa_serve.proofs.Logging.{quiet_keeps, same_book, same_issued}
+use Rattle.xa_serve.proofs.StepLemmas.{ok_obeys}
+use Rattle.xa_serve.specs.Session.{issue_refusal}
 use Rattle.xa_serve.proofs.session.Session.issue.Goals as goal
 
 pub returns-clause-ready : goal.returns-clause-ready
@@ -27,37 +29,6 @@ returns-clause-ready g c =
     step_leaves s _ NoDoubt (Issued (line t r) known.0) c.requires (has_few s may.tell.free) tt refl (c.in_ok-note_issued.ensures.ok known.0 known.1)
     (all_with s.lines t r c.issue.new.self c.line_mut.ensures.whole may.tell.has
     (ap (λ (l : Traffic). l.answers.waiting) put ∙ c.requires.heard t r may.tell.has) c.requires.heard)
-
-pub returns-clause-lines : goal.returns-clause-lines
-returns-clause-lines g c =
-    let s = c.args.self.now in
-    let t = c.args.thread in
-    let r = c.args.rm in
-    let may = may_issue_so s t r c.args.call.now (sym c.in_ok-check_issue.ensures) in
-    ap (with_line s.lines t r)
-    (line_took (line_at s.lines t r) c.line_mut.result.now c.args.call.now c.copy.result c.issue.result c.issue.new.self c.line_mut.ensures.value c.copy.ensures
-    c.issue.ensures.reason c.issue.ensures.accepted may.bar may.room)
-
-pub returns-clause-follows : goal.returns-clause-follows
-returns-clause-follows g c = λ d is.
-    let s = c.args.self.now in
-    let t = c.args.thread in
-    let r = c.args.rm in
-    let may = may_issue_so s t r c.args.call.now (sym c.in_ok-check_issue.ensures) in
-    record {
-      leads =
-          issued_follows s _ t r c.args.call.now d is may (c.in_ok-note_issued.ensures.ok d is)
-          (ap (with_line s.lines t r)
-          (line_took (line_at s.lines t r) c.line_mut.result.now c.args.call.now c.copy.result c.issue.result c.issue.new.self c.line_mut.ensures.value
-          c.copy.ensures c.issue.ensures.reason c.issue.ensures.accepted may.bar may.room));
-      counted = refl;
-      states = λ b. refl;
-    }
-
-pub returns-in_err-note_issued-clause-stays : goal.returns-in_err-note_issued-clause-stays
-returns-in_err-note_issued-clause-stays g c =
-    if_err c.from_residual-in_err-note_issued.result
-    (stays_by c.args.self.now _ refl refl refl c.in_err-note_issued.ensures.err.1 c.in_err-note_issued.ensures.log)
 
 pub returns-clause-keeps : goal.returns-clause-keeps
 returns-clause-keeps g c =
@@ -83,3 +54,29 @@ invariant_of-self-2 g c =
     let may = may_issue_so s t r c.args.call.now (sym c.in_ok-check_issue.ensures) in
     let known = known_issue (book_in s.manager) t r (map_call name_of c.args.call.now) may.book in
     record { sized = sized_after s (book_in c.note_issued.new.self) NoDoubt (Issued (line t r) known.0) (c.in_ok-note_issued.ensures.ok known.0 known.1) }
+
+pub returns-clause-issues : goal.returns-clause-issues
+returns-clause-issues g c =
+    let s = c.args.self.now in
+    let t = c.args.thread in
+    let r = c.args.rm in
+    let none = sym c.in_ok-check_issue.ensures in
+    let may = may_issue_so s t r c.args.call.now none in
+    let lines = ap (with_line s.lines t r)
+    (line_took (line_at s.lines t r) c.line_mut.result.now c.args.call.now c.copy.result c.issue.result c.issue.new.self c.line_mut.ensures.value
+    c.copy.ensures c.issue.ensures.reason c.issue.ensures.accepted may.bar may.room) in
+    record {
+      rules = ok_obeys (issue_refusal s t r c.args.call.now) s _ tt none;
+      issued = λ d is. record {
+        book = c.in_ok-note_issued.ensures.ok d is;
+        follows = record {
+          leads = issued_follows s _ t r c.args.call.now d is may (c.in_ok-note_issued.ensures.ok d is) lines;
+          counted = refl;
+          states = λ b. refl;
+        };
+      };
+      memory = λ none. tt;
+      stays = tt;
+      log = c.in_ok-note_issued.ensures.log;
+      lines = lines;
+    }

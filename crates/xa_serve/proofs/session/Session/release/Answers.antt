@@ -1,3 +1,4 @@
+use Rattle.std.proofs.Common.{refl}
 use Rattle.xa_serve.proofs.Releases.{release_keeps, release_ready, release_stands}
 use Rattle.xa_serve.proofs.session.Session.release.Goals as goal
 
@@ -6,10 +7,19 @@ returns-clause-ready g c =
     let is = c.release.ensures in
     release_ready c.args.self.now c.release.new.self _ c.args.gtrid c.release.result is.over is.released (λ e. is.same e) c.requires
 
-pub returns-clause-stands : goal.returns-clause-stands
-returns-clause-stands g c =
+pub returns-clause-forgets : goal.returns-clause-forgets
+returns-clause-forgets g c = λ done.
     let is = c.release.ensures in
-    release_stands c.args.self.now c.release.new.self _ c.args.gtrid c.release.result is.over is.released (λ e. is.same e)
+    record {
+      over = is.over done;
+      nothing_held = is.forgotten done;
+      book = is.released done;
+      stands = release_stands c.args.self.now c.release.new.self _ c.args.gtrid c.release.result is.over is.released (λ e. is.same e);
+      happenings = refl;
+      log = is.log;
+      lines = refl;
+      monitor = refl;
+    }
 
 pub returns-clause-keeps : goal.returns-clause-keeps
 returns-clause-keeps g c =

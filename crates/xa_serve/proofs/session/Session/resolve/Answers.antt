@@ -9,6 +9,8 @@ use Rattle.xa_serve.proofs.Lines.{all_with, may_recover, may_tell}
 use Rattle.xa_serve.proofs.Recoveries.{recovery_open, recovery_room, recovery_unclosed}
 use Rattle.xa_serve.proofs.Sessions.{has_few, step_leaves}
 use Rattle.xa_serve.proofs.Telling.{resolved_follows}
+use Rattle.xa_serve.proofs.StepLemmas.{ok_obeys}
+use Rattle.xa_serve.specs.Session.{LetsWait, recovery_refusal, resolve_refusal}
 use Rattle.xa_serve.proofs.session.Session.resolve.Goals as goal
 
 pub issue_all-requires-clause-open : goal.issue_all-requires-clause-open
@@ -41,19 +43,23 @@ returns-clause-ready g c =
     (l : Traffic). l.answers.waiting) c.line_mut.ensures.value ∙ c.requires.heard 0 r may.has)
     c.requires.heard)
 
-pub returns-clause-follows : goal.returns-clause-follows
-returns-clause-follows g c =
+pub returns-clause-resolves : goal.returns-clause-resolves
+returns-clause-resolves g c =
     let s = c.args.self.now in
     let r = c.args.rm in
+    let none = sym c.in_ok-check_recovery.ensures in
+    let waits : LetsWait r (resolved_in (book_in s.manager) r) s.lines (with_line s.lines 0 r c.issue_all.new.self) = record {
+      calls = c.in_ok-calls.calls.items;
+      are = c.in_ok-calls.ensures.ok;
+      lines = ap (with_line s.lines 0 r) (c.issue_all.ensures ∙ ap (λ
+          (t : Traffic). record t { calls = with_more t.calls c.in_ok-calls.calls.items }) c.line_mut.ensures.value);
+    } in
     record {
-      leads =
-          resolved_follows s _ r c.resolve_len-count.result (sym c.in_ok-check_recovery.ensures) refl
-          (record {
-            calls = c.in_ok-calls.calls.items;
-            are = c.in_ok-calls.ensures.ok;
-            lines = ap (with_line s.lines 0 r) (c.issue_all.ensures ∙ ap (λ
-                (t : Traffic). record t { calls = with_more t.calls c.in_ok-calls.calls.items }) c.line_mut.ensures.value);
-          });
-      counted = refl;
-      states = λ b. refl;
+      rules = ok_obeys (resolve_refusal s r) s _ c.resolve_len-count.result (ap (recovery_refusal s r) (sym c.resolve_len-count.ensures) ∙ none);
+      memory = λ none. tt;
+      stays = tt;
+      count = c.resolve_len-count.ensures;
+      lines = waits;
+      manager = refl;
+      follows = record { leads = resolved_follows s _ r c.resolve_len-count.result none refl waits; counted = refl; states = λ b. refl };
     }

@@ -7,9 +7,11 @@ use Rattle.xa_tm.specs.Calls.{book_in}
 use Rattle.xa_tm.specs.Refusing.{resolved_open_in}
 use Rattle.xa_serve.proofs.Lines.{all_with, may_recover, may_tell}
 use Rattle.xa_serve.proofs.Recoveries.{recovery_open, recovery_room, recovery_unclosed}
-use Rattle.xa_serve.proofs.Sessions.{has_few, if_err, stays_by, step_leaves}
+use Rattle.xa_serve.proofs.Sessions.{has_few, step_leaves}
 use Rattle.xa_serve.proofs.Telling.{open_resolved_follows}
 use Rattle.xa_serve.proofs.Logging.{quiet_keeps, same_book, same_opened}
+use Rattle.xa_serve.proofs.StepLemmas.{ok_obeys}
+use Rattle.xa_serve.specs.Session.{LetsWait, recovery_refusal, resolve_open_refusal}
 use Rattle.xa_serve.proofs.session.Session.resolve_open.Goals as goal
 
 pub issue_all-requires-clause-open : goal.issue_all-requires-clause-open
@@ -42,26 +44,6 @@ returns-clause-ready g c =
     (l : Traffic). l.answers.waiting) c.line_mut.ensures.value ∙ c.requires.heard 0 r may.has)
     c.requires.heard)
 
-pub returns-clause-follows : goal.returns-clause-follows
-returns-clause-follows g c =
-    let s = c.args.self.now in
-    let r = c.args.rm in
-    record {
-      leads =
-          open_resolved_follows s _ r c.resolve_open_len-count.result (sym c.in_ok-check_recovery.ensures) c.in_ok-calls.ensures.ok
-          (record {
-            calls = c.in_ok-calls.calls.items;
-            are = c.in_ok-calls.ensures.calls;
-            lines = ap (with_line s.lines 0 r) (c.issue_all.ensures ∙ ap (λ
-                (t : Traffic). record t { calls = with_more t.calls c.in_ok-calls.calls.items }) c.line_mut.ensures.value);
-          });
-      counted = refl;
-      states = λ b. refl;
-    }
-
-pub returns-in_err-calls-clause-stays : goal.returns-in_err-calls-clause-stays
-returns-in_err-calls-clause-stays g c = if_err c.from_residual-in_err-calls.result (stays_by c.args.self.now _ refl refl refl c.in_err-calls.ensures.err.1 c.in_err-calls.ensures.log)
-
 pub returns-clause-keeps : goal.returns-clause-keeps
 returns-clause-keeps g c =
     let s = c.args.self.now in
@@ -73,3 +55,24 @@ returns-in_err-calls-clause-keeps g c =
     let s = c.args.self.now in
     quiet_keeps g.L.DecisionLog.moment s.manager c.resolve_open.new.self c.in_err-calls.ensures.log
     (same_book (book_in s.manager) (book_in c.resolve_open.new.self) c.in_err-calls.ensures.err.1)
+
+pub returns-clause-resolves : goal.returns-clause-resolves
+returns-clause-resolves g c =
+    let s = c.args.self.now in
+    let r = c.args.rm in
+    let none = sym c.in_ok-check_recovery.ensures in
+    let waits : LetsWait r (resolved_open_in (book_in s.manager) r) s.lines (with_line s.lines 0 r c.issue_all.new.self) = record {
+      calls = c.in_ok-calls.calls.items;
+      are = c.in_ok-calls.ensures.calls;
+      lines = ap (with_line s.lines 0 r) (c.issue_all.ensures ∙ ap (λ
+          (t : Traffic). record t { calls = with_more t.calls c.in_ok-calls.calls.items }) c.line_mut.ensures.value);
+    } in
+    record {
+      rules = ok_obeys (resolve_open_refusal s r) s _ c.resolve_open_len-count.result (ap (recovery_refusal s r) (sym c.resolve_open_len-count.ensures) ∙ none);
+      memory = λ none. tt;
+      stays = tt;
+      count = c.resolve_open_len-count.ensures;
+      lines = waits;
+      resolved = record { book = c.in_ok-calls.ensures.ok; follows = record { leads = open_resolved_follows s _ r c.resolve_open_len-count.result none c.in_ok-calls.ensures.ok waits; counted = refl; states = λ b. refl } };
+      log = c.in_ok-calls.ensures.log;
+    }

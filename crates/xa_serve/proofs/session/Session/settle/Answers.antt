@@ -8,11 +8,13 @@ use Rattle.xa_tm.specs.Calls.{book_in}
 use Rattle.xa_tm.specs.Refusing.{refusal_in}
 use Rattle.xa_serve.proofs.Refusals.{begun_if_settled, no_fault}
 use Rattle.xa_serve.proofs.Following.{settled_follows, follows_if_ok}
-use Rattle.xa_serve.proofs.Sessions.{concluded, concluded_err, concluded_refused, concluded_stays, refusal_is, room_for_one, sized_by_call}
+use Rattle.xa_serve.proofs.Sessions.{Concludes, concluded, refusal_is, room_for_one, sized_by_call}
 use Rattle.xa_serve.specs.Logging.{KeepsLog}
 use Rattle.std.proofs.Common.{subst}
 use Rattle.xa_serve.proofs.Headroom.{sound}
 use Rattle.xa_serve.proofs.Logging.{asked_keeps, one_settled, settlement_changes}
+use Rattle.xa_serve.proofs.StepLemmas.{concluded_asks, concluded_happens, concluded_obeys}
+use Rattle.xa_serve.specs.Session.{refusal_at}
 use Rattle.xa_serve.proofs.session.Session.settle.Goals as goal
 
 pub conclude-requires : goal.conclude-requires
@@ -28,45 +30,6 @@ returns-clause-ready g c =
     (no_fault (book_in s.manager) (Steps.Settle c.args.gtrid)) c.settle-reply.ensures.refused
     (on_ok c.settle-reply.result _ _ (λ none. (begun_if_settled (book_in s.manager) c.args.gtrid none, tt)) c.settle-reply.ensures.allowed)
     c.settle-reply.ensures.ok c.settle-reply.ensures.err
-
-pub returns-clause-refused : goal.returns-clause-refused
-returns-clause-refused g c = λ n some.
-    let s = c.args.self.now in
-    concluded_refused s c.conclude.new.self _ 1 (refusal_in (book_in s.manager) (Steps.Settle c.args.gtrid)) _ c.settle-reply.result _ n
-    (refusal_is s (Steps.Settle c.args.gtrid) (sym c.is_over.ensures ∙ c.if-is_over.false)) (no_fault (book_in s.manager) (Steps.Settle c.args.gtrid))
-    (record { manager = c.conclude.ensures.manager; lines = c.conclude.ensures.lines; happenings = c.conclude.ensures.happenings })
-    c.conclude.ensures.value c.conclude.ensures.monitor c.settle-reply.ensures.refused some
-
-pub returns-clause-err : goal.returns-clause-err
-returns-clause-err g c =
-    let s = c.args.self.now in
-    concluded_err s c.conclude.new.self _ 1 (refusal_in (book_in s.manager) (Steps.Settle c.args.gtrid)) _
-    (Adds (rows_for (book_in s.manager) (c.args.gtrid ∷ []))) (InDecide (c.args.gtrid ∷ [])) c.settle-reply.result _
-    (refusal_is s (Steps.Settle c.args.gtrid) (sym c.is_over.ensures ∙ c.if-is_over.false))
-    (record { manager = c.conclude.ensures.manager; lines = c.conclude.ensures.lines; happenings = c.conclude.ensures.happenings })
-    c.conclude.ensures.value c.settle-reply.ensures.err
-
-pub returns-clause-asked : goal.returns-clause-asked
-returns-clause-asked g c = λ none fault.
-    let s = c.args.self.now in
-    c.settle-reply.ensures.asked (sym (refusal_is s (Steps.Settle c.args.gtrid) (sym c.is_over.ensures ∙ c.if-is_over.false)) ∙ none)
-    (sym c.conclude.ensures.value ∙ fault)
-
-pub returns-clause-follows : goal.returns-clause-follows
-returns-clause-follows g c =
-    let s = c.args.self.now in
-    follows_if_ok s c.conclude.new.self (refusal_in (book_in s.manager) (Steps.Settle c.args.gtrid))
-    (Decided c.args.gtrid Outcomes.Commit ∷ []) c.settle-reply.new.self c.settle-reply.result _ 1 refl
-    c.conclude.ensures.happenings c.conclude.ensures.value c.conclude.ensures.manager c.conclude.ensures.lines c.settle-reply.ensures.allowed c.settle-reply.ensures.ok c.conclude.ensures.monitor
-    (settled_follows s c.conclude.new.self c.args.gtrid)
-
-pub returns-clause-stays : goal.returns-clause-stays
-returns-clause-stays g c =
-    let s = c.args.self.now in
-    concluded_stays s _ _ 1 (refusal_in (book_in s.manager) (Steps.Settle c.args.gtrid))
-    (Adds (rows_for (book_in s.manager) (c.args.gtrid ∷ []))) (InDecide (c.args.gtrid ∷ [])) c.settle-reply.result _
-    (record { manager = c.conclude.ensures.manager; lines = c.conclude.ensures.lines; happenings = c.conclude.ensures.happenings })
-    c.conclude.ensures.value c.conclude.ensures.monitor c.settle-reply.ensures.refused c.settle-reply.ensures.err c.settle-reply.ensures.kept
 
 pub returns-clause-keeps : goal.returns-clause-keeps
 returns-clause-keeps g c =
@@ -97,4 +60,33 @@ invariant_of-self g c =
     record {
       sized = sized_by_call s call.new.self (refusal_in (book_in s.manager) (Steps.Settle c.args.gtrid)) (Adds (rows_for (book_in s.manager) (c.args.gtrid ∷ []))) (InDecide (c.args.gtrid ∷ [])) (Decided c.args.gtrid Outcomes.Commit ∷ []) call.result call.ensures.refused
           call.ensures.ok call.ensures.err;
+    }
+
+pub returns-clause-settles : goal.returns-clause-settles
+returns-clause-settles g c =
+    let s = c.args.self.now in
+    let k = book_in s.manager in
+    let call = c.settle-reply in
+    let new = c.conclude.new.self in
+    let why = refusal_in (book_in s.manager) (Steps.Settle c.args.gtrid) in
+    let session_why = refusal_at s (Steps.Settle c.args.gtrid) in
+    let is = refusal_is s (Steps.Settle c.args.gtrid) (sym c.is_over.ensures ∙ c.if-is_over.false) in
+    let done : Concludes s new call.new.self 1 call.result = record {
+      manager = c.conclude.ensures.manager;
+      lines = c.conclude.ensures.lines;
+      happenings = c.conclude.ensures.happenings;
+    } in
+    let same = c.conclude.ensures.value in
+    let monitor = c.conclude.ensures.monitor in
+    let refused = call.ensures.refused in
+    record {
+      rules = concluded_obeys s new call.new.self 1 why session_why call.result _ is done same monitor refused (no_fault (book_in s.manager) (Steps.Settle c.args.gtrid)) call.ensures.allowed;
+      asks = concluded_asks s new call.new.self 1 why session_why call.result _ is done same monitor refused (Adds (rows_for (book_in s.manager) (c.args.gtrid ∷ []))) (InDecide (c.args.gtrid ∷ [])) call.ensures.err
+          call.ensures.kept;
+      asked = λ none fault. call.ensures.asked (sym is ∙ none) (sym c.conclude.ensures.value ∙ fault);
+      decided = concluded_happens s new call.new.self (Decided c.args.gtrid Outcomes.Commit ∷ []) call.result _ c.conclude.ensures.manager same call.ensures.ok
+          (follows_if_ok s c.conclude.new.self (refusal_in (book_in s.manager) (Steps.Settle c.args.gtrid))
+          (Decided c.args.gtrid Outcomes.Commit ∷ []) c.settle-reply.new.self c.settle-reply.result _ 1 refl
+          c.conclude.ensures.happenings c.conclude.ensures.value c.conclude.ensures.manager c.conclude.ensures.lines c.settle-reply.ensures.allowed c.settle-reply.ensures.ok c.conclude.ensures.monitor
+          (settled_follows s c.conclude.new.self c.args.gtrid));
     }
