@@ -81,11 +81,7 @@ pub fn draw_scenario<L: DecisionLog + Drop, W: Write>(
 }
 
 /// The picture of the events of a scenario.
-fn picture_of(
-    alloc: Global,
-    named: &NamedScenario,
-    events: &[Event],
-) -> Result<String, ChartFault>
+fn picture_of(alloc: Global, named: &NamedScenario, events: &[Event]) -> Result<String, ChartFault>
     ensures drawn { IfOk result (λ picture. IsPicture named.now.scenario.threads
         named.now.scenario.rms (length events.now) (string_bytes picture)) }
     ensures fault { IfErr result (λ e. e ≡ Run Faults.Memory) }

@@ -4,5 +4,6 @@ pub mod Lines
 pub mod Naming
 pub mod Parties
 pub mod Replied
+pub mod Standings
 pub mod Stories
 pub mod Words

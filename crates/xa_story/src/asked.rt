@@ -25,12 +25,7 @@ pub fn call_text(alloc: Global, names: &Names, call: &Call) -> Result<String, Me
 }
 
 /// A word, and the transaction that it is about.
-fn of_transaction(
-    alloc: Global,
-    names: &Names,
-    word: &str,
-    gtrid: Gtrid,
-) -> Result<String, Memory>
+fn of_transaction(alloc: Global, names: &Names, word: &str, gtrid: Gtrid) -> Result<String, Memory>
     ensures { IfOk result (λ text. string_bytes text ≡ of_transaction names.now word.now gtrid) }
 {
     let name = names.name_of(gtrid);

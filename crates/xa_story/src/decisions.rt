@@ -47,7 +47,10 @@ impl<'a> Scene<'a> {
         if let Step::Claim { gtrid } = *step {
             self.ledger.claim(gtrid)?;
         }
-        plain_effect(self.alloc, "all votes are in: no recovery rolls it back now")
+        plain_effect(
+            self.alloc,
+            "all votes are in: no recovery rolls it back now",
+        )
     }
 
     /// A transaction is decided.

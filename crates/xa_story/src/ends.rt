@@ -53,11 +53,7 @@ fn end_line(alloc: Global, names: &Names, line: &(Xid, Fate)) -> Result<String, 
 }
 
 /// The lines of branches.
-pub fn fates_text(
-    alloc: Global,
-    names: &Names,
-    fates: &[(Xid, Fate)],
-) -> Result<String, Memory>
+pub fn fates_text(alloc: Global, names: &Names, fates: &[(Xid, Fate)]) -> Result<String, Memory>
     ensures { IfOk result (λ text. string_bytes text ≡ flat_map (end_line names.now) fates.now) }
 {
     let mut text = String::new(alloc);
@@ -143,11 +139,7 @@ fn different_text(alloc: Global, scene: &Scene, gtrid: Gtrid) -> Result<String, 
 }
 
 /// Why each transaction ended as it did.
-pub fn reasons_text(
-    alloc: Global,
-    scene: &Scene,
-    fates: &[(Xid, Fate)],
-) -> Result<String, Memory> {
+pub fn reasons_text(alloc: Global, scene: &Scene, fates: &[(Xid, Fate)]) -> Result<String, Memory> {
     let mut text = String::new(alloc);
     for gtrid in scene.names().gtrids() {
         if !fates.iter().any(|line| is_of(*gtrid, &line.0)) {

@@ -92,8 +92,10 @@ impl<'a> Scene<'a> {
 
     /// A begin gives its name to what it is answered.
     fn note_begin(&mut self, event: &Event) -> Result<(), Memory>
-        ensures { OnOk result (self.new ≡ record self.old { names =
-            with_step self.old.names event.now.step event.now.reply }) }
+        ensures { OnOk result (self.new ≡ record self.old {
+          names =
+              with_step self.old.names event.now.step event.now.reply;
+        }) }
     {
         match event.step {
             Step::Begin { .. } => self.names.add(&event.reply),
