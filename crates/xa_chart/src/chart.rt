@@ -105,5 +105,6 @@ pub fn chart_text(run: &Run) -> Result<String, Memory>
         height,
     };
     let title = title_text(run.alloc, run.threads, run.rms, run.events.len())?;
-    document(run.alloc, size, title.as_str(), canvas.text())
+    let picture = document(run.alloc, size, title.as_str(), canvas.text())?;
+    Ok(picture)
 }
