@@ -6,6 +6,7 @@ ghost use Rattle.std.specs.String.{string_bytes};
 ghost use Rattle.xa_chart.specs.Pictures.{IsPicture};
 ghost use Rattle.xa_display.specs.Shows.{DrawsRun, EndsPicture, ExplainsPicture, IsTooLong};
 ghost use Rattle.xa_display.specs.declared.picture.ChartFault.TheVariants.{Run, TooLong};
+ghost use Rattle.xa_display.specs.declared.picture.ChartFault.TheVariants as ChartFaults;
 ghost use Rattle.xa_files.specs.declared.fault.RunFault.{RunFault};
 ghost use Rattle.xa_files.specs.declared.fault.RunFault.TheVariants as Faults;
 ghost use Rattle.xa_scenario.specs.Scenarios.{scenario_of};
@@ -84,7 +85,7 @@ pub fn draw_scenario<L: DecisionLog + Drop, W: Write>(
 fn picture_of(alloc: Global, named: &NamedScenario, events: &[Event]) -> Result<String, ChartFault>
     ensures drawn { IfOk result (λ picture. IsPicture named.now.scenario.threads
         named.now.scenario.rms (length events.now) (string_bytes picture)) }
-    ensures fault { IfErr result (λ e. e ≡ Run Faults.Memory) }
+    ensures fault { IfErr result (λ e. e ≡ ChartFaults.Run Faults.Memory) }
 {
     let mut scene = Scene::new(alloc, &named.names);
     let lines = lines_of(alloc, &mut scene, events)?;
