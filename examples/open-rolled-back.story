@@ -14,10 +14,10 @@
  14  manager → rm 0     xa_recover             waits
  15  rm 0 → manager     xa_recover             1             in doubt here: a
  16  manager ← rm 0     xa_recover             1
- 17  manager → rm 0     resolve-open           1 call        each listed branch: commit with a row, rollback without
+ 17  manager → rm 0     resolve-open           1 call        a decided to roll back; each listed branch: commit with a row, rollback without
  18  manager            claim a                refused 8 Decided: how it ends is settled already: decided, claimed or handed over
  19  rm 0 → manager     xa_rollback a          XA_OK         rolled back: its transaction has no row in the log
  20  manager ← rm 0     xa_rollback a          XA_OK
 
       a at rm 0        rolled-back
-      No decision to commit a is in the log, and what has no row there is never committed.
+      a was decided to roll back at 17. That is not written: a branch with no row in the log is rolled back.

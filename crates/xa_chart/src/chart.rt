@@ -1,5 +1,9 @@
 //! The picture of a run as a sequence diagram.
 
+ghost use Rattle.std.specs.Prelude.{◌≡◌, IfOk, length};
+ghost use Rattle.std.specs.String.{string_bytes};
+ghost use Rattle.xa_chart.specs.Pictures.{HasTitle, IsPicture, title_text};
+
 use crate::arrows::draw_arrows;
 use crate::bars::{draw_bars, draw_downs};
 use crate::canvas::{Canvas, Size};
@@ -14,6 +18,7 @@ use crate::run::Run;
 use crate::spans::spans_of;
 use crate::style::STYLE;
 use crate::texts::{write_labels, write_notes};
+use std::alloc::Global;
 use xa_base::Memory;
 use xa_story::Party;
 
@@ -50,22 +55,37 @@ fn draw_all_downs(canvas: &mut Canvas, layout: &Layout, run: &Run) -> Result<(),
     Ok(())
 }
 
-/// The document of SVG that has these elements.
-fn document(run: &Run, size: Size, elements: &str) -> Result<String, Memory> {
-    let Size { width, height } = size;
-    let (threads, rms, events) = (run.threads, run.rms, run.events.len());
-    Ok(format!(in run.alloc;
-        "<svg xmlns=\"http://www.w3.org/2000/svg\" role=\"img\" width=\"{width}\" \
-        height=\"{height}\" viewBox=\"0 0 {width} {height}\">\n\
-        <title>Sequence diagram of a run: threads {threads}, resource managers {rms}, \
-        events {events}</title>\n{STYLE}\
-        <rect class=\"paper\" x=\"0\" y=\"0\" width=\"{width}\" height=\"{height}\"/>\n\
-        {elements}</svg>\n"
+/// The title of a picture: how large the run is.
+fn title_text(alloc: Global, threads: u32, rms: u32, events: usize) -> Result<String, Memory>
+    ensures { IfOk result (λ text. string_bytes text ≡ title_text threads rms events) }
+{
+    Ok(format!(in alloc;
+        "Sequence diagram of a run: threads {threads}, resource managers {rms}, events {events}"
     )?)
 }
 
+/// The document of SVG that has this title and these elements.
+fn document(alloc: Global, size: Size, title: &str, elements: &str) -> Result<String, Memory>
+    ensures { IfOk result (λ text. HasTitle title.now (string_bytes text)) }
+{
+    let Size { width, height } = size;
+    let head = format!(in alloc;
+        "<svg xmlns=\"http://www.w3.org/2000/svg\" role=\"img\" width=\"{width}\" \
+        height=\"{height}\" viewBox=\"0 0 {width} {height}\">\n<title>"
+    )?;
+    let body = format!(in alloc;
+        "</title>\n{STYLE}\
+        <rect class=\"paper\" x=\"0\" y=\"0\" width=\"{width}\" height=\"{height}\"/>\n\
+        {elements}</svg>\n"
+    )?;
+    Ok(format!(in alloc; "{head}{title}{body}")?)
+}
+
 /// The picture of a run, as a document of SVG.
-pub fn chart_text(run: &Run) -> Result<String, Memory> {
+pub fn chart_text(run: &Run) -> Result<String, Memory>
+    ensures { IfOk result (λ text.
+        IsPicture run.now.threads run.now.rms (length run.now.events.now) (string_bytes text)) }
+{
     let labels = labels_of(run)?;
     let spans = spans_of(run)?;
     let notes = notes_of(run)?;
@@ -84,5 +104,6 @@ pub fn chart_text(run: &Run) -> Result<String, Memory> {
         width: layout.width,
         height,
     };
-    document(run, size, canvas.text())
+    let title = title_text(run.alloc, run.threads, run.rms, run.events.len())?;
+    document(run.alloc, size, title.as_str(), canvas.text())
 }

@@ -1,5 +1,5 @@
 -- What a file is read as.
-use Rattle.std.specs.Prelude.{ℕ, Bool, if◌then◌else◌, List, codes, not, ◌&&◌, Result, Ok, Err}
+use Rattle.std.specs.Prelude.{ℕ, if◌then◌else◌, List, codes, not, ◌&&◌, Result, Ok, Err}
 use Rattle.toml.specs.Data.{Members}
 use Rattle.xa_files.specs.Documents.{document_of}
 use Rattle.xa_files.specs.Fields.{holds}

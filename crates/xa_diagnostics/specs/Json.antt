@@ -1,7 +1,7 @@
 -- What is printed, as JSON.
-use Rattle.std.specs.Prelude.{ℕ, ◌^◌, ◌-◌, ◌==◌, nat_lt, nat_eq, false, true, Bool, if◌then◌else◌, List, [], ◌∷◌, ◌++◌, length, map, codes, Option, Some, None, not, ◌&&◌, ◌||◌}
+use Rattle.std.specs.Prelude.{ℕ, ◌^◌, ◌-◌, ◌==◌, nat_lt, nat_eq, false, true, Bool, if◌then◌else◌, List, [], ◌∷◌, ◌++◌, codes, not, ◌&&◌, ◌||◌}
 use Rattle.std.specs.Char.{encode_utf8}
-use Rattle.std.specs.Fmt.{decimal, digits, format_spec, padded_integral}
+use Rattle.std.specs.Fmt.{digits, format_spec, padded_integral}
 use Rattle.std.specs.List.{after_first, before_first, flat_map, join_with_byte, starts_with}
 use Rattle.std.specs.Str.{bytes_eq, chars}
 use Rattle.std.specs.Str.Lines.{lines}
@@ -72,7 +72,8 @@ first_or_null (item ∷ items) = item
 -- what a run prints, as JSON: its branches with their fates, and the other lines of its trace, where it has one
 abbrev pub run_json : Bool → List ℕ → List ℕ
 run_json with_trace printed =
-    if with_trace then codes "{\"events\":" ++ array (items_in Event (lines printed)) ++ codes ",\"branches\":" ++ array (items_in Branch (lines printed)) ++ codes "}\n"
+    if with_trace then codes "{\"events\":" ++ array (items_in Event (lines printed))
+    ++ codes ",\"branches\":" ++ array (items_in Branch (lines printed)) ++ codes "}\n"
     else codes "{\"branches\":" ++ array (items_in Branch (lines printed)) ++ codes "}\n"
 
 -- what a look at a log prints, as JSON: the names that it keeps, its decisions, and its heuristic ends

@@ -1,6 +1,6 @@
 //! What is wrong with a table, and what is allowed there, in words.
 
-use crate::allowed::{allowed_at, flags_of_call, name_of_call};
+use crate::allowed::{AllFlags, Allowed, flags_of_call, name_of_call, write_list};
 use std::fmt;
 use toml::Value;
 use xa_base::CallKind;
@@ -9,21 +9,6 @@ use xa_files::Finding;
 /// What is wrong, in words.
 #[derive(Clone, Copy)]
 pub struct InWords<'a>(pub Finding<'a>);
-
-/// Writes words with commas between them, and `and` before the last.
-fn write_list<W: fmt::Write>(f: &mut fmt::Formatter<W>, words: &[&str]) -> fmt::Result {
-    let last = words.len().saturating_sub(1);
-    for (i, word) in words.iter().enumerate() {
-        if i == 0 {
-            write!(f, "{word}")?;
-        } else if i == last {
-            write!(f, " and {word}")?;
-        } else {
-            write!(f, ", {word}")?;
-        }
-    }
-    Ok(())
-}
 
 /// Writes what a key holds: a text or a number as it is, else of which kind it is.
 fn write_value<W: fmt::Write>(f: &mut fmt::Formatter<W>, value: &Value) -> fmt::Result {
@@ -43,19 +28,15 @@ fn write_key<W: fmt::Write>(f: &mut fmt::Formatter<W>, finding: &Finding<'_>) ->
     match finding {
         Finding::OtherKey { of, key, keys } => {
             write!(f, "{key:?} is no key of {of}, which has ")?;
-            write_list(f, keys)
+            write_list(f, keys, "and")
         }
         Finding::Missing { of, key } => {
-            write!(
-                f,
-                "{of} needs the key {key}, which holds {}",
-                allowed_at(key)
-            )
+            write!(f, "{of} needs the key {key}, which holds {}", Allowed(key))
         }
         Finding::Unfit { key, value } => {
             write!(f, "{key} is ")?;
             write_value(f, value)?;
-            write!(f, "; it has to be {}", allowed_at(key))
+            write!(f, "; it has to be {}", Allowed(key))
         }
         _ => Ok(()),
     }
@@ -65,17 +46,13 @@ fn write_key<W: fmt::Write>(f: &mut fmt::Formatter<W>, finding: &Finding<'_>) ->
 fn write_flags<W: fmt::Write>(f: &mut fmt::Formatter<W>, finding: &Finding<'_>) -> fmt::Result {
     match finding {
         Finding::NoFlag(word) => {
-            write!(
-                f,
-                "{word:?} is a flag of no call: there are {}",
-                allowed_at("flag")
-            )
+            write!(f, "{word:?} is a flag of no call: there are {}", AllFlags)
         }
         Finding::FlagTwice(word) => write!(f, "flags names {word} twice"),
         Finding::FlagNoText(value) => {
             write!(f, "flags has ")?;
             write_value(f, value)?;
-            write!(f, "; it is {}", allowed_at("flags"))
+            write!(f, "; it is {}", Allowed("flags"))
         }
         Finding::FlagsOfCall(kind) => {
             write!(f, "{} takes {}", name_of_call(*kind), flags_of_call(*kind))
@@ -108,7 +85,7 @@ fn write_call<W: fmt::Write>(f: &mut fmt::Formatter<W>, finding: &Finding<'_>) -
             write!(
                 f,
                 "xa_recover needs the key count, which holds {}",
-                allowed_at("count")
+                Allowed("count")
             )
         }
         Finding::HasNoCount(kind) => {

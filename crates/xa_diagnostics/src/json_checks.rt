@@ -75,7 +75,8 @@ fn found_json(
     let lines = lines_of(alloc, warnings)?;
     let warned = Item::Line.array_in(alloc, lines.as_slice())?;
     Ok(format!(in alloc;
-        "{{\"file\":{path},\"ok\":{is_well},\"kind\":\"{kind}\",\"faults\":{faults},\"warnings\":{warned}}}\n"
+        "{{\"file\":{path},\"ok\":{is_well},\"kind\":\"{kind}\",\"faults\":{faults},\
+        \"warnings\":{warned}}}\n"
     )?)
 }
 

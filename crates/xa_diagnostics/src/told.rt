@@ -2,7 +2,7 @@
 
 ghost use Rattle.std.specs.Prelude.{◌≡◌, IfOk};
 ghost use Rattle.std.specs.String.{string_bytes};
-ghost use Rattle.xa_diagnostics.specs.Explanations.{Tells, fault_text, number_text, numbers_text, place_text, reason_text};
+ghost use Rattle.xa_diagnostics.specs.Explanations.{fault_text, number_text, numbers_text, place_text, reason_text};
 
 use std::alloc::Global;
 use xa_base::Memory;
@@ -58,7 +58,7 @@ fn reason_text(alloc: Global, fault: RunFault, reason: &str) -> Result<String, M
 }
 
 /// What is told of the file at a path, which has this fault on a line, for a reason.
-fn fault_text(
+pub fn fault_line(
     alloc: Global,
     path: &str,
     fault: RunFault,
@@ -72,19 +72,4 @@ fn fault_text(
     let numbers = numbers_text(alloc, line, column)?;
     let text = reason_text(alloc, fault, reason)?;
     Ok(format!(in alloc; "{path}{numbers}: {text}")?)
-}
-
-/// The same, of which the contract says only that it tells of the fault.
-pub fn fault_line(
-    alloc: Global,
-    path: &str,
-    fault: RunFault,
-    line: Option<usize>,
-    column: Option<usize>,
-    reason: &str,
-) -> Result<String, Memory>
-    ensures { IfOk result (λ told. Tells path.now fault (string_bytes told)) }
-{
-    let told = fault_text(alloc, path, fault, line, column, reason)?;
-    Ok(told)
 }

@@ -27,6 +27,13 @@ struct Named {
     of: Option<u32>,
 }
 
+/// No number.
+const NOTHING: Named = Named {
+    thread: None,
+    rm: None,
+    of: None,
+};
+
 /// The thread of the branch that a call names.
 fn of_call(call: &Call<BranchEntry>) -> Option<u32> {
     match call {
@@ -45,8 +52,7 @@ fn named_in(entry: &Entry) -> Named {
     match entry {
         Entry::Begin { thread } => Named {
             thread: Some(*thread),
-            rm: None,
-            of: None,
+            ..NOTHING
         },
         Entry::Issue { thread, rm, call } | Entry::Call { thread, rm, call } => Named {
             thread: Some(*thread),
@@ -56,36 +62,25 @@ fn named_in(entry: &Entry) -> Named {
         Entry::Take { thread, rm }
         | Entry::Hear { thread, rm }
         | Entry::Drain { thread, rm }
-        | Entry::Crash(Part::Line { thread, rm }) => {
-            Named {
-                thread: Some(*thread),
-                rm: Some(*rm),
-                of: None,
-            }
-        }
-        Entry::Script { rm, branch, .. } => {
-            Named {
-                thread: None,
-                rm: Some(*rm),
-                of: Some(branch.thread),
-            }
-        }
+        | Entry::Crash(Part::Line { thread, rm }) => Named {
+            thread: Some(*thread),
+            rm: Some(*rm),
+            ..NOTHING
+        },
+        Entry::Script { rm, branch, .. } => Named {
+            rm: Some(*rm),
+            of: Some(branch.thread),
+            ..NOTHING
+        },
         Entry::Recover { rm, .. }
         | Entry::Resolve { rm }
         | Entry::ResolveOpen { rm }
         | Entry::Crash(Part::Rm { rm })
         | Entry::Restart(Side::Rm { rm }) => Named {
-            thread: None,
             rm: Some(*rm),
-            of: None,
+            ..NOTHING
         },
-        Entry::End { .. } | Entry::Crash(Part::Manager) | Entry::Restart(Side::Manager) => {
-            Named {
-                thread: None,
-                rm: None,
-                of: None,
-            }
-        }
+        Entry::End { .. } | Entry::Crash(Part::Manager) | Entry::Restart(Side::Manager) => NOTHING,
     }
 }
 
@@ -104,7 +99,8 @@ fn past_text(
         )?
     } else {
         format!(in alloc;
-            "{key} is {number}, and there are only {what}s 0 to {last}: the step will be refused (14)"
+            "{key} is {number}, and there are only {what}s 0 to {last}: \
+            the step will be refused (14)"
         )?
     })
 }

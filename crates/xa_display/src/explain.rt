@@ -1,7 +1,8 @@
 //! A scenario file is run, and its story is told.
 
-ghost use Rattle.std.specs.Prelude.{◌≡◌, ◌≢◌, Err, IfErr, IsErr};
+ghost use Rattle.std.specs.Prelude.{◌≡◌, ◌≢◌, Err, IfErr, IsErr, OnOk};
 ghost use Rattle.std.specs.Io.KnownBytes.{Keeps};
+ghost use Rattle.xa_display.specs.Shows.{TellsRun};
 ghost use Rattle.xa_files.specs.Reading.{EndsWith, Explains};
 ghost use Rattle.xa_files.specs.declared.fault.RunFault.{RunFault};
 ghost use Rattle.xa_files.specs.declared.fault.RunFault.TheVariants.{Work};
@@ -17,8 +18,8 @@ use xa_story::{Scene, lines_of, story_text};
 /// Runs a scenario file at new resource managers and over a decision log that is still empty, and prints its story: the
 /// line of each event, and then what became of each branch and why.
 ///
-/// A file that is no scenario is refused before anything is run, by NotToml, Header or Step. Log comes where the log
-/// can't be started, Memory where a request was refused outside of a step, and Output where a write failed. Work never
+/// A file that is no scenario is refused before anything is run, by NotToml, Header or Step. Log comes if the log
+/// can't be started, Memory if a request was refused outside of a step, and Output if a write failed. Work never
 /// comes.
 pub fn explain_scenario<L: DecisionLog + Drop, W: Write>(
     alloc: Global,
@@ -26,6 +27,10 @@ pub fn explain_scenario<L: DecisionLog + Drop, W: Write>(
     log: L,
     out: &mut W,
 ) -> Result<(), RunFault>
+    // What is printed is the story of a run over this log.
+    ensures ok { OnOk result (TellsRun L.moment log text.now (W.contents out.old)
+        (W.contents out.new)) }
+    // Why it ends early.
     ensures fault { IfErr result (λ e. Explains e (scenario_of text.now)) }
     ensures work { IfErr result (λ e. e ≢ Work) }
     ensures refused { (e : RunFault) → scenario_of text.now ≡ Err e → EndsWith e result }

@@ -1,8 +1,12 @@
 //! A scenario file is run, and drawn.
 
-ghost use Rattle.std.specs.Prelude.{◌≡◌, Err, IsErr};
+ghost use Rattle.std.specs.Prelude.{◌≡◌, Err, IfErr, IfOk, IsErr, OnOk, length};
 ghost use Rattle.std.specs.Io.KnownBytes.{Keeps};
+ghost use Rattle.std.specs.String.{string_bytes};
+ghost use Rattle.xa_chart.specs.Pictures.{IsPicture};
+ghost use Rattle.xa_display.specs.Shows.{DrawsRun, EndsPicture, ExplainsPicture, IsTooLong};
 ghost use Rattle.xa_display.specs.declared.picture.ChartFault.TheVariants.{Run, TooLong};
+ghost use Rattle.xa_files.specs.declared.fault.RunFault.{RunFault};
 ghost use Rattle.xa_files.specs.declared.fault.RunFault.TheVariants as Faults;
 ghost use Rattle.xa_scenario.specs.Scenarios.{scenario_of};
 
@@ -46,13 +50,20 @@ impl From<Memory> for ChartFault {
 /// Runs a scenario file at new resource managers and over a decision log that is still empty, and prints it as a
 /// sequence diagram: a document of SVG.
 ///
-/// TooLong comes where the run has more than 200 events. Else the faults are those of `explain_scenario`.
+/// TooLong comes if the run has more than 200 events. The other faults are those of `explain_scenario`.
 pub fn draw_scenario<L: DecisionLog + Drop, W: Write>(
     alloc: Global,
     text: &[u8],
     log: L,
     out: &mut W,
 ) -> Result<(), ChartFault>
+    // What is printed is a picture of a run over this log.
+    ensures ok { OnOk result (DrawsRun L.moment log text.now (W.contents out.old)
+        (W.contents out.new)) }
+    // Why it ends early.
+    ensures too_long { result ≡ Err TooLong → IsTooLong L.moment log text.now }
+    ensures fault { IfErr result (λ e. ExplainsPicture e (scenario_of text.now)) }
+    ensures refused { (e : RunFault) → scenario_of text.now ≡ Err e → EndsPicture e result }
     // A file that is no scenario writes nothing, and nor does a run that is too long.
     ensures unwritten { IsErr (scenario_of text.now)
         → Keeps (W.contents out.old) (W.contents out.new) }
@@ -70,11 +81,11 @@ pub fn draw_scenario<L: DecisionLog + Drop, W: Write>(
 }
 
 /// The picture of the events of a scenario.
-fn picture_of(
-    alloc: Global,
-    named: &NamedScenario,
-    events: &[Event],
-) -> Result<String, ChartFault> {
+fn picture_of(alloc: Global, named: &NamedScenario, events: &[Event]) -> Result<String, ChartFault>
+    ensures drawn { IfOk result (λ picture. IsPicture named.now.scenario.threads
+        named.now.scenario.rms (length events.now) (string_bytes picture)) }
+    ensures fault { IfErr result (λ e. e ≡ Run Faults.Memory) }
+{
     let mut scene = Scene::new(alloc, &named.names);
     let lines = lines_of(alloc, &mut scene, events)?;
     let run = Run {

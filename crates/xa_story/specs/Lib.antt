@@ -1,2 +1,9 @@
+pub mod Asked
+pub mod Ends
+pub mod Lines
+pub mod Naming
 pub mod Parties
+pub mod Replied
+pub mod Standings
 pub mod Stories
+pub mod Words

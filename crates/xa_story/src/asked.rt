@@ -1,12 +1,19 @@
 //! What an event was asked to do, in words.
 
+ghost use Rattle.std.specs.Prelude.{◌≡◌, IfOk};
+ghost use Rattle.std.specs.String.{string_bytes};
+ghost use Rattle.xa_story.specs.Asked.{alone_text, asked_text, call_text, decide_text, moved_text, of_transaction, outcome_name, puts_off_text, votes_text};
+ghost use Rattle.xa_story.specs.Naming.{xid_text};
+
 use crate::names::Names;
 use crate::words::{call_name, vote_text};
 use std::alloc::Global;
-use xa_base::{Branch, Call, Event, Gtrid, How, Memory, Outcome, Part, Reply, Step, Xid};
+use xa_base::{Branch, Call, Event, Gtrid, How, Memory, Outcome, Part, Reply, Step, Vote, Xid};
 
 /// A call, by its name and the name of its branch.
-pub fn call_text(alloc: Global, names: &Names, call: &Call) -> Result<String, Memory> {
+pub fn call_text(alloc: Global, names: &Names, call: &Call) -> Result<String, Memory>
+    ensures { IfOk result (λ text. string_bytes text ≡ call_text names.now call.now) }
+{
     let name = call_name(call);
     match call.xid() {
         Some(xid) => {
@@ -17,102 +24,117 @@ pub fn call_text(alloc: Global, names: &Names, call: &Call) -> Result<String, Me
     }
 }
 
-/// A word behind which a transaction is named.
-fn of_transaction(
-    alloc: Global,
-    names: &Names,
-    word: &str,
-    gtrid: Gtrid,
-) -> Result<String, Memory> {
+/// A word, and the transaction that it is about.
+fn of_transaction(alloc: Global, names: &Names, word: &str, gtrid: Gtrid) -> Result<String, Memory>
+    ensures { IfOk result (λ text. string_bytes text ≡ of_transaction names.now word.now gtrid) }
+{
     let name = names.name_of(gtrid);
     Ok(format!(in alloc; "{word} {name}")?)
 }
 
 /// What a resource manager does with a prepared branch by itself.
-fn alone_text(alloc: Global, branch: &str, how: How) -> Result<String, Memory> {
-    Ok(match how {
-        How::Com => format!(in alloc; "commits {branch} itself")?,
-        How::Rb => format!(in alloc; "rolls {branch} back itself")?,
-        How::Mix => format!(in alloc; "commits a part of {branch} itself")?,
-        How::Haz => format!(in alloc; "may have ended {branch}")?,
-    })
-}
-
-/// What a resource manager is told of a branch.
-fn script_text(alloc: Global, names: &Names, step: &Step) -> Result<String, Memory> {
-    match *step {
-        Step::Vote { ref xid, vote, .. } => {
-            let branch = names.xid_text(alloc, xid)?;
-            let vote = vote_text(vote);
-            Ok(format!(in alloc; "will vote {vote} on {branch}")?)
-        }
-        Step::Busy { ref xid, times, .. } => {
-            let branch = names.xid_text(alloc, xid)?;
-            Ok(format!(in alloc; "will put xa_commit {branch} off {times} times")?)
-        }
-        Step::Heuristic { ref xid, how, .. } => {
-            let branch = names.xid_text(alloc, xid)?;
-            alone_text(alloc, branch.as_str(), how)
-        }
-        _ => Ok(String::new(alloc)),
+fn alone_text(alloc: Global, names: &Names, xid: &Xid, how: How) -> Result<String, Memory>
+    ensures { IfOk result (λ text.
+        string_bytes text ≡ alone_text how (xid_text names.now xid.now)) }
+{
+    let branch = names.xid_text(alloc, xid)?;
+    match how {
+        How::Com => Ok(format!(in alloc; "commits {branch} itself")?),
+        How::Rb => Ok(format!(in alloc; "rolls {branch} back itself")?),
+        How::Mix => Ok(format!(in alloc; "commits a part of {branch} itself")?),
+        How::Haz => Ok(format!(in alloc; "may have ended {branch}")?),
     }
 }
 
-/// What was taken or heard.
-fn moved_text(alloc: Global, names: &Names, event: &Event) -> Result<String, Memory> {
-    match &event.reply {
+/// How a resource manager is to vote on a branch.
+fn votes_text(alloc: Global, names: &Names, xid: &Xid, vote: Vote) -> Result<String, Memory>
+    ensures { IfOk result (λ text. string_bytes text ≡ votes_text names.now xid.now vote) }
+{
+    let branch = names.xid_text(alloc, xid)?;
+    let vote = vote_text(vote);
+    Ok(format!(in alloc; "will vote {vote} on {branch}")?)
+}
+
+/// How often a resource manager is to put an xa_commit off.
+fn puts_off_text(alloc: Global, names: &Names, xid: &Xid, times: u32) -> Result<String, Memory>
+    ensures { IfOk result (λ text. string_bytes text ≡ puts_off_text names.now xid.now times) }
+{
+    let branch = names.xid_text(alloc, xid)?;
+    Ok(format!(in alloc; "will put xa_commit {branch} off {times} times")?)
+}
+
+/// What was taken or heard: the call, or else what was looked for.
+fn moved_text(
+    alloc: Global,
+    names: &Names,
+    reply: &Reply,
+    otherwise: &str,
+) -> Result<String, Memory>
+    ensures { IfOk result (λ text.
+        string_bytes text ≡ moved_text names.now reply.now otherwise.now) }
+{
+    match reply {
         Reply::Took(call, _) | Reply::Heard(call, _) => call_text(alloc, names, call),
-        _ => match event.step {
-            Step::Take { .. } => Ok(String::from_str(alloc, "take a call")?),
-            _ => Ok(String::from_str(alloc, "hear an answer")?),
-        },
+        _ => Ok(String::from_str(alloc, otherwise)?),
     }
 }
 
-/// What is done to end a transaction.
-fn ending_text(alloc: Global, names: &Names, step: &Step) -> Result<String, Memory> {
-    match *step {
-        Step::Decide { gtrid, outcome } => {
-            let name = names.name_of(gtrid);
-            let outcome = match outcome {
-                Outcome::Commit => "commit",
-                Outcome::Rollback => "rollback",
-            };
-            Ok(format!(in alloc; "decide {name} {outcome}")?)
-        }
+/// The name of an outcome.
+fn outcome_name(outcome: Outcome) -> &'static str
+    ensures { result.now ≡ outcome_name outcome }
+{
+    match outcome {
+        Outcome::Commit => "commit",
+        Outcome::Rollback => "rollback",
+    }
+}
+
+/// How a transaction is to end.
+fn decide_text(
+    alloc: Global,
+    names: &Names,
+    gtrid: Gtrid,
+    outcome: Outcome,
+) -> Result<String, Memory>
+    ensures { IfOk result (λ text. string_bytes text ≡ decide_text names.now gtrid outcome) }
+{
+    let name = names.name_of(gtrid);
+    let outcome = outcome_name(outcome);
+    Ok(format!(in alloc; "decide {name} {outcome}")?)
+}
+
+/// A word.
+pub fn plain_text(alloc: Global, word: &str) -> Result<String, Memory>
+    ensures { IfOk result (λ text. string_bytes text ≡ word.now) }
+{
+    Ok(String::from_str(alloc, word)?)
+}
+
+/// What an event was asked to do.
+pub fn asked_text(alloc: Global, names: &Names, event: &Event) -> Result<String, Memory>
+    ensures { IfOk result (λ text. string_bytes text ≡ asked_text names.now event.now) }
+{
+    let reply = &event.reply;
+    match event.step {
+        Step::Begin { .. } => Ok(format!(in alloc; "begin {}", names.next())?),
+        Step::Issue { ref call, .. } => call_text(alloc, names, call),
+        Step::Take { .. } => moved_text(alloc, names, reply, "take a call"),
+        Step::Hear { .. } => moved_text(alloc, names, reply, "hear an answer"),
+        Step::Vote { ref xid, vote, .. } => votes_text(alloc, names, xid, vote),
+        Step::Busy { ref xid, times, .. } => puts_off_text(alloc, names, xid, times),
+        Step::Heuristic { ref xid, how, .. } => alone_text(alloc, names, xid, how),
+        Step::Decide { gtrid, outcome } => decide_text(alloc, names, gtrid, outcome),
         Step::Claim { gtrid } => of_transaction(alloc, names, "claim", gtrid),
         Step::Settle { gtrid } => of_transaction(alloc, names, "settle", gtrid),
         Step::Abandon { gtrid } => of_transaction(alloc, names, "abandon", gtrid),
         Step::Done { gtrid } => of_transaction(alloc, names, "done", gtrid),
-        _ => Ok(String::new(alloc)),
+        Step::Recover { .. } => plain_text(alloc, "xa_recover"),
+        Step::Resolve { .. } => plain_text(alloc, "resolve"),
+        Step::ResolveOpen { .. } => plain_text(alloc, "resolve-open"),
+        Step::Crash(Part::Line { .. }) => plain_text(alloc, "breaks"),
+        Step::Crash(_) => plain_text(alloc, "crashes"),
+        Step::Restart(_) => plain_text(alloc, "restarts"),
     }
-}
-
-/// What an event was asked to do.
-pub fn asked_text(alloc: Global, names: &Names, event: &Event) -> Result<String, Memory> {
-    let plain = match event.step {
-        Step::Begin { .. } => {
-            let name = names.next();
-            return Ok(format!(in alloc; "begin {name}")?);
-        }
-        Step::Issue { ref call, .. } => return call_text(alloc, names, call),
-        Step::Take { .. } | Step::Hear { .. } => return moved_text(alloc, names, event),
-        Step::Vote { .. } | Step::Busy { .. } | Step::Heuristic { .. } => {
-            return script_text(alloc, names, &event.step);
-        }
-        Step::Decide { .. }
-        | Step::Claim { .. }
-        | Step::Settle { .. }
-        | Step::Abandon { .. }
-        | Step::Done { .. } => return ending_text(alloc, names, &event.step),
-        Step::Recover { .. } => "xa_recover",
-        Step::Resolve { .. } => "resolve",
-        Step::ResolveOpen { .. } => "resolve-open",
-        Step::Crash(Part::Line { .. }) => "breaks",
-        Step::Crash(_) => "crashes",
-        Step::Restart(_) => "restarts",
-    };
-    Ok(String::from_str(alloc, plain)?)
 }
 
 /// Some branches by their resource managers, as in `rm 0, rm 1`.

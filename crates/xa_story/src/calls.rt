@@ -1,5 +1,7 @@
 //! What calls and answers do.
 
+ghost use Rattle.std.specs.Prelude.{◌≡◌};
+
 use crate::asked::{rms_text, xids_text};
 use crate::effect::{Effect, plain_effect};
 use crate::ledger::{Meaning, Settlement, meaning_of};
@@ -8,7 +10,7 @@ use crate::party::Party;
 use crate::scene::Scene;
 use crate::standings::Move;
 use crate::waits::Waiting;
-use crate::words::{answer_text, standing_text};
+use crate::words::standing_text;
 use xa_base::{Answer, Call, Code, Gtrid, Memory, Step, Xid};
 
 /// The line of a step: its thread and its resource manager. A recovery has that of thread 0.
@@ -31,15 +33,18 @@ fn asker_of(step: &Step) -> Party {
 }
 
 impl<'a> Scene<'a> {
-    pub(crate) fn begin(&self, gtrid: Gtrid) -> Result<Effect, Memory> {
-        let sequence = gtrid.sequence;
-        let incarnation = gtrid.incarnation;
-        let reply = format!(in self.alloc; "transaction {sequence} of incarnation {incarnation}")?;
-        plain_effect(self.alloc, reply.as_str(), "")
+    /// A transaction is begun.
+    pub(crate) fn begin(&mut self, gtrid: Gtrid) -> Result<Effect, Memory>
+        ensures { self.new.names ≡ self.old.names }
+    {
+        self.ledger.begin(gtrid)?;
+        plain_effect(self.alloc, "")
     }
 
     /// A call waits now.
-    pub(crate) fn issue(&mut self, number: usize, step: &Step) -> Result<Effect, Memory> {
+    pub(crate) fn issue(&mut self, number: usize, step: &Step) -> Result<Effect, Memory>
+        ensures { self.new.names ≡ self.old.names }
+    {
         if let Step::Issue {
             call: Call::Commit {
                 xid,
@@ -54,14 +59,16 @@ impl<'a> Scene<'a> {
         let count = self.waits.call_count(thread, rm);
         self.add_calls(number, step, 1)?;
         if count == 0 {
-            return plain_effect(self.alloc, "waits", "");
+            return plain_effect(self.alloc, "");
         }
         let change = format!(in self.alloc; "behind {count} on the line")?;
-        plain_effect(self.alloc, "waits", change.as_str())
+        plain_effect(self.alloc, change.as_str())
     }
 
     /// The transaction of a branch is handed over.
-    pub(crate) fn hand_over(&mut self, number: usize, xid: &Xid) -> Result<(), Memory> {
+    pub(crate) fn hand_over(&mut self, number: usize, xid: &Xid) -> Result<(), Memory>
+        ensures { self.new.names ≡ self.old.names }
+    {
         match xid.branch() {
             Some(branch) => self
                 .ledger
@@ -76,19 +83,19 @@ impl<'a> Scene<'a> {
         number: usize,
         step: &Step,
         count: usize,
-    ) -> Result<(), Memory> {
+    ) -> Result<(), Memory>
+        ensures { self.new.names ≡ self.old.names }
+    {
         let (thread, rm) = line_of(step);
         let asker = asker_of(step);
-        for _call in 0..count {
-            self.waits.add(Waiting {
-                since: number,
-                thread,
-                rm,
-                asker,
-                is_answer: false,
-            })?;
-        }
-        Ok(())
+        let item = Waiting {
+            since: number,
+            thread,
+            rm,
+            asker,
+            is_answer: false,
+        };
+        self.waits.add_all(item, count)
     }
 
     /// A call is taken, and its answer waits now.
@@ -98,7 +105,9 @@ impl<'a> Scene<'a> {
         step: &Step,
         call: &Call,
         answer: &Answer,
-    ) -> Result<Effect, Memory> {
+    ) -> Result<Effect, Memory>
+        ensures { self.new.names ≡ self.old.names }
+    {
         let (thread, rm) = line_of(step);
         let came = self.waits.take(thread, rm, false);
         let asker = match came {
@@ -114,8 +123,7 @@ impl<'a> Scene<'a> {
         })?;
         let change = self.standings.answer(call, answer)?;
         let told = self.answered_text(call, answer, change, asker)?;
-        let reply = answer_text(self.alloc, answer)?;
-        let mut effect = plain_effect(self.alloc, reply.as_str(), told.as_str())?;
+        let mut effect = plain_effect(self.alloc, told.as_str())?;
         effect.came = came;
         if let Some(change) = change {
             effect.moves.push(change)?;
@@ -160,14 +168,18 @@ impl<'a> Scene<'a> {
         step: &Step,
         call: &Call,
         answer: &Answer,
-    ) -> Result<Effect, Memory> {
+    ) -> Result<Effect, Memory>
+        ensures { self.new.names ≡ self.old.names }
+    {
         let (thread, rm) = line_of(step);
         let came = self.waits.take(thread, rm, true);
         let meaning = meaning_of(call, answer);
         self.ledger.hear(meaning)?;
+        if let (Answer::Page(page), 0) = (answer, thread) {
+            self.ledger.hear_page(self.alloc, rm, page.xids())?;
+        }
         let change = self.meaning_text(meaning)?;
-        let reply = answer_text(self.alloc, answer)?;
-        let mut effect = plain_effect(self.alloc, reply.as_str(), change.as_str())?;
+        let mut effect = plain_effect(self.alloc, change.as_str())?;
         effect.came = came;
         if let Meaning::Records(branch) = meaning {
             effect.log = Some(LogChange::Recorded(branch));

@@ -1,5 +1,7 @@
 //! What crashes, restarts and refusals do.
 
+ghost use Rattle.std.specs.Prelude.{◌≡◌};
+
 use crate::asked::rms_text;
 use crate::effect::{Effect, plain_effect, push_count, push_item};
 use crate::refusals::refusal_text;
@@ -10,26 +12,24 @@ use xa_base::{Branch, Memory, Part, Refusal, Step};
 
 impl<'a> Scene<'a> {
     /// A part crashes.
-    pub(crate) fn crash(&mut self, step: &Step) -> Result<Effect, Memory> {
+    pub(crate) fn crash(&mut self, step: &Step) -> Result<Effect, Memory>
+        ensures { self.new.names ≡ self.old.names }
+    {
         match *step {
             Step::Crash(part) => self.lose(part),
-            _ => plain_effect(self.alloc, "", ""),
+            _ => plain_effect(self.alloc, ""),
         }
     }
 
     /// What waits on broken lines is lost, and so are their branches that aren't prepared.
-    pub(crate) fn lose(&mut self, part: Part) -> Result<Effect, Memory> {
-        if part == Part::Manager {
-            self.ledger.crash();
-        }
+    pub(crate) fn lose(&mut self, part: Part) -> Result<Effect, Memory>
+        ensures { self.new.names ≡ self.old.names }
+    {
+        self.ledger.lose(self.alloc, part)?;
         let lost = self.waits.lose(self.alloc, part)?;
         let moves = self.standings.lose(self.alloc, part)?;
         let change = self.lost_text(part, &lost, &moves)?;
-        let reply = match part {
-            Part::Line { .. } => "",
-            _ => "down",
-        };
-        let mut effect = plain_effect(self.alloc, reply, change.as_str())?;
+        let mut effect = plain_effect(self.alloc, change.as_str())?;
         effect.lost = lost;
         effect.moves = moves;
         Ok(effect)
@@ -92,17 +92,16 @@ impl<'a> Scene<'a> {
         } else {
             format!(in self.alloc; "incarnation {incarnation}: it finds {found} in its log")?
         };
-        plain_effect(self.alloc, "up", change.as_str())
+        plain_effect(self.alloc, change.as_str())
     }
 
     /// A step is refused.
-    pub(crate) fn refuse(&mut self, step: &Step, refusal: Refusal) -> Result<Effect, Memory> {
-        let number = refusal.number();
-        let name = refusal.name();
-        let reply = format!(in self.alloc; "refused {number} {name}:")?;
-        let mut effect = plain_effect(self.alloc, reply.as_str(), refusal_text(step, refusal))?;
+    pub(crate) fn refuse(&mut self, step: &Step, refusal: Refusal) -> Result<Effect, Memory>
+        ensures { self.new.names ≡ self.old.names }
+    {
+        let mut effect = plain_effect(self.alloc, refusal_text(step, refusal))?;
         if refusal == Refusal::LogFault {
-            self.ledger.crash();
+            self.ledger.lose(self.alloc, Part::Manager)?;
             effect.lost = self.waits.lose(self.alloc, Part::Manager)?;
             effect.moves = self.standings.lose(self.alloc, Part::Manager)?;
         }

@@ -1,7 +1,9 @@
 //! What decisions, recoveries and scripts do.
 
+ghost use Rattle.std.specs.Prelude.{◌≡◌};
+
 use crate::asked::rms_text;
-use crate::effect::{Effect, plain_effect};
+use crate::effect::{Effect, plain_effect, push_item};
 use crate::ledger::Settlement;
 use crate::line::LogChange;
 use crate::scene::Scene;
@@ -10,22 +12,26 @@ use xa_base::{Gtrid, How, Memory, Outcome, Standing, Step, Xid};
 
 impl<'a> Scene<'a> {
     /// A script was given, or a transaction is over.
-    pub(crate) fn note(&mut self, step: &Step) -> Result<Effect, Memory> {
+    pub(crate) fn note(&mut self, step: &Step) -> Result<Effect, Memory>
+        ensures { self.new.names ≡ self.old.names }
+    {
         match *step {
             Step::Heuristic { ref xid, how, .. } => self.complete(xid, how),
             Step::Done { gtrid } => {
                 self.ledger.forget(self.alloc, gtrid)?;
-                let mut effect = plain_effect(self.alloc, "done", "the row leaves the log")?;
+                let mut effect = plain_effect(self.alloc, "the row leaves the log")?;
                 effect.log = Some(LogChange::RowGone(gtrid));
                 Ok(effect)
             }
-            _ => plain_effect(self.alloc, "", ""),
+            _ => plain_effect(self.alloc, ""),
         }
     }
 
     /// A resource manager ends a branch by itself.
-    pub(crate) fn complete(&mut self, xid: &Xid, how: How) -> Result<Effect, Memory> {
-        let mut effect = plain_effect(self.alloc, "", "a heuristic completion: nobody told it to")?;
+    pub(crate) fn complete(&mut self, xid: &Xid, how: How) -> Result<Effect, Memory>
+        ensures { self.new.names ≡ self.old.names }
+    {
+        let mut effect = plain_effect(self.alloc, "a heuristic completion: nobody told it to")?;
         if let Some(branch) = xid.branch() {
             let standing = Standing::Completed(how);
             self.standings.set(branch, standing)?;
@@ -34,25 +40,36 @@ impl<'a> Scene<'a> {
         Ok(effect)
     }
 
+    /// A transaction is claimed.
+    pub(crate) fn claim(&mut self, step: &Step) -> Result<Effect, Memory>
+        ensures { self.new.names ≡ self.old.names }
+    {
+        if let Step::Claim { gtrid } = *step {
+            self.ledger.claim(gtrid)?;
+        }
+        plain_effect(
+            self.alloc,
+            "all votes are in: no recovery rolls it back now",
+        )
+    }
+
     /// A transaction is decided.
-    pub(crate) fn decide(&mut self, number: usize, step: &Step) -> Result<Effect, Memory> {
+    pub(crate) fn decide(&mut self, number: usize, step: &Step) -> Result<Effect, Memory>
+        ensures { self.new.names ≡ self.old.names }
+    {
         let (gtrid, outcome) = match *step {
             Step::Decide { gtrid, outcome } => (gtrid, outcome),
             Step::Settle { gtrid } => (gtrid, Outcome::Commit),
             Step::Abandon { gtrid } => (gtrid, Outcome::Rollback),
-            _ => return plain_effect(self.alloc, "decided", ""),
+            _ => return plain_effect(self.alloc, ""),
         };
         if outcome == Outcome::Rollback {
             self.ledger.settle(gtrid, number, Settlement::Rollback)?;
-            return plain_effect(
-                self.alloc,
-                "decided",
-                "no row is written: no row means rollback",
-            );
+            return plain_effect(self.alloc, "no row is written: no row means rollback");
         }
         self.ledger.commit(gtrid)?;
         let change = self.row_text(gtrid)?;
-        let mut effect = plain_effect(self.alloc, "decided", change.as_str())?;
+        let mut effect = plain_effect(self.alloc, change.as_str())?;
         if self.ledger.has_row(gtrid) {
             self.ledger.settle(gtrid, number, Settlement::Row)?;
             effect.log = Some(LogChange::RowAdded(gtrid));
@@ -73,22 +90,37 @@ impl<'a> Scene<'a> {
         Ok(format!(in self.alloc; "row added to the log, waits for {rms}")?)
     }
 
-    /// A recovery issues calls.
+    /// A recovery issues calls. One that may decide rolls back what is open of what is listed.
     pub(crate) fn resolve(
         &mut self,
         number: usize,
         step: &Step,
         count: usize,
-    ) -> Result<Effect, Memory> {
+    ) -> Result<Effect, Memory>
+        ensures { self.new.names ≡ self.old.names }
+    {
         self.add_calls(number, step, count)?;
-        let reply = match count {
-            1 => String::from_str(self.alloc, "1 call")?,
-            _ => format!(in self.alloc; "{count} calls")?,
+        if count == 0 {
+            return plain_effect(self.alloc, "");
+        }
+        let decided = match *step {
+            Step::ResolveOpen { rm } => self.ledger.roll_back_open(self.alloc, number, rm)?,
+            _ => Vec::new(self.alloc),
         };
-        let change = match count {
-            0 => "",
-            _ => "each listed branch: commit with a row, rollback without",
-        };
-        plain_effect(self.alloc, reply.as_str(), change)
+        let change = self.resolved_text(&decided)?;
+        plain_effect(self.alloc, change.as_str())
+    }
+
+    /// What a recovery does, and what it decides before that.
+    fn resolved_text(&self, decided: &[Gtrid]) -> Result<String, Memory> {
+        let rule = "each listed branch: commit with a row, rollback without";
+        let mut names = String::new(self.alloc);
+        for gtrid in decided {
+            push_item(&mut names, self.names.name_of(*gtrid))?;
+        }
+        if names.is_empty() {
+            return Ok(String::from_str(self.alloc, rule)?);
+        }
+        Ok(format!(in self.alloc; "{names} decided to roll back; {rule}")?)
     }
 }

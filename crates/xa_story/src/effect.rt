@@ -1,4 +1,4 @@
-//! What an event is answered and what it does, while a story is told.
+//! What an event does, while a story is told.
 
 use crate::line::LogChange;
 use crate::standings::Move;
@@ -6,10 +6,9 @@ use crate::waits::Waiting;
 use std::alloc::Global;
 use xa_base::Memory;
 
-/// What an event is answered, and what that does.
+/// What an event does.
 #[derive(Drop)]
 pub(crate) struct Effect {
-    pub(crate) reply: String,
     pub(crate) change: String,
     pub(crate) moves: Vec<Move>,
     pub(crate) came: Option<Waiting>,
@@ -17,10 +16,9 @@ pub(crate) struct Effect {
     pub(crate) log: Option<LogChange>,
 }
 
-/// An answer and what it changes, where no branch goes anywhere and nothing comes or is lost.
-pub(crate) fn plain_effect(alloc: Global, reply: &str, change: &str) -> Result<Effect, Memory> {
+/// What an event changes, in words, where no branch goes anywhere and nothing comes or is lost.
+pub(crate) fn plain_effect(alloc: Global, change: &str) -> Result<Effect, Memory> {
     Ok(Effect {
-        reply: String::from_str(alloc, reply)?,
         change: String::from_str(alloc, change)?,
         moves: Vec::new(alloc),
         came: None,

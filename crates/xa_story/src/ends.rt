@@ -1,5 +1,10 @@
 //! What became of the branches, and why.
 
+ghost use Rattle.std.specs.Prelude.{◌≡◌, IfOk};
+ghost use Rattle.std.specs.List.{flat_map};
+ghost use Rattle.std.specs.String.{string_bytes};
+ghost use Rattle.xa_story.specs.Ends.{end_line, fate_note, place_text};
+
 use crate::ledger::Settlement;
 use crate::names::Names;
 use crate::scene::Scene;
@@ -8,7 +13,9 @@ use xa_base::{Fate, Gtrid, How, Memory, Xid};
 use xa_files::fate_text;
 
 /// What a fate means, where its name doesn't say it.
-fn fate_note(fate: Fate) -> &'static str {
+fn fate_note(fate: Fate) -> &'static str
+    ensures { result.now ≡ fate_note fate }
+{
     match fate {
         Fate::Prepared => ": it waits to be told how it ends",
         Fate::Lost => ": its line broke before it was prepared",
@@ -20,20 +27,41 @@ fn fate_note(fate: Fate) -> &'static str {
     }
 }
 
-/// The line of a branch.
-fn end_line(alloc: Global, names: &Names, line: &(Xid, Fate)) -> Result<String, Memory> {
-    let (xid, fate) = line;
+/// A branch, and at which resource manager it is.
+fn place_text(alloc: Global, names: &Names, xid: &Xid) -> Result<String, Memory>
+    ensures { IfOk result (λ text. string_bytes text ≡ place_text names.now xid.now) }
+{
     let name = names.xid_text(alloc, xid)?;
-    let note = fate_note(*fate);
-    let fate = fate_text(*fate);
     match xid.branch() {
         Some(branch) => {
             let rm = branch.rm;
-            let branch = format!(in alloc; "{name} at rm {rm}")?;
-            Ok(format!(in alloc; "      {branch:<16} {fate}{note}\n")?)
+            Ok(format!(in alloc; "{name} at rm {rm}")?)
         }
-        None => Ok(format!(in alloc; "      {name:<16} {fate}{note}\n")?),
+        None => Ok(name),
     }
+}
+
+/// The line of a branch.
+fn end_line(alloc: Global, names: &Names, line: &(Xid, Fate)) -> Result<String, Memory>
+    ensures { IfOk result (λ text. string_bytes text ≡ end_line names.now line.now) }
+{
+    let (xid, fate) = line;
+    let place = place_text(alloc, names, xid)?;
+    let note = fate_note(*fate);
+    let fate = fate_text(*fate);
+    Ok(format!(in alloc; "      {place:<16} {fate}{note}\n")?)
+}
+
+/// The lines of branches.
+pub fn fates_text(alloc: Global, names: &Names, fates: &[(Xid, Fate)]) -> Result<String, Memory>
+    ensures { IfOk result (λ text. string_bytes text ≡ flat_map (end_line names.now) fates.now) }
+{
+    let mut text = String::new(alloc);
+    for line in fates {
+        let line = end_line(alloc, names, line)?;
+        text.push_str(line.as_str())?;
+    }
+    Ok(text)
 }
 
 /// Whether the identifier is one of a branch of the transaction.
@@ -110,13 +138,9 @@ fn different_text(alloc: Global, scene: &Scene, gtrid: Gtrid) -> Result<String, 
     )?)
 }
 
-/// The end of a story: what became of each branch, and of each transaction why.
-pub fn ends_text(alloc: Global, scene: &Scene, fates: &[(Xid, Fate)]) -> Result<String, Memory> {
+/// Why each transaction ended as it did.
+pub fn reasons_text(alloc: Global, scene: &Scene, fates: &[(Xid, Fate)]) -> Result<String, Memory> {
     let mut text = String::new(alloc);
-    for line in fates {
-        let line = end_line(alloc, scene.names(), line)?;
-        text.push_str(line.as_str())?;
-    }
     for gtrid in scene.names().gtrids() {
         if !fates.iter().any(|line| is_of(*gtrid, &line.0)) {
             continue;

@@ -1,7 +1,7 @@
 //! What the manager knows of its transactions, and the rows of its log.
 
 use std::alloc::Global;
-use xa_base::{Answer, Branch, Call, Code, Gtrid, Memory, Xid};
+use xa_base::{Answer, Branch, Call, Code, Gtrid, Memory, Part, Xid};
 
 /// How it was settled how a transaction ends.
 #[derive(Clone, Copy)]
@@ -80,9 +80,22 @@ pub fn gtrid_of(xid: &Xid) -> Option<Gtrid> {
     Some(xid.branch()?.gtrid)
 }
 
+/// A transaction of which a resource manager listed a branch.
+#[derive(Clone, Copy)]
+struct Listed {
+    rm: u32,
+    gtrid: Gtrid,
+}
+
 /// What the manager knows, and its log.
 #[derive(Drop)]
 pub struct Ledger {
+    /// The transactions that were begun since the manager came up.
+    begun: Vec<Gtrid>,
+    /// Those of them that were claimed.
+    claimed: Vec<Gtrid>,
+    /// What each resource manager listed last, as it was heard on thread 0's line.
+    listed: Vec<Listed>,
     /// The branches whose yes was heard since the manager came up.
     yes: Vec<Branch>,
     /// The transactions with a row.
@@ -101,6 +114,9 @@ impl Ledger {
     /// Nothing has happened, and the log is empty.
     pub fn new(alloc: Global) -> Ledger {
         Ledger {
+            begun: Vec::new(alloc),
+            claimed: Vec::new(alloc),
+            listed: Vec::new(alloc),
             yes: Vec::new(alloc),
             rows: Vec::new(alloc),
             participants: Vec::new(alloc),
@@ -130,6 +146,64 @@ impl Ledger {
             }
         }
         Ok(open)
+    }
+
+    /// A transaction is begun.
+    pub fn begin(&mut self, gtrid: Gtrid) -> Result<(), Memory> {
+        Ok(self.begun.push(gtrid)?)
+    }
+
+    /// A transaction is claimed.
+    pub fn claim(&mut self, gtrid: Gtrid) -> Result<(), Memory> {
+        Ok(self.claimed.push(gtrid)?)
+    }
+
+    /// What a resource manager listed before counts no more.
+    fn forget_page(&mut self, alloc: Global, rm: u32) -> Result<(), Memory> {
+        let mut left = Vec::new(alloc);
+        for item in self.listed.iter() {
+            if item.rm != rm {
+                left.push(*item)?;
+            }
+        }
+        self.listed = left;
+        Ok(())
+    }
+
+    /// The manager hears what a resource manager lists.
+    pub fn hear_page(&mut self, alloc: Global, rm: u32, xids: &[Xid]) -> Result<(), Memory> {
+        self.forget_page(alloc, rm)?;
+        for xid in xids {
+            if let Some(gtrid) = gtrid_of(xid) {
+                self.listed.push(Listed { rm, gtrid })?;
+            }
+        }
+        Ok(())
+    }
+
+    /// Whether a recovery may decide to roll the transaction back.
+    fn is_open(&self, gtrid: Gtrid) -> bool {
+        let is_shut = self.claimed.contains(&gtrid) || self.ending(gtrid).is_some();
+        self.begun.contains(&gtrid) && !is_shut
+    }
+
+    /// A recovery at a resource manager decides to roll back what is open of what that listed. Tells what it is.
+    pub fn roll_back_open(
+        &mut self,
+        alloc: Global,
+        since: usize,
+        rm: u32,
+    ) -> Result<Vec<Gtrid>, Memory> {
+        let mut decided = Vec::new(alloc);
+        for item in self.listed.iter() {
+            if item.rm == rm && self.is_open(item.gtrid) && !decided.contains(&item.gtrid) {
+                decided.push(item.gtrid)?;
+            }
+        }
+        for gtrid in decided.iter() {
+            self.settle(*gtrid, since, Settlement::Rollback)?;
+        }
+        Ok(decided)
     }
 
     /// The manager hears an answer.
@@ -188,10 +262,21 @@ impl Ledger {
         Ok(())
     }
 
-    /// The manager crashes: what it heard is lost, and the log stays.
-    pub fn crash(&mut self) {
-        self.yes.clear();
-        self.acknowledged.clear();
+    /// A part crashes. What the manager knew is lost with it, and what was listed with the line on which it was heard; the
+    /// log stays.
+    pub fn lose(&mut self, alloc: Global, part: Part) -> Result<(), Memory> {
+        match part {
+            Part::Line { thread: 0, rm } | Part::Rm { rm } => self.forget_page(alloc, rm),
+            Part::Line { .. } => Ok(()),
+            Part::Manager => {
+                self.begun.clear();
+                self.claimed.clear();
+                self.listed.clear();
+                self.yes.clear();
+                self.acknowledged.clear();
+                Ok(())
+            }
+        }
     }
 
     /// How a transaction was settled, and when.

@@ -15,6 +15,7 @@ mod line;
 mod names;
 mod party;
 mod refusals;
+mod replies;
 mod scene;
 mod standings;
 mod story;

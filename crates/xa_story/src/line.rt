@@ -1,5 +1,9 @@
 //! One line of a story.
 
+ghost use Rattle.std.specs.Prelude.{◌≡◌, IfOk};
+ghost use Rattle.std.specs.String.{string_bytes};
+ghost use Rattle.xa_story.specs.Lines.{line_text, rest_text, told_sides};
+
 use crate::party::{Party, Sides, sides_text};
 use crate::standings::Move;
 use crate::waits::Waiting;
@@ -41,7 +45,9 @@ pub struct Line {
 }
 
 /// Who takes part, as it is told: the answers of a recovery, which wait on the lines of thread 0, go to the manager.
-fn told_sides(line: &Line) -> Sides {
+fn told_sides(line: &Line) -> Sides
+    ensures { result ≡ told_sides line.now }
+{
     match (line.sides, line.came) {
         (Sides::Sends(Party::Rm(rm), _), Some(item)) => Sides::Sends(Party::Rm(rm), item.asker),
         (Sides::Hears(_, rm), Some(item)) => Sides::Hears(item.asker, rm),
@@ -49,20 +55,28 @@ fn told_sides(line: &Line) -> Sides {
     }
 }
 
-/// The line as text, without spaces at its end.
-pub fn line_text(alloc: Global, line: &Line) -> Result<String, Memory> {
-    let number = line.number;
-    let sides = sides_text(alloc, told_sides(line))?;
+/// What was asked, what that was answered, and what has changed, without spaces at the end.
+fn rest_text(alloc: Global, line: &Line) -> Result<String, Memory>
+    ensures { IfOk result (λ text. string_bytes text ≡ rest_text line.now) }
+{
     let asked = line.asked.as_str();
     let reply = line.reply.as_str();
     let change = line.change.as_str();
     if !change.is_empty() {
-        return Ok(format!(in alloc;
-            "{number:>3}  {sides:<18} {asked:<22} {reply:<13} {change}\n"
-        )?);
+        Ok(format!(in alloc; "{asked:<22} {reply:<13} {change}")?)
+    } else if !reply.is_empty() {
+        Ok(format!(in alloc; "{asked:<22} {reply}")?)
+    } else {
+        Ok(String::from_str(alloc, asked)?)
     }
-    if !reply.is_empty() {
-        return Ok(format!(in alloc; "{number:>3}  {sides:<18} {asked:<22} {reply}\n")?);
-    }
-    Ok(format!(in alloc; "{number:>3}  {sides:<18} {asked}\n")?)
+}
+
+/// The line as text.
+pub fn line_text(alloc: Global, line: &Line) -> Result<String, Memory>
+    ensures { IfOk result (λ text. string_bytes text ≡ line_text line.now) }
+{
+    let number = line.number;
+    let sides = sides_text(alloc, told_sides(line))?;
+    let rest = rest_text(alloc, line)?;
+    Ok(format!(in alloc; "{number:>3}  {sides:<18} {rest}\n")?)
 }

@@ -1,7 +1,8 @@
 //! Who takes part in an event.
 
-ghost use Rattle.std.specs.Prelude.{◌≡◌};
-ghost use Rattle.xa_story.specs.Parties.{sides_of};
+ghost use Rattle.std.specs.Prelude.{◌≡◌, IfOk};
+ghost use Rattle.std.specs.String.{string_bytes};
+ghost use Rattle.xa_story.specs.Parties.{pair_text, party_text, sides_of, sides_text};
 
 use std::alloc::Global;
 use xa_base::{Memory, Part, Side, Step};
@@ -61,7 +62,9 @@ pub fn sides_of(step: &Step) -> Sides
 }
 
 /// A part in words.
-pub fn party_text(alloc: Global, party: Party) -> Result<String, Memory> {
+pub fn party_text(alloc: Global, party: Party) -> Result<String, Memory>
+    ensures { IfOk result (λ text. string_bytes text ≡ party_text party) }
+{
     match party {
         Party::Thread(thread) => Ok(format!(in alloc; "thread {thread}")?),
         Party::Manager => Ok(String::from_str(alloc, "manager")?),
@@ -70,14 +73,18 @@ pub fn party_text(alloc: Global, party: Party) -> Result<String, Memory> {
 }
 
 /// Two parts with a mark between them.
-fn pair_text(alloc: Global, one: Party, mark: &str, other: Party) -> Result<String, Memory> {
+fn pair_text(alloc: Global, one: Party, mark: &str, other: Party) -> Result<String, Memory>
+    ensures { IfOk result (λ text. string_bytes text ≡ pair_text one mark.now other) }
+{
     let one = party_text(alloc, one)?;
     let other = party_text(alloc, other)?;
     Ok(format!(in alloc; "{one} {mark} {other}")?)
 }
 
 /// Who takes part, in words.
-pub fn sides_text(alloc: Global, sides: Sides) -> Result<String, Memory> {
+pub fn sides_text(alloc: Global, sides: Sides) -> Result<String, Memory>
+    ensures { IfOk result (λ text. string_bytes text ≡ sides_text sides) }
+{
     match sides {
         Sides::Alone(party) => party_text(alloc, party),
         Sides::Sends(from, to) => pair_text(alloc, from, "→", to),

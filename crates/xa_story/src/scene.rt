@@ -1,7 +1,9 @@
 //! What is known while a story is told, and what each event does to it.
 
-ghost use Rattle.std.specs.Prelude.{◌≡◌, IfOk};
-ghost use Rattle.xa_story.specs.Parties.{sides_of};
+ghost use Rattle.std.specs.Prelude.{◌≡◌, IfOk, OnOk, map};
+ghost use Rattle.std.specs.String.{string_bytes};
+ghost use Rattle.xa_story.specs.Naming.{unbegun, with_step};
+ghost use Rattle.xa_story.specs.Stories.{IsToldOf};
 
 use crate::asked::asked_text;
 use crate::effect::{Effect, plain_effect};
@@ -9,6 +11,7 @@ use crate::ledger::Ledger;
 use crate::line::Line;
 use crate::names::Names;
 use crate::party::sides_of;
+use crate::replies::reply_text;
 use crate::standings::Standings;
 use crate::waits::{Waiting, Waits};
 use std::alloc::Global;
@@ -26,7 +29,9 @@ pub struct Scene<'a> {
 
 impl<'a> Scene<'a> {
     /// Nothing has happened, and the log is empty. The names are those that the scenario file begins, in turn.
-    pub fn new(alloc: Global, names: &'a [String]) -> Scene<'a> {
+    pub fn new(alloc: Global, names: &'a [String]) -> Scene<'a>
+        ensures { result.names ≡ unbegun (map string_bytes names.now) }
+    {
         Scene {
             alloc,
             names: Names::new(alloc, names),
@@ -37,7 +42,9 @@ impl<'a> Scene<'a> {
     }
 
     /// The names of transactions.
-    pub fn names(&self) -> &Names<'a> {
+    pub fn names(&self) -> &Names<'a>
+        ensures { result.now ≡ self.now.names }
+    {
         &self.names
     }
 
@@ -47,19 +54,23 @@ impl<'a> Scene<'a> {
     }
 
     /// What still waits.
-    pub fn waiting(&self) -> &[Waiting] {
+    pub fn waiting(&self) -> &[Waiting]
+        ensures { result.now ≡ self.now.waits.items.items }
+    {
         self.waits.items()
     }
 
     /// The line of the next event.
     pub fn tell(&mut self, number: usize, event: &Event) -> Result<Line, Memory>
-        ensures number { IfOk result (λ line. line.number ≡ number) }
-        ensures sides { IfOk result (λ line. line.sides ≡ sides_of event.now.step) }
+        ensures told { IfOk result (IsToldOf self.old.names number event.now) }
+        ensures names { OnOk result (self.new.names ≡
+            with_step self.old.names event.now.step event.now.reply) }
     {
         let sides = sides_of(&event.step);
         let asked = asked_text(self.alloc, &self.names, event)?;
+        let reply = reply_text(self.alloc, event)?;
+        self.note_begin(event)?;
         let Effect {
-            reply,
             change,
             moves,
             came,
@@ -79,29 +90,35 @@ impl<'a> Scene<'a> {
         })
     }
 
-    /// What an event does.
-    fn follow(&mut self, number: usize, event: &Event) -> Result<Effect, Memory> {
-        if let Step::Begin { .. } = event.step {
-            self.names.add(&event.reply)?;
+    /// A begin gives its name to what it is answered.
+    fn note_begin(&mut self, event: &Event) -> Result<(), Memory>
+        ensures { OnOk result (self.new ≡ record self.old {
+          names =
+              with_step self.old.names event.now.step event.now.reply;
+        }) }
+    {
+        match event.step {
+            Step::Begin { .. } => self.names.add(&event.reply),
+            _ => Ok(()),
         }
+    }
+
+    /// What an event does.
+    fn follow(&mut self, number: usize, event: &Event) -> Result<Effect, Memory>
+        ensures { self.new.names ≡ self.old.names }
+    {
         match &event.reply {
             Reply::Begun(gtrid) => self.begin(*gtrid),
             Reply::Issued => self.issue(number, &event.step),
             Reply::Took(call, answer) => self.take(number, &event.step, call, answer),
             Reply::Heard(call, answer) => self.hear(&event.step, call, answer),
-            Reply::Nothing => plain_effect(self.alloc, "", "nothing waits there"),
+            Reply::Nothing => plain_effect(self.alloc, "nothing waits there"),
             Reply::Noted => self.note(&event.step),
-            Reply::Claimed => {
-                plain_effect(
-                    self.alloc,
-                    "claimed",
-                    "all votes are in: no recovery rolls it back now",
-                )
-            }
+            Reply::Claimed => self.claim(&event.step),
             Reply::Decided => self.decide(number, &event.step),
             Reply::Resolved(count) => self.resolve(number, &event.step, *count),
             Reply::Crashed => self.crash(&event.step),
-            Reply::RmRestarted => plain_effect(self.alloc, "up", ""),
+            Reply::RmRestarted => plain_effect(self.alloc, ""),
             Reply::Restarted {
                 incarnation,
                 decisions,

@@ -1,5 +1,10 @@
 //! Where the branches stand.
 
+ghost use Rattle.std.specs.Prelude.{◌≡◌};
+ghost use Rattle.xa_base.specs.StateTable.{Kind.Start, after_end, after_prepare, moved};
+ghost use Rattle.xa_base.specs.declared.code.Code.{Code};
+ghost use Rattle.xa_story.specs.Standings.{committed_or, standing_after};
+
 use crate::waits::breaks;
 use std::alloc::Global;
 use xa_base::{Answer, Branch, Call, Code, Memory, Part, Standing};
@@ -12,7 +17,9 @@ pub struct Move {
 }
 
 /// Where a branch stands after a call on it was answered, by the branch state table (XA, chapter 6, State Tables).
-fn standing_after(before: Standing, call: &Call, code: Code) -> Standing {
+fn standing_after(before: Standing, call: &Call, code: Code) -> Standing
+    ensures { result ≡ standing_after before call.now code }
+{
     match (before, call) {
         (Standing::Active, Call::End { .. }) => after_end(code),
         (Standing::Idle, Call::Prepare { .. }) => after_prepare(code),
@@ -33,12 +40,14 @@ fn standing_after(before: Standing, call: &Call, code: Code) -> Standing {
         (Standing::Idle | Standing::Prepared | Standing::RollbackOnly, Call::Rollback { .. }) =>
             Standing::RolledBack,
         (Standing::Completed(how), Call::Forget { .. }) => Standing::Forgotten(how),
-        (before, Call::Start { .. }) if code == Code::Success => after_start(before),
+        (before, Call::Start { join: false, .. }) => after_start(before),
         (before, _) => before,
     }
 }
 
-fn after_start(before: Standing) -> Standing {
+fn after_start(before: Standing) -> Standing
+    ensures { (code : Code) → result ≡ moved before Start code }
+{
     match before {
         Standing::Active
         | Standing::Idle
@@ -49,14 +58,18 @@ fn after_start(before: Standing) -> Standing {
     }
 }
 
-fn after_end(code: Code) -> Standing {
+fn after_end(code: Code) -> Standing
+    ensures { result ≡ after_end code }
+{
     match code {
         Code::RolledBack(_) => Standing::RollbackOnly,
         _ => Standing::Idle,
     }
 }
 
-fn after_prepare(code: Code) -> Standing {
+fn after_prepare(code: Code) -> Standing
+    ensures { result ≡ after_prepare code }
+{
     match code {
         Code::Success => Standing::Prepared,
         Code::ReadOnly => Standing::ReadOnly,
@@ -64,7 +77,9 @@ fn after_prepare(code: Code) -> Standing {
     }
 }
 
-fn after_commit(code: Code, otherwise: Standing) -> Standing {
+fn after_commit(code: Code, otherwise: Standing) -> Standing
+    ensures { result ≡ committed_or otherwise code }
+{
     match code {
         Code::Success => Standing::Committed,
         _ => otherwise,

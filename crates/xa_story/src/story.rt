@@ -1,9 +1,13 @@
 //! The story of a run: a line for each event, and then what became of the branches.
 
-ghost use Rattle.std.specs.Prelude.{◌≡◌, IfOk, map};
-ghost use Rattle.xa_story.specs.Stories.{heading, headings};
+ghost use Rattle.std.specs.Prelude.{◌≡◌, IfOk, OnOk};
+ghost use Rattle.std.specs.List.{flat_map};
+ghost use Rattle.std.specs.String.{string_bytes};
+ghost use Rattle.xa_story.specs.Lines.{line_text};
+ghost use Rattle.xa_story.specs.Naming.{with_events};
+ghost use Rattle.xa_story.specs.Stories.{IsSpelled, TellEvents};
 
-use crate::ends::ends_text;
+use crate::ends::{fates_text, reasons_text};
 use crate::line::{Line, line_text};
 use crate::scene::Scene;
 use std::alloc::Global;
@@ -11,7 +15,8 @@ use xa_base::{Event, Fate, Memory, Xid};
 
 /// A line for each event, in turn. The scene is that before the first of them.
 pub fn lines_of(alloc: Global, scene: &mut Scene, events: &[Event]) -> Result<Vec<Line>, Memory>
-    ensures told { IfOk result (λ lines. map heading lines.items ≡ headings 1 events.now) }
+    ensures told { IfOk result (λ lines. TellEvents scene.old.names 1 events.now lines.items) }
+    ensures names { OnOk result (scene.new.names ≡ with_events scene.old.names events.now) }
 {
     let mut lines = Vec::new(alloc);
     for (i, event) in events.iter().enumerate() {
@@ -21,20 +26,30 @@ pub fn lines_of(alloc: Global, scene: &mut Scene, events: &[Event]) -> Result<Ve
     Ok(lines)
 }
 
-/// The text of some lines, at the scene behind them.
-pub fn story_text(
-    alloc: Global,
-    lines: &[Line],
-    scene: &Scene,
-    fates: &[(Xid, Fate)],
-) -> Result<String, Memory> {
+/// The text of some lines.
+fn lines_text(alloc: Global, lines: &[Line]) -> Result<String, Memory>
+    ensures { IfOk result (λ text. string_bytes text ≡ flat_map line_text lines.now) }
+{
     let mut text = String::new(alloc);
     for line in lines {
         let line = line_text(alloc, line)?;
         text.push_str(line.as_str())?;
     }
-    text.push_str("\n")?;
-    let ends = ends_text(alloc, scene, fates)?;
-    text.push_str(ends.as_str())?;
     Ok(text)
+}
+
+/// The text of some lines, and of the ends that follow, at the scene after them.
+pub fn story_text(
+    alloc: Global,
+    lines: &[Line],
+    scene: &Scene,
+    fates: &[(Xid, Fate)],
+) -> Result<String, Memory>
+    ensures { IfOk result (λ text.
+        IsSpelled scene.now.names lines.now fates.now (string_bytes text)) }
+{
+    let lines = lines_text(alloc, lines)?;
+    let ends = fates_text(alloc, scene.names(), fates)?;
+    let reasons = reasons_text(alloc, scene, fates)?;
+    Ok(format!(in alloc; "{lines}\n{ends}{reasons}")?)
 }

@@ -1,5 +1,7 @@
 //! What waits on the lines.
 
+ghost use Rattle.std.specs.Prelude.{◌≡◌};
+
 use crate::party::Party;
 use std::alloc::Global;
 use xa_base::{Memory, Part};
@@ -50,6 +52,14 @@ impl Waits {
         Ok(self.items.push(item)?)
     }
 
+    /// So many like this wait.
+    pub fn add_all(&mut self, item: Waiting, count: usize) -> Result<(), Memory> {
+        for _ in 0..count {
+            self.items.push(item)?;
+        }
+        Ok(())
+    }
+
     /// Takes the oldest call, or the oldest answer, that waits on a line.
     pub fn take(&mut self, thread: u32, rm: u32, is_answer: bool) -> Option<Waiting> {
         let place = self.items.iter().position(|item| {
@@ -86,7 +96,9 @@ impl Waits {
     }
 
     /// All that waits.
-    pub fn items(&self) -> &[Waiting] {
+    pub fn items(&self) -> &[Waiting]
+        ensures { result.now ≡ self.now.items.items }
+    {
         self.items.as_slice()
     }
 }

@@ -1,10 +1,16 @@
 //! The names that XA and the protocol give to calls, codes and states.
 
+ghost use Rattle.std.specs.Prelude.{◌≡◌, IfOk};
+ghost use Rattle.std.specs.String.{string_bytes};
+ghost use Rattle.xa_story.specs.Words.{answer_text, call_name, code_name, how_name, rb_name, standing_text, vote_text};
+
 use std::alloc::Global;
 use xa_base::{Answer, Call, Code, How, Memory, RbCode, Standing, Vote};
 
 /// The name of a call, with those flags of it that change what it does (XA, chapter 5).
-pub fn call_name(call: &Call) -> &'static str {
+pub fn call_name(call: &Call) -> &'static str
+    ensures { result.now ≡ call_name call.now }
+{
     match *call {
         Call::OpenRm => "xa_open",
         Call::CloseRm => "xa_close",
@@ -28,7 +34,9 @@ pub fn call_name(call: &Call) -> &'static str {
 }
 
 /// The name of a code that tells of a rollback (XA, section 4.5, Return Codes).
-pub fn rb_name(code: RbCode) -> &'static str {
+pub fn rb_name(code: RbCode) -> &'static str
+    ensures { result.now ≡ rb_name code }
+{
     match code {
         RbCode::Rollback => "XA_RBROLLBACK",
         RbCode::CommFail => "XA_RBCOMMFAIL",
@@ -42,7 +50,9 @@ pub fn rb_name(code: RbCode) -> &'static str {
 }
 
 /// The name of a code that tells of a heuristic end (XA, section 4.5, Return Codes).
-pub fn how_name(how: How) -> &'static str {
+pub fn how_name(how: How) -> &'static str
+    ensures { result.now ≡ how_name how }
+{
     match how {
         How::Com => "XA_HEURCOM",
         How::Rb => "XA_HEURRB",
@@ -52,7 +62,9 @@ pub fn how_name(how: How) -> &'static str {
 }
 
 /// The name of a code (XA, section 4.5, Return Codes).
-pub fn code_name(code: Code) -> &'static str {
+pub fn code_name(code: Code) -> &'static str
+    ensures { result.now ≡ code_name code }
+{
     match code {
         Code::RolledBack(code) => rb_name(code),
         Code::Heuristic(how) => how_name(how),
@@ -69,7 +81,9 @@ pub fn code_name(code: Code) -> &'static str {
 }
 
 /// An answer, as XA's calls return it: a code by its name, and what an xa_recover lists by its count (XA, chapter 5).
-pub fn answer_text(alloc: Global, answer: &Answer) -> Result<String, Memory> {
+pub fn answer_text(alloc: Global, answer: &Answer) -> Result<String, Memory>
+    ensures { IfOk result (λ text. string_bytes text ≡ answer_text answer.now) }
+{
     match answer {
         Answer::Ret(code) => Ok(String::from_str(alloc, code_name(*code))?),
         Answer::Page(page) => {
@@ -80,7 +94,9 @@ pub fn answer_text(alloc: Global, answer: &Answer) -> Result<String, Memory> {
 }
 
 /// Where a branch stands, in words.
-pub fn standing_text(standing: Standing) -> &'static str {
+pub fn standing_text(standing: Standing) -> &'static str
+    ensures { result.now ≡ standing_text standing }
+{
     match standing {
         Standing::Unstarted => "not started",
         Standing::Active => "active",
@@ -100,7 +116,9 @@ pub fn standing_text(standing: Standing) -> &'static str {
 }
 
 /// How a resource manager is to vote.
-pub fn vote_text(vote: Vote) -> &'static str {
+pub fn vote_text(vote: Vote) -> &'static str
+    ensures { result.now ≡ vote_text vote }
+{
     match vote {
         Vote::Yes => "yes (XA_OK)",
         Vote::ReadOnly => "read-only (XA_RDONLY)",

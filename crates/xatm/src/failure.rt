@@ -86,7 +86,8 @@ impl Failure {
             Failure::Input => eprintln!(rt; "xatm: input"),
             Failure::Name => eprintln!(rt; "xatm: name: 1 to 16 letters, digits, _ and -"),
             Failure::RmNames => eprintln!(rt;
-                "xatm: rm: a name for each resource manager, and for each another one: 1 to 64 letters, digits, _ and -"
+                "xatm: rm: a name for each resource manager, and for each another one: \
+                1 to 64 letters, digits, _ and -"
             ),
             Failure::Refused(text) => eprintln!(rt; "xatm: log: {text}"),
             Failure::Line(number, fault) => eprintln!(rt; "xatm: line {number}: {fault}"),

@@ -301,7 +301,8 @@ fn list<W: Write>(
             list_copy(copied_log(rt, path)?, explained_for, &mut text)?;
             // A note that can't be written changes no status.
             let _unwritten = eprintln!(rt;
-                "xatm: {path}: another process runs over it, or it can't be written: it is shown as a copy has it"
+                "xatm: {path}: another process runs over it, or it can't be written: \
+                it is shown as a copy has it"
             );
         }
         Err(fault) => return Err(opening_failure(rt, path, fault)),

@@ -1,4 +1,4 @@
-use Rattle.std.proofs.Common.{◌≡◌, ◌∙◌, codes, List, ℕ, ap, map}
+use Rattle.std.proofs.Common.{◌≡◌, ◌∙◌, codes, List, ℕ, ap}
 use Rattle.std.specs.Str.Lines.{lines}
 use Rattle.xa_diagnostics.specs.Json.{array, first_or_null, items_in}
 use Rattle.xa_diagnostics.specs.declared.json.Item.TheVariants.{Branch, Decision, Name, Rm}
@@ -10,8 +10,12 @@ returns c =
     let all = lines c.args.printed.now in
     let are = c.in_ok-lines.lines.items in
     text_4 (codes "{\"name\":") (codes ",\"rms\":") (codes ",\"decisions\":") (codes ",\"heuristics\":") (codes "}\n")
-    (c.in_ok-name.ensures ∙ ap (λ (ls : List (List ℕ)). first_or_null (items_in Name ls)) (shown (λ line. line.now) c.as_slice.result.now are all c.as_slice.ensures.value c.in_ok-lines.ensures))
-    (c.in_ok-rms.ensures ∙ ap (λ (ls : List (List ℕ)). array (items_in Rm ls)) (shown (λ line. line.now) c.as_slice-2.result.now are all c.as_slice-2.ensures.value c.in_ok-lines.ensures))
-    (c.in_ok-decisions.ensures ∙ ap (λ (ls : List (List ℕ)). array (items_in Decision ls)) (shown (λ line. line.now) c.as_slice-3.result.now are all c.as_slice-3.ensures.value c.in_ok-lines.ensures))
-    (c.in_ok-ends.ensures ∙ ap (λ (ls : List (List ℕ)). array (items_in Branch ls)) (shown (λ line. line.now) c.as_slice-4.result.now are all c.as_slice-4.ensures.value c.in_ok-lines.ensures))
+    (c.in_ok-name.ensures ∙ ap (λ (ls : List (List ℕ)). first_or_null (items_in Name ls))
+    (shown (λ line. line.now) c.as_slice.result.now are all c.as_slice.ensures.value c.in_ok-lines.ensures))
+    (c.in_ok-rms.ensures ∙ ap (λ (ls : List (List ℕ)). array (items_in Rm ls))
+    (shown (λ line. line.now) c.as_slice-2.result.now are all c.as_slice-2.ensures.value c.in_ok-lines.ensures))
+    (c.in_ok-decisions.ensures ∙ ap (λ (ls : List (List ℕ)). array (items_in Decision ls))
+    (shown (λ line. line.now) c.as_slice-3.result.now are all c.as_slice-3.ensures.value c.in_ok-lines.ensures))
+    (c.in_ok-ends.ensures ∙ ap (λ (ls : List (List ℕ)). array (items_in Branch ls))
+    (shown (λ line. line.now) c.as_slice-4.result.now are all c.as_slice-4.ensures.value c.in_ok-lines.ensures))
     c.in_ok-format.ensures.ok

@@ -1,6 +1,5 @@
 use Rattle.std.proofs.Common.{◌≡◌, ◌∙◌, codes, List, ℕ, ap, map, string_bytes}
 use Rattle.std.specs.Str.Lines.{lines}
-use Rattle.xa_diagnostics.specs.CheckJson.{fault_json}
 use Rattle.xa_diagnostics.specs.Json.{array, items_in}
 use Rattle.xa_diagnostics.specs.declared.json.Item.TheVariants.{Line}
 use Rattle.xa_diagnostics.proofs.JsonLemmas.{shown, text_5}

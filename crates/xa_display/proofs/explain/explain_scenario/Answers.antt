@@ -18,3 +18,19 @@ pub returns-in_err-named-clause-refused : goal.returns-in_err-named-clause-refus
 returns-in_err-named-clause-refused g c =
     let p = err_from_is_err_and c.from_residual.result c.from_residual.ensures.1 in
     λ e known. rw (p.1, p.2) (ends_with c.in_err-named.field-0.0 e (scenario_of c.args.text.now) c.in_err-named.ensures.read known)
+
+pub returns-clause-ok : goal.returns-clause-ok
+returns-clause-ok c =
+    on_ok c.write_text.result c.write_text.ensures.whole (λ whole. record {
+      plan = plan_of c.in_ok-named.named.scenario;
+      origin = origin_in ⟦<MemRm as ResourceManager>⟧.look c.in_ok-system.system;
+      events = c.in_ok-system.system.events;
+      names = map string_bytes c.in_ok-named.named.names.items;
+      fates = c.in_ok-fates.fates.items;
+      story = string_bytes c.in_ok-story.story;
+      run = record { reads = c.in_ok-named.ensures.read; over = c.in_ok-system.ensures.over; run = c.in_ok-system.ensures.run };
+      named = c.in_ok-named.ensures.names;
+      report = record { in_order = c.in_ok-fates.ensures.in_order; listed = c.in_ok-fates.ensures.listed };
+      told = record { lines = c.in_ok-lines.lines.items; told = c.in_ok-lines.ensures.told; spelled = c.in_ok-story.ensures };
+      writes = whole;
+    })
