@@ -19,7 +19,8 @@ use Rattle.xa_model.proofs.Invariant.{HasBegun, Inv, IsOlder, Old}
 use Rattle.xa_model.proofs.Invariant.Now.{begun_or_older, older_closed}
 use Rattle.xa_model.proofs.Invariant.Preservation.{always}
 use Rattle.xa_model.proofs.NameLemmas.OwnNames.{own_name}
-use Rattle.xa_model.proofs.ProcessLemmas.Facing.{Faces, faces_after}
+use Rattle.xa_model.proofs.ProcessLemmas.SameParts.{Faces}
+use Rattle.xa_model.proofs.ProcessLemmas.Facing.{faces_after}
 use Rattle.xa_model.proofs.ProcessLemmas.Joining.{gone_right}
 use Rattle.xa_model.proofs.ProcessLemmas.Leaving.{fits_branch}
 use Rattle.xa_model.proofs.ProcessLemmas.SameLogs.{rows_again, records_again, same_listed}

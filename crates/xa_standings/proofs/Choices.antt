@@ -17,7 +17,8 @@ use Rattle.xa_base.specs.declared.state.Standing.TheVariants.{Unstarted}
 use Rattle.xa_base.specs.declared.vote.Vote.TheVariants.{Yes}
 use Rattle.xa_model.proofs.NameLemmas.OwnNames.{own_name}
 use Rattle.xa_model.proofs.Invariant.Preservation.{always}
-use Rattle.xa_model.proofs.ProcessLemmas.Facing.{Faces, breaks_is, faces_after}
+use Rattle.xa_model.proofs.ProcessLemmas.SameParts.{Faces, breaks_is}
+use Rattle.xa_model.proofs.ProcessLemmas.Facing.{faces_after}
 use Rattle.xa_model.proofs.ProcessLemmas.Joining.{faces_first, gone_right, resumed_right, right_same}
 use Rattle.xa_model.proofs.ProcessLemmas.Leaving.{fits_branch}
 use Rattle.xa_model.specs.Facts.{fits, held_of, next_call, origin, standing, up}
