@@ -1,6 +1,7 @@
 -- Two drivers are served by managers of two names.
-use Rattle.std.proofs.Common.{◌≡◌, ◌≢◌, ◌∙◌, ◌⊎◌, inl, inr, ℕ, Bool, true, false, ◌||◌, List, [], ◌∷◌, Option, Some, None, refl, sym, ap, subst}
+use Rattle.std.proofs.Common.{◌≡◌, ◌≢◌, ◌∙◌, ◌⊎◌, inl, inr, ℕ, false, List, [], ◌∷◌, Option, Some, None, refl, sym, ap, subst}
 use Rattle.std.proofs.lemmas.Option.{none-some}
+use Rattle.std.proofs.lemmas.Bool.{or_parts}
 use Rattle.std.specs.List.{AllByRecursion, list_any}
 use Rattle.xa_base.specs.Xid.{Xid}
 use Rattle.xa_coordinator.specs.Lines.{asked_in}
@@ -27,11 +28,6 @@ pub known_left : {L : Type 0} (text : List ℕ) (left : Option (List ℕ)) (mome
 known_left text None moment name greeting written all old new serves = absurd serves.consumed
 known_left text (Some unread) moment name greeting written all old new serves = (unread, serves)
 
-neither : (a b : Bool) → (a || b) ≡ false → (a ≡ false) × (b ≡ false)
-neither false false e = (refl, refl)
-neither false true e = absurd (cc)
-neither true b e = absurd (cc)
-
 module _ {L : Type 0} (moment : L → Moment) where
   -- a session that keeps track gave this reply to some request; or it tells no call
   abbrev WasGiven : Response → Type 0
@@ -44,7 +40,7 @@ module _ {L : Type 0} (moment : L → Moment) where
     all_given [] (reply ∷ replies) seen old new keeps have none = absurd have
     all_given (line ∷ lines) [] seen old new keeps have none = absurd have
     all_given (line ∷ lines) (reply ∷ replies) seen old new keeps (next, to, rest) none =
-        let no = neither (is_log_fault reply) (list_any is_log_fault replies) none in
+        let no = or_parts (is_log_fault reply) (list_any is_log_fault replies) none in
         let one = given (asked_in line) to no.0 in
         (one.0, all_given lines replies one.1.0 next new one.1.1 rest no.1)
       where

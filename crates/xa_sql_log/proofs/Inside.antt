@@ -1,5 +1,5 @@
 -- What a transaction leaves of a log: all that was written in it, or nothing.
-use Rattle.std.proofs.Common.{◌≡◌, ◌⊎◌, inl, inr, ℕ, ◌<◌, ◌≤◌, ◌+◌, List, [], ◌∷◌, length, take, get_or, true, false, Option, Some, None, Result, Ok, Err, OnOk, IsTrue, IsSomeAnd, cond, is_some, refl, sym, ap, subst, ◌∙◌, arith}
+use Rattle.std.proofs.Common.{◌≡◌, ◌⊎◌, inl, inr, ℕ, ◌<◌, ◌≤◌, ◌+◌, List, [], ◌∷◌, length, take, get_or, true, false, Option, Some, None, Result, OnOk, IsTrue, IsSomeAnd, cond, is_some, refl, sym, ap, subst, ◌∙◌, arith}
 use Rattle.std.proofs.lemmas.Bool.{cases_Bool, true≢false}
 use Rattle.std.proofs.lemmas.List.{take_more}
 use Rattle.std.specs.List.{AllByRecursion}
@@ -240,10 +240,6 @@ kept_anyway a b opened kept = elim (cases_Bool b.is_open) [ inl is_open ↦ kept
 pub from_kept : (P : Content → Type 0) (a b : Option Content) → Keeps a b → IsSomeAnd b P → IsSomeAnd a P
 from_kept P a b (inl none) h = absurd (subst (λ o. IsSomeAnd o P) none h)
 from_kept P a b (inr same) h = subst (λ o. IsSomeAnd o P) same h
-
-pub on_ok_gives : {A E : Type 0} (r : Result A E) (P Q : Type 0) → (P → Q) → OnOk r P → OnOk r Q
-on_ok_gives (Ok x) P Q gives h = gives h
-on_ok_gives (Err e) P Q gives h = tt
 
 pub again : (change : Content → Content) (a b c : State) → MayChange change a b → (IsOrderly a → Keeps (content_in a) (content_in b))
     → MayChange change b c → MayChange change a c

@@ -1,12 +1,12 @@
 -- What resource managers do, and lines that break, is nothing to what a manager and its log say.
-use Rattle.std.proofs.Common.{◌≡◌, ◌<◌, List, [], ◌∷◌, map, refl, sym, ◌∙◌, subst}
+use Rattle.std.proofs.Common.{◌≡◌, ◌<◌, map, refl, sym, ◌∙◌, subst}
 use Rattle.std.specs.Prelude.{if◌then◌else◌, ◌==◌, length, Option, Some, None}
 use Rattle.xa_base.specs.declared.step.Part.TheVariants as Part
 use Rattle.xa_model.specs.Facts.{Change.AddRows, doubt, fault_change, heuristic_rows, incarnation, log, row_for, rows_changed, heuristics_changed, up}
-use Rattle.xa_model.specs.Facts.Distinct.{EachOnce}
 use Rattle.xa_model.specs.Promises.Processes.{SameRecords, SameRows, resumed}
 use Rattle.xa_model.specs.Protocol.{RightDone, RightFault, RightRow}
 use Rattle.xa_model.specs.Trace.{Fault, Fault.InDecide, Fault.InDone, Fault.InResolve, Gtrid, Happening, Happening.CompletedAlone, Happening.Crashed, Happening.PutOff, Happening.Took, Happening.Voted, Origin, Trace, Trace.Then}
+use Rattle.xa_model.proofs.ProcessLemmas.Joining.{each_once}
 use Rattle.xa_standings.specs.Seen.{Alone, Alone.Ends, Alone.NoMore, Alone.PutsOff, Alone.Votes}
 use Rattle.xa_standings.specs.Sessions.{AsksForRows, FindsLog, failed_in}
 
@@ -36,13 +36,9 @@ done_still tr (PutOff b n) m g x = record { is_up = x.is_up; has = x.has; is_set
 done_still tr (Crashed (Part.Line t r)) m g x = record { is_up = x.is_up; has = x.has; is_settled = x.is_settled }
 done_still tr _ m g x = absurd m
 
-each_still : (P Q : Gtrid → Type 0) → ((g : Gtrid) → P g → Q g) → (gs : List Gtrid) → EachOnce P gs → EachOnce Q gs
-each_still P Q f [] h = tt
-each_still P Q f (g ∷ gs) h = (f g h.0, h.1, each_still P Q f gs h.2)
-
 fault_still : (tr : Trace) (e : Happening) → IsOfRms e → up (Then tr e) ≡ up tr → (f : Fault) → AsksForRows f → RightFault tr f → RightFault (Then tr e) f
-fault_still tr e m u (InDecide gs) asks x = each_still (RightRow tr) (RightRow (Then tr e)) (row_still tr e m) gs x
-fault_still tr e m u (InDone gs) asks x = each_still (RightDone tr) (RightDone (Then tr e)) (done_still tr e m) gs x
+fault_still tr e m u (InDecide gs) asks x = each_once (RightRow tr) (RightRow (Then tr e)) (row_still tr e m) gs x
+fault_still tr e m u (InDone gs) asks x = each_once (RightDone tr) (RightDone (Then tr e)) (done_still tr e m) gs x
 fault_still tr e m u InResolve asks x = u ∙ x
 fault_still tr e m u _ asks x = absurd asks
 

@@ -4,8 +4,8 @@ use Rattle.std.proofs.lemmas.Bool.{or_right, true≢false}
 use Rattle.xa_base.specs.StateTable.{broken}
 use Rattle.xa_base.specs.declared.state.Standing.{Standing}
 use Rattle.xa_base.specs.declared.state.Standing.TheVariants.{Committed, Prepared}
-use Rattle.xa_model.proofs.AgreementLemmas.Alike.{are_alike, undone_no_row}
-use Rattle.xa_model.proofs.Invariant.{HasBegun, Inv, IsAtRest, IsOlder}
+use Rattle.xa_model.proofs.AgreementLemmas.Alike.{are_alike, undone_no_row, prepared_not_at_rest}
+use Rattle.xa_model.proofs.Invariant.{HasBegun, Inv, IsOlder}
 use Rattle.xa_model.proofs.Invariant.Now.{older_not_started, settled_at_rest}
 use Rattle.xa_model.proofs.Invariant.Preservation.{always, begun_is_started}
 use Rattle.xa_model.proofs.Invariant.Rows.{rowed_kept}
@@ -16,7 +16,8 @@ use Rattle.xa_model.specs.Promises.Agreement.{IsUndone}
 use Rattle.xa_model.specs.Promises.Processes.{gone, resumed}
 use Rattle.xa_model.specs.Protocol.{AllRight}
 use Rattle.xa_model.specs.Trace.{Branch, Gtrid, Happening.Restarted, Origin, Trace}
-use Rattle.xa_standings.proofs.Chains.{IsReached, reached}
+use Rattle.xa_standings.proofs.ReachedStandings.{IsReached}
+use Rattle.xa_standings.proofs.Chains.{reached}
 use Rattle.xa_standings.specs.Agreement.{StandAlike}
 use Rattle.xa_standings.proofs.Commits.{HasCommit, broken_commits, whole_commits}
 use Rattle.xa_standings.specs.Sessions.{AfterSessions, CommitStands, Finds, FindsLog, HaveOneHistory, IsCommitting, Log, RowsDecide, WasFoundDecided}
@@ -32,9 +33,6 @@ broken_prepared s e = ap broken e
 broken_undone : (s : Standing) → IsUndone s → IsUndone (broken s)
 broken_undone s (inl e) = inl (ap broken e)
 broken_undone s (inr e) = inr (ap broken e)
-
-not_at_rest : (s : Standing) → s ≡ Prepared → IsAtRest s → ⊥
-not_at_rest s e h = subst IsAtRest e h
 
 -- ** a right history
 
@@ -64,7 +62,8 @@ module _ (tr : Trace) (right : AllRight tr) where
       there : had_row tr b.gtrid ≡ true → (t : Bool) → has_row tr b.gtrid ≡ t → t ≡ true
       there had true e = refl
       there had false e =
-          absurd (not_at_rest (standing tr c) prepared (settled_at_rest tr c inv c_started (inv.row_left b.gtrid had e c (sym same) c_started)))
+          absurd (prepared_not_at_rest (standing tr c) prepared
+          (settled_at_rest tr c inv c_started (inv.row_left b.gtrid had e c (sym same) c_started)))
 
       by : (had_row tr b.gtrid ≡ true) ⊎ (handed_over tr b.gtrid ≡ true) → has_row tr b.gtrid ≡ true
       by (inl had) = there had (has_row tr b.gtrid) refl
@@ -80,7 +79,8 @@ module _ (tr : Trace) (right : AllRight tr) where
 
       by : (t : Bool) → has_row tr b.gtrid ≡ t → t ≡ true
       by true e = refl
-      by false e = absurd (not_at_rest (standing tr b) prepared (settled_at_rest tr b inv b_started (inv.row_left b.gtrid had e b refl b_started)))
+      by false e = absurd (prepared_not_at_rest (standing tr b) prepared
+          (settled_at_rest tr b inv b_started (inv.row_left b.gtrid had e b refl b_started)))
 
   -- no row is there of a transaction that was undone
   none_undone : (b : Branch) → IsUndone (standing tr b) → has_row tr b.gtrid ≡ false

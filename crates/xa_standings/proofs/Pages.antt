@@ -3,6 +3,7 @@ use Rattle.std.proofs.Common.{◌≡◌, ℕ, zero, suc, ◌+◌, ◌<◌, ◌�
 use Rattle.std.specs.Prelude.{if◌then◌else◌}
 use Rattle.std.specs.BTreeMap.{BTreeMap}
 use Rattle.std.proofs.lemmas.List.{drop_all, drop_more}
+use Rattle.std.proofs.lemmas.Bool.{or_right}
 use Rattle.xa_base.proofs.BranchKeys.{branch_eq-refl, branch_eq-true}
 use Rattle.xa_base.specs.Branch.{branch_eq}
 use Rattle.xa_base.specs.Xid.{Xid}
@@ -90,10 +91,6 @@ listed_once (x ∷ xs) q s = ap (listed_by xs q) (one (name_of x)) ∙ by (is_of
         → listed_by xs q (if t then page_row s else s) ≡ (if t || is_listed xs q then page_row s else s)
     by true page plain = page ∙ again (is_listed xs q)
     by false page plain = plain
-
-or_right : (a b : Bool) → b ≡ true → (a || b) ≡ true
-or_right true b e = refl
-or_right false b e = e
 
 pub listed_if : (xs : List Xid) (q : Branch) → Lists (map name_of xs) (Ours q) → is_listed xs q ≡ true
 listed_if [] q l = absurd (let e = l.1 in let no : ⊥ = cc in no)

@@ -18,7 +18,7 @@ use Rattle.xa_tm.specs.LedgerBook.{known_in, no_branch, notes_at}
 use Rattle.xa_tm.specs.declared.ledger.Ledger.{Ledger}
 use Rattle.xa_tm.specs.declared.notes.BranchNotes.{BranchNotes}
 use Rattle.xa_tm.proofs.Maps.StartedBranches.{known_has}
-use Rattle.xa_tm.proofs.Release.{set_filtered}
+use Rattle.xa_tm.proofs.Release.Sets.{set_filtered}
 
 -- ** the first
 

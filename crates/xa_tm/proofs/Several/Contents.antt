@@ -175,14 +175,6 @@ added_incarnation (x ∷ xs) c = added_incarnation xs (with_commit x.0 x.1 c) �
     by true = refl
     by false = refl
 
-pub dropped_heuristics : (gs : List Gtrid) (c : Content) → (without_decisions gs c).heuristics ≡ c.heuristics
-dropped_heuristics [] c = refl
-dropped_heuristics (g ∷ gs) c = dropped_heuristics gs (without_decision g c)
-
-pub dropped_incarnation : (gs : List Gtrid) (c : Content) → (without_decisions gs c).incarnation ≡ c.incarnation
-dropped_incarnation [] c = refl
-dropped_incarnation (g ∷ gs) c = dropped_incarnation gs (without_decision g c)
-
 -- ** any change
 
 pub of_same : (r s : Gtrid → Option Waiting) (d : Doubt) → ((g : Gtrid) → s g ≡ r g) → IsChangeOf r d → IsChangeOf s d

@@ -20,7 +20,7 @@ use Rattle.xa_tm.specs.Book.{Book, Waiting, after, voted_yes}
 use Rattle.xa_tm.specs.Calls.{IsOpenIn}
 use Rattle.xa_tm.specs.Refusing.{is_shut_in, outlived_in, refusal_in, refusal_in_turn, view_in, at_rest, waits_for_none}
 use Rattle.xa_tm.proofs.Log.Asks.{is_fault}
-use Rattle.xa_tm.proofs.Log.Ties.{done_up}
+use Rattle.xa_tm.proofs.Log.TiedSteps.{done_up}
 use Rattle.xa_tm.proofs.Several.Lists.{named_push}
 
 -- the refusal where these have passed, of which each is refused again

@@ -4,7 +4,8 @@ use Rattle.sqlite.specs.Values.{bound_value}
 use Rattle.sqlite.specs.Value.{owned}
 use Rattle.xa_log.specs.Content.{with_record}
 use Rattle.xa_sql_log.proofs.Texts.{insert_heuristic, insert_heuristic_plain}
-use Rattle.xa_sql_log.proofs.States.{held_there, opened_clean, run_ok, run_changes}
+use Rattle.xa_sql_log.proofs.StatesAfter.{held_there, run_ok, run_changes}
+use Rattle.xa_sql_log.proofs.States.{opened_clean}
 use Rattle.xa_sql_log.proofs.HeuristicRows.{end_params, five_params, records, record_commits}
 use Rattle.xa_sql_log.proofs.heuristics.insert_heuristic.Goals as goal
 

@@ -2,7 +2,7 @@ use Rattle.std.proofs.Common.{◌∙◌, ap, sym, subst}
 use Rattle.std.specs.Prelude.{if◌then◌else◌}
 use Rattle.xa_base.specs.Branch.{branch_eq}
 use Rattle.xa_base.specs.StateTable.{asks_of}
-use Rattle.xa_standings.proofs.Following.{doubt_leads, no_doubt_leads}
+use Rattle.xa_standings.proofs.FollowedDoubts.{doubt_leads, no_doubt_leads}
 use Rattle.xa_standings.specs.Entries.{states_at}
 use Rattle.xa_standings.specs.Monitor.{states_of}
 use Rattle.xa_standings.specs.States.{AskedOrNot, LeadsInto, LeadsOnto}

@@ -1,7 +1,7 @@
 use Rattle.std.proofs.Common.{sym, subst}
 use Rattle.std.proofs.lemmas.Result.{on_ok_weaker}
 use Rattle.std.specs.Option.{option_copied}
-use Rattle.xa_standings.proofs.Following.{none_done}
+use Rattle.xa_standings.proofs.FollowedDoubts.{none_done}
 use Rattle.xa_standings.specs.Monitor.{Leads, known_if, states_of}
 use Rattle.xa_standings.specs.Standings.{MayBeDone}
 use Rattle.xa_standings.proofs.monitor.Monitor.doubt_first.Goals as goal

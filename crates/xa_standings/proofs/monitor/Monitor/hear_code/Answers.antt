@@ -1,6 +1,6 @@
 use Rattle.std.proofs.Common.{◌∙◌, refl, sym, subst}
 use Rattle.xa_base.specs.StateTable.{asks_of}
-use Rattle.xa_standings.proofs.Following.{code_leads, no_code_leads}
+use Rattle.xa_standings.proofs.FollowedCodes.{code_leads, no_code_leads}
 use Rattle.xa_standings.specs.Entries.{states_at}
 use Rattle.xa_standings.specs.Monitor.{states_of}
 use Rattle.xa_standings.specs.States.{Asked, LeadsInto, LeadsOnto}

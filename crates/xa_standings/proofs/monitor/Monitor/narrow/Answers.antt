@@ -1,7 +1,7 @@
 use Rattle.std.proofs.Common.{sym, subst}
 use Rattle.xa_base.specs.Answer.{map_answer}
 use Rattle.xa_model.specs.Replies.History.{name_of}
-use Rattle.xa_standings.proofs.Following.{page_narrows}
+use Rattle.xa_standings.proofs.FollowedPages.{page_narrows}
 use Rattle.xa_standings.specs.Entries.{states_at}
 use Rattle.xa_standings.specs.Monitor.{Leads, states_of}
 use Rattle.xa_standings.specs.Standings.{Explained}

@@ -4,7 +4,7 @@ use Rattle.xa_base.specs.Answer.{map_answer}
 use Rattle.xa_base.specs.declared.answer.Answer.TheVariants.{Page}
 use Rattle.xa_model.specs.Replies.History.{name_of}
 use Rattle.xa_model.specs.Trace.{line}
-use Rattle.xa_standings.proofs.Following.{page_can}
+use Rattle.xa_standings.proofs.FollowedPages.{page_can}
 use Rattle.xa_standings.specs.Monitor.{CanExplain, states_of}
 use Rattle.xa_standings.proofs.monitor.Monitor.unexplained.Goals as goal
 

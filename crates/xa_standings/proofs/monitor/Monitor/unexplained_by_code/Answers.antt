@@ -1,7 +1,7 @@
 use Rattle.std.proofs.Common.{◌≡◌, rules, Some, None, subst}
 use Rattle.xa_base.specs.StateTable.{asks_of}
-use Rattle.xa_standings.proofs.Following.{code_can, code_stuck, no_code_can}
-use Rattle.xa_standings.proofs.RowLemmas.{not_empty}
+use Rattle.xa_standings.proofs.FollowedCodes.{code_can, code_stuck, no_code_can}
+use Rattle.xa_standings.proofs.RowLemmas.StateSets.{not_empty}
 use Rattle.xa_standings.specs.Entries.{branch_asked}
 use Rattle.xa_standings.specs.Monitor.{states_of}
 use Rattle.xa_standings.specs.States.{Asked, LeadsInto, LeadsOnto}

@@ -1,5 +1,5 @@
 use Rattle.xa_base.specs.StateTable.{asks_of}
-use Rattle.xa_standings.proofs.RowLemmas.{into_if, onto_if}
+use Rattle.xa_standings.proofs.RowLemmas.CallRows.{into_if, onto_if}
 use Rattle.xa_standings.proofs.states.States.after.Goals as goal
 
 pub returns-clause-into : goal.returns-clause-into

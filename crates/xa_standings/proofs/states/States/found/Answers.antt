@@ -1,4 +1,4 @@
-use Rattle.xa_standings.proofs.RowLemmas.{found_iff}
+use Rattle.xa_standings.proofs.RowLemmas.BreakRows.{found_iff}
 use Rattle.xa_standings.proofs.states.States.found.Goals as goal
 
 pub returns : goal.returns

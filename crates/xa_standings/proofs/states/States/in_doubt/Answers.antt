@@ -1,4 +1,4 @@
-use Rattle.xa_standings.proofs.RowLemmas.{page_into, page_onto}
+use Rattle.xa_standings.proofs.RowLemmas.BreakRows.{page_into, page_onto}
 use Rattle.xa_standings.proofs.states.States.in_doubt.Goals as goal
 
 pub returns-clause-into : goal.returns-clause-into

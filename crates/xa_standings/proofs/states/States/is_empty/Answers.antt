@@ -1,4 +1,4 @@
-use Rattle.xa_standings.proofs.RowLemmas.{empty_iff}
+use Rattle.xa_standings.proofs.RowLemmas.StateSets.{empty_iff}
 use Rattle.xa_standings.proofs.states.States.is_empty.Goals as goal
 
 pub returns : goal.returns

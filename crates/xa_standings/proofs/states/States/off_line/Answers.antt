@@ -1,4 +1,4 @@
-use Rattle.xa_standings.proofs.RowLemmas.{off_into, off_onto}
+use Rattle.xa_standings.proofs.RowLemmas.BreakRows.{off_into, off_onto}
 use Rattle.xa_standings.proofs.states.States.off_line.Goals as goal
 
 pub returns-clause-into : goal.returns-clause-into

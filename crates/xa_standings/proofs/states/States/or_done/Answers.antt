@@ -1,5 +1,5 @@
 use Rattle.xa_base.specs.StateTable.{asks_of}
-use Rattle.xa_standings.proofs.RowLemmas.{into_any_if, onto_any_if}
+use Rattle.xa_standings.proofs.RowLemmas.AnyRows.{into_any_if, onto_any_if}
 use Rattle.xa_standings.proofs.states.States.or_done.Goals as goal
 
 pub returns-clause-into : goal.returns-clause-into

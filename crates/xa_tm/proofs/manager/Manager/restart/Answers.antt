@@ -3,7 +3,8 @@ use Rattle.xa_model.specs.Trace.{Fault.InRestart, Happening.Failed, Happening.Re
 use Rattle.xa_tm.specs.Book.{Doubt.NoDoubt, after, book_after}
 use Rattle.xa_tm.specs.LedgerBook.{as_book}
 use Rattle.xa_tm.specs.BookAndLog.{IsTied, may_find}
-use Rattle.xa_tm.proofs.Log.Restart.{is_found, never_found, tied_restart, tied_no_restart}
+use Rattle.xa_tm.proofs.Log.FoundContent.{is_found, never_found}
+use Rattle.xa_tm.proofs.Log.Restart.{tied_restart, tied_no_restart}
 use Rattle.xa_tm.proofs.manager.Manager.restart.Goals as goal
 
 pub returns-then-try_restart-clause-tied : goal.returns-then-try_restart-clause-tied

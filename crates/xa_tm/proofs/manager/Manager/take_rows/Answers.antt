@@ -6,7 +6,8 @@ use Rattle.xa_tm.specs.BookAndLog.{IsTied}
 use Rattle.xa_tm.specs.LedgerBook.{as_book}
 use Rattle.xa_tm.proofs.Log.Asks.{asks_failed, asks_made}
 use Rattle.xa_tm.proofs.Log.Ties.{tied_fault}
-use Rattle.xa_tm.proofs.Several.Decisions.{kept_fit, rows_dropped}
+use Rattle.xa_tm.proofs.Several.FittingNumbers.{kept_fit}
+use Rattle.xa_tm.proofs.Several.Decisions.{rows_dropped}
 use Rattle.xa_tm.proofs.manager.Manager.take_rows.Goals as goal
 
 pub drop_rows-requires : goal.drop_rows-requires

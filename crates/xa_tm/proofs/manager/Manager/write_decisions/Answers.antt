@@ -12,7 +12,8 @@ use Rattle.xa_tm.specs.Calls.{AsksFor, written_by}
 use Rattle.xa_tm.specs.LedgerBook.{NamesOwn, as_book}
 use Rattle.xa_tm.proofs.Log.Asks.{asks_failed, asks_made, asks_none}
 use Rattle.xa_tm.proofs.Log.Ties.{tied_fault}
-use Rattle.xa_tm.proofs.Several.Decisions.{commits_change, decided_unwritten, decided_written, none_written, some_written, written_fit, written_new, written_up}
+use Rattle.xa_tm.proofs.Several.Decisions.{commits_change, decided_unwritten, decided_written, none_written, some_written, written_new, written_up}
+use Rattle.xa_tm.proofs.Several.FittingNumbers.{written_fit}
 use Rattle.xa_tm.proofs.Several.Lists.{no_items, some_items}
 use Rattle.xa_tm.proofs.manager.Manager.write_decisions.Goals as goal
 
