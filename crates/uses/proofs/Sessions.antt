@@ -8,11 +8,11 @@ use Rattle.xa_coordinator.proofs.LogLemmas.{replies_keep}
 use Rattle.xa_coordinator.proofs.SessionChains.{none_there, raised_from}
 use Rattle.xa_coordinator.proofs.VoteLemmas.{split_replies}
 use Rattle.xa_coordinator.specs.Replies.{greeting_of}
-use Rattle.xa_coordinator.specs.Serving.{HaveReplies, RepliesTo, Serves, replies_given, requests_done, text_of, told_in}
+use Rattle.xa_coordinator.specs.Serving.{HaveReplies, RepliesTo, Serves, replies_given, replies_text, requests_done, told_in}
 use Rattle.xa_coordinator.specs.Sessions.{IsEmptyLog, StartsOver}
 use Rattle.xa_coordinator.specs.Tracking.{ServedDatabasesAgree}
 use Rattle.xa_coordinator.specs.Votes.{AreVotes, IsLogged, VotedCommitsAreLogged}
-use Rattle.xa_coordinator.specs.Rows.{is_among}
+use Rattle.xa_coordinator.specs.Rows.{is_gtrid_among}
 use Rattle.xa_coordinator.specs.declared.coordinator.Coordinator.{Coordinator}
 use Rattle.xa_log.specs.Content.{nothing}
 use Rattle.xa_log.specs.Contract.{Honestly, Moment}
@@ -76,7 +76,7 @@ is_served moment threads rms handed old new text unread before written starts or
       no_records = there.records;
       whole = serves.consumed;
       lines = serves.lines;
-      replied = subst (λ xs. written ≡ xs ++ text_of (told_in (greeting_of old) serves.turns)) none serves.appended;
+      replied = subst (λ xs. written ≡ xs ++ replies_text (told_in (greeting_of old) serves.turns)) none serves.appended;
       ends = serves.ends;
       told = so.told;
       explained = so.explained;
@@ -111,7 +111,7 @@ votes_fit (l ∷ ls) (r ∷ rs) (g ∷ gs) are =
 module _ {L : Type 0} (moment : L → Moment) (law : VotedCommitsAreLogged moment) (threads rms : ℕ) (handed : L) (old new : Coordinator L)
     (lines : List (List ℕ)) (replies : List Response) (starts : StartsOver moment threads rms handed old) (have : HaveReplies moment lines replies old new)
     (order : (moment handed).is_in_order) (honest : (moment (log_in new.session.manager)).is_honest) where
-  pub rows_logged : (gs : List Gtrid) (g : Gtrid) → EndDecided lines replies gs → is_among gs g ≡ true → IsLogged (moment (log_in new.session.manager)).content g
+  pub rows_logged : (gs : List Gtrid) (g : Gtrid) → EndDecided lines replies gs → is_gtrid_among gs g ≡ true → IsLogged (moment (log_in new.session.manager)).content g
   rows_logged gs g end among =
       let all : HaveReplies moment (end.before ++ (end.votes ++ end.line ∷ [])) (end.first ++ (end.heard ++ responses.Decided ∷ [])) old new =
       subst (λ ls. HaveReplies moment ls (end.first ++ (end.heard ++ responses.Decided ∷ [])) old new) end.lines_are

@@ -16,7 +16,7 @@ use Rattle.xa_model.specs.Trace.{Origin}
 use Rattle.xa_requests.specs.declared.request.Request.{Request}
 use Rattle.xa_requests.specs.declared.response.Response.{Response}
 use Rattle.xa_serve.specs.Tracking.{KeepsTrack, StartsAreTracked}
-use Rattle.xa_standings.specs.Explained.{IsOldLog}
+use Rattle.xa_standings.specs.Explained.{HasOnlyOlderRows}
 use Rattle.xa_standings.specs.Seen.{Seen, Seen.Start}
 use Rattle.uses.proofs.Sessions.{begins_so, start_of}
 use Rattle.uses.specs.Managers.{AreServedApart, IsServedFrom, IsServedUnder, TellApart}
@@ -33,7 +33,7 @@ module _ {L : Type 0} (moment : L → Moment) where
   abbrev WasGiven : Response → Type 0
   WasGiven reply = ((old : Coordinator L) × (new : Coordinator L) × Replied moment old new reply) ⊎ ((name : List ℕ) → told_xid name reply ≡ None)
 
-  module _ (tracked : RepliesAreTracked moment) (o : Origin) (is_old : IsOldLog o) where
+  module _ (tracked : RepliesAreTracked moment) (o : Origin) (is_old : HasOnlyOlderRows o) where
     all_given : (lines : List (List ℕ)) (replies : List Response) (seen : Seen) (old new : Coordinator L) → KeepsTrack o seen old.session
         → HaveReplies moment lines replies old new → list_any is_log_fault replies ≡ false → AllByRecursion WasGiven replies
     all_given [] [] seen old new keeps have none = tt

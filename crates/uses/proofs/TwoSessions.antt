@@ -7,13 +7,13 @@ use Rattle.xa_base.specs.declared.state.Standing.TheVariants.{Committed, Complet
 use Rattle.xa_base.specs.declared.branch.Gtrid.{Gtrid}
 use Rattle.xa_coordinator.proofs.LogLemmas.{replies_keep}
 use Rattle.xa_coordinator.proofs.TurnLemmas.{nothing_is_left}
-use Rattle.xa_coordinator.specs.Lines.{lines_of}
+use Rattle.xa_coordinator.specs.Lines.{text_lines}
 use Rattle.xa_coordinator.specs.Replies.{greeting_of}
 use Rattle.xa_coordinator.specs.Serving.{HaveReplies, replies_given, requests_done}
-use Rattle.xa_coordinator.specs.Sessions.{AreServed, AreServed.NoneYet, AreServed.OneMore, CommitStands, IsEmptyLog, IsHandedOn, IsLeft.AfterLine, IsSession, ServedCommitsStand, ServedLogsDecide, ServedSessionsAgree, ServedSessionsAreSeen, StartsOver, WasFoundDecided}
+use Rattle.xa_coordinator.specs.Sessions.{AreServed, AreServed.NoneYet, AreServed.OneMore, CommitStandsInLog, IsEmptyLog, IsHandedOn, IsSession, IsSessionLeft.AfterLine, ServedCommitsStand, ServedLogsDecide, ServedSessionsAgree, ServedSessionsAreSeen, StartsOver, WasFoundDecidedInLog}
 use Rattle.xa_coordinator.specs.Telling.{HaveTold, is_log_fault}
 use Rattle.xa_coordinator.specs.Votes.{VotedCommitsAreLogged}
-use Rattle.xa_coordinator.specs.Rows.{is_among}
+use Rattle.xa_coordinator.specs.Rows.{is_gtrid_among}
 use Rattle.xa_coordinator.specs.declared.coordinator.Coordinator.{Coordinator}
 use Rattle.xa_log.specs.Content.{Content, with_bump}
 use Rattle.xa_log.specs.Contract.{Honestly, Moment}
@@ -56,7 +56,7 @@ committing_stays : (s : Standing) → IsCommitting s → IsUndone s → ⊥
 committing_stays s h (inl e) = subst IsCommitting e h
 committing_stays s h (inr e) = subst IsCommitting e h
 
-ends_committed : (f : Branch → Standing) (c : Content) (b : Branch) → CommitStands f c b → EndsCommitted f c b
+ends_committed : (f : Branch → Standing) (c : Content) (b : Branch) → CommitStandsInLog f c b → EndsCommitted f c b
 ends_committed f c b stands = record {
   never_undone = committing_stays (f b) stands.commits;
   in_the_end = λ gone. committing_ends (f b) stands.commits (λ prepared. let row = stands.row_stays prepared in let no : ⊥ = cc in no);
@@ -92,7 +92,7 @@ module _ {L : Type 0} (moment : L → Moment) (agree : ServedSessionsAgree momen
       (IsSomeAnd (moment handed).content IsEmptyLog → AreServedTo moment left (λ b. Unstarted))
   silent_so handed left written is order honest empty =
       let none = none_read is.serves.read is.unread is.serves.consumed in
-      let silent = nothing_is_left (λ turn. turn.line) is.serves.turns (is.serves.lines.are ∙ ap lines_of none) in
+      let silent = nothing_is_left (λ turn. turn.line) is.serves.turns (is.serves.lines.are ∙ ap text_lines none) in
       let none_have = subst (λ turns. HaveReplies moment (requests_done turns) (replies_given turns) is.first is.last) silent is.serves.replied in
       let s = seen_in handed is.first is.last [] [] is.starts none_have refl in (
         is.last,
@@ -168,8 +168,8 @@ module _ {L : Type 0} (moment : L → Moment) (agree : ServedSessionsAgree momen
     found_decided : (gs : List Gtrid) → EndDecided one_lines one_replies gs → (one_done one_cut two_done two_cut : List Line) (from to : Branch → Standing)
         (one_may : MayAllStand (start_of threads rms a) s.0 (λ c. Comes s.0 c Unstarted) one_done one_cut from)
         (two_may : MayAllStand (start_of threads rms x) t.0 (λ c. Comes t.0 c (broken (from c))) two_done two_cut to)
-        (d : Branch) → is_among gs d.gtrid ≡ true → from d ≡ Prepared
-        → WasFoundDecided moment d (Some y) to (all one_done one_cut two_done two_cut from to one_may two_may)
+        (d : Branch) → is_gtrid_among gs d.gtrid ≡ true → from d ≡ Prepared
+        → WasFoundDecidedInLog moment d (Some y) to (all one_done one_cut two_done two_cut from to one_may two_may)
     unfolding all
     found_decided gs end one_done one_cut two_done two_cut from to one_may two_may d among prepared =
         inl (prepared, rows_logged moment law threads rms handed a b one_lines one_replies one one_have order b_honest gs d.gtrid end among)

@@ -8,10 +8,10 @@ use Rattle.xa_base.specs.declared.branch.Gtrid.{Gtrid}
 use Rattle.xa_base.specs.declared.state.Standing.{Standing}
 use Rattle.xa_base.specs.declared.state.Standing.TheVariants.{Committed, Completed, Forgotten, Prepared, Unstarted}
 use Rattle.xa_base.specs.declared.step.Outcome.TheVariants as Outcomes
-use Rattle.xa_coordinator.specs.Lines.{asked_in, lines_of}
-use Rattle.xa_coordinator.specs.Rows.{is_among}
+use Rattle.xa_coordinator.specs.Lines.{asked_in, text_lines}
+use Rattle.xa_coordinator.specs.Rows.{is_gtrid_among}
 use Rattle.xa_coordinator.specs.Replies.{greeting_of}
-use Rattle.xa_coordinator.specs.Serving.{AreTurns, EndsBy, Serves, Turn, replies_given, requests_done, text_of, told_in}
+use Rattle.xa_coordinator.specs.Serving.{AreTurns, EndsAtLastOr, Serves, Turn, replies_given, replies_text, requests_done, told_in}
 use Rattle.xa_coordinator.specs.Sessions.{AreServed, LogDecides, StartsOver}
 use Rattle.xa_coordinator.specs.Telling.{HaveTold, is_log_fault}
 use Rattle.xa_coordinator.specs.Votes.{AreVotes, IsLogged}
@@ -45,9 +45,9 @@ pub record IsServed (threads rms : ℕ) (text written : List ℕ) : Type 0 where
   pub no_rows : start.rows ≡ []
   pub no_records : start.heuristic_rows ≡ []
   pub whole : text ≡ read ++ unread
-  pub lines : AreTurns (lines_of read) turns
-  pub replied : written ≡ text_of (told_in (responses.Restarted start.incarnation decisions heuristics) turns)
-  pub ends : EndsBy (map (λ turn. turn.reply) turns) (unread ≡ [])
+  pub lines : AreTurns (text_lines read) turns
+  pub replied : written ≡ replies_text (told_in (responses.Restarted start.incarnation decisions heuristics) turns)
+  pub ends : EndsAtLastOr (map (λ turn. turn.reply) turns) (unread ≡ [])
   pub told : HaveTold threads (requests_done turns) (replies_given turns) Start seen
   pub explained : IsExplained start seen
   pub agree : (f : Branch → Standing) → StandSo start seen f → OwnStandAlike start.incarnation f
@@ -73,10 +73,10 @@ pub record LogsCommits (log : Option Content) (text written : List ℕ) : Type 0
   pub greeting : Response
   pub turns : List Turn
   pub whole : text ≡ read ++ unread
-  pub lines : AreTurns (lines_of read) turns
-  pub replied : written ≡ text_of (told_in greeting turns)
-  pub ends : EndsBy (map (λ turn. turn.reply) turns) (unread ≡ [])
-  pub rows : (gs : List Gtrid) (g : Gtrid) → EndDecided (requests_done turns) (replies_given turns) gs → is_among gs g ≡ true → IsLogged log g
+  pub lines : AreTurns (text_lines read) turns
+  pub replied : written ≡ replies_text (told_in greeting turns)
+  pub ends : EndsAtLastOr (map (λ turn. turn.reply) turns) (unread ≡ [])
+  pub rows : (gs : List Gtrid) (g : Gtrid) → EndDecided (requests_done turns) (replies_given turns) gs → is_gtrid_among gs g ≡ true → IsLogged log g
 
 -- A driver of so many threads and resource managers that writes this text was served by a coordinator that started over a log, and this was
 -- written; this log is left.
@@ -99,9 +99,9 @@ pub record IsReplied (text written : List ℕ) : Type 0 where
   pub greeting : Response
   pub turns : List Turn
   pub whole : text ≡ read ++ unread
-  pub lines : AreTurns (lines_of read) turns
-  pub replied : written ≡ text_of (told_in greeting turns)
-  pub ends : EndsBy (map (λ turn. turn.reply) turns) (unread ≡ [])
+  pub lines : AreTurns (text_lines read) turns
+  pub replied : written ≡ replies_text (told_in greeting turns)
+  pub ends : EndsAtLastOr (map (λ turn. turn.reply) turns) (unread ≡ [])
 
 -- the database ended the branch by itself, which may be forgotten since
 abbrev pub EndedAlone : Standing → Type 0
@@ -136,7 +136,7 @@ pub record AreServedTwice (log : Option Content) (one_lines two_lines : List (Li
       (gs : List Gtrid) → EndDecided one_lines one_replies gs → (one_done one_cut two_done two_cut : List Line) (from to : Branch → Standing)
       → MayAllStand one one_seen (λ b. Comes one_seen b Unstarted) one_done one_cut from
       → MayAllStand two two_seen (λ b. Comes two_seen b (broken (from b))) two_done two_cut to
-      → (b : Branch) → is_among gs b.gtrid ≡ true → from b ≡ Prepared → (c : Content) → log ≡ Some c → EndsCommitted to c b
+      → (b : Branch) → is_gtrid_among gs b.gtrid ≡ true → from b ≡ Prepared → (c : Content) → log ≡ Some c → EndsCommitted to c b
 
 -- The same where the log failed in neither session.
 pub record IsServedTwice (log : Option Content) (first second first_written second_written : List ℕ) : Type 0 where

@@ -1,7 +1,7 @@
 //! What a picture is made of.
 
 ghost use Rattle.std.specs.Prelude.{◌≡◌};
-ghost use Rattle.xa_chart.specs.Pictures.{shown};
+ghost use Rattle.xa_chart.specs.Pictures.{shown_party};
 
 use std::alloc::Global;
 use xa_base::Event;
@@ -21,7 +21,7 @@ pub struct Run<'a, 'b> {
 impl<'a, 'b> Run<'a, 'b> {
     /// Where a part is drawn. A step that names a part which the system doesn't have is drawn at the manager, which refuses it.
     pub fn shown(&self, party: Party) -> Party
-        ensures { result ≡ shown self.now.threads self.now.rms party }
+        ensures { result ≡ shown_party self.now.threads self.now.rms party }
     {
         match party {
             Party::Thread(thread) if thread < self.threads => party,

@@ -15,13 +15,13 @@ use Rattle.xa_base.specs.declared.step.Part.TheVariants as Parts
 use Rattle.xa_base.specs.declared.step.Step.TheVariants as Steps
 use Rattle.xa_coordinator.specs.Calls.{answer_reply, waits_for_other}
 use Rattle.xa_serve.specs.Steps.{Hears}
-use Rattle.xa_coordinator.specs.Faults.{AsksForRows}
+use Rattle.xa_coordinator.specs.Faults.{MayChangeRows}
 use Rattle.xa_coordinator.specs.Performing.{Performs}
 use Rattle.xa_coordinator.specs.Releasing.{ReleasesAll, if_taken, transaction_of}
-use Rattle.xa_coordinator.specs.Replies.{reply_of}
+use Rattle.xa_coordinator.specs.Replies.{response_of}
 use Rattle.xa_coordinator.specs.Standing.{LacksMemory, OnlyTells, StandsFor}
 use Rattle.xa_coordinator.specs.declared.coordinator.Coordinator.{Coordinator}
-use Rattle.xa_line.specs.Grid.{has_line, line_at}
+use Rattle.xa_line.specs.Grid.{grid_has_line, line_at}
 use Rattle.xa_line.specs.Histories.{known}
 use Rattle.xa_log.specs.Contract.{Moment}
 use Rattle.xa_model.specs.Facts.{record_of}
@@ -37,7 +37,7 @@ use Rattle.xa_serve.proofs.Refusals.{no_fault_in_turn}
 use Rattle.xa_serve.proofs.Sessions.{never_the_log}
 use Rattle.xa_serve.specs.Answering.{FailsToHear, IsFirst}
 use Rattle.xa_serve.specs.Hearing.{can_hear}
-use Rattle.xa_serve.specs.Session.{decide_refusal, done_refusal, has_room_for, known_waiting, line_refusal, refusal_at, unfit, unfit_for}
+use Rattle.xa_serve.specs.Session.{decide_all_refusal, done_all_refusal, has_room_for, known_waiting, line_refusal, refusal_at, unfit, unfit_for}
 use Rattle.xa_serve.specs.Tracking.{FailedDecisionsAreFound, FailedDonesAreFound, FailedSettlementsAreFound, IsFailedStep, KeepsTrack}
 use Rattle.xa_serve.specs.declared.session.Session.{Session}
 use Rattle.xa_serve.specs.declared.session.answers.Unfit.{Unfit}
@@ -79,7 +79,7 @@ module _ {L : Type 0} (o : Origin) (seen : Seen) (now left : Coordinator L) (ask
   -- a request that stood for one call of the session was replied that the log failed
   by_one_call : (why : Option Refusal) (taken : Response) (mid : Session L) (r : Result (Unit {0}) Refusal) → (why ≡ Some LogFault → ⊥)
       → ((let told : Response = responses.Refused LogFault in told) ≡ taken → ⊥)
-      → (let told : Response = responses.Refused LogFault in told) ≡ reply_of (λ _. taken) r
+      → (let told : Response = responses.Refused LogFault in told) ≡ response_of (λ _. taken) r
       → ((n : Refusal) → why ≡ Some n → (r ≡ Err n) × (mid ≡ now.session)) → (why ≡ None → IfErr r (FailsBy asked fault k (book_in mid.manager)))
       → left.session.manager ≡ mid.manager → (why ≡ None → r ≡ Err LogFault → IsFailedStep o seen now.session asked fault) → IsFailed o seen now left
   by_one_call why taken mid (Ok x) never other told refused fails same step = absurd (other told)
@@ -113,11 +113,11 @@ module _ {L : Type 0} (moment : L → Moment) (decisions : FailedDecisionsAreFou
   abbrev s : Session L
   s = now.session
 
-  pub failed_in_request : (request : Request) → AsksForRows request → Performs moment request now (responses.Refused LogFault) left
+  pub failed_in_request : (request : Request) → MayChangeRows request → Performs moment request now (responses.Refused LogFault) left
       → IsFailed o seen now left
   failed_in_request (requests.Decide gs outcome) asks did =
       by_one_call o seen now left (turns.rows_added outcome (book_in s.manager) gs) (InDecide (written_by outcome (book_in s.manager) gs))
-      (decide_refusal s outcome gs) responses.Decided did.mid.session did.does.result
+      (decide_all_refusal s outcome gs) responses.Decided did.mid.session did.does.result
       (if_room (has_room_for s (length gs)) _ (no_fault_in_turn (λ g. Steps.Decide g outcome) (λ g. Decided g outcome) gs (book_in s.manager)))
       decided_is_no_refusal did.does.told did.does.does.rules.refused did.does.does.asks.fails (ap (λ (c : Coordinator L). c.session.manager) did.releases)
       (λ none fault. decisions o seen s outcome gs tracks (if_none (has_room_for s (length gs)) _ none))
@@ -128,7 +128,7 @@ module _ {L : Type 0} (moment : L → Moment) (decisions : FailedDecisionsAreFou
       decided_is_no_refusal did.does.told did.does.does.rules.refused did.does.does.asks.fails (ap (λ (c : Coordinator L). c.session.manager) did.releases)
       (λ none fault. settlements o seen s g tracks (if_not_over _ _ none) (did.does.does.asked none fault))
   failed_in_request (requests.Done gs) asks did =
-      by_one_call o seen now left (Drops gs) (InDone gs) (done_refusal s gs) responses.Noted did.mid.session did.does.result
+      by_one_call o seen now left (Drops gs) (InDone gs) (done_all_refusal s gs) responses.Noted did.mid.session did.does.result
       (if_room (has_room_for s (length gs)) _ (no_fault_in_turn (λ g. Steps.Done g) (λ g. Done g) gs (book_in s.manager)))
       noted_is_no_refusal did.does.told did.does.does.rules.refused did.does.does.asks.fails (ap (λ (c : Coordinator L). c.session.manager) did.releases)
       (λ none fault. dones o seen s gs tracks (if_none (has_room_for s (length gs)) _ none))
@@ -185,7 +185,7 @@ pub record IsFailedToHear {L : Type 0} (t r : ℕ) (code : Code) (c : Call) (now
 module _ {L : Type 0} (moment : L → Moment) (now left : Coordinator L) (t r : ℕ) (name : CallName) (code : Code) (c : Call)
     (waits : known_waiting now.session.lines t r ≡ Some c) where
   first_so : IsFirst now.session t r c
-  first_so = first_of (has_line now.session.lines t r) (slice_get (line_at now.session.lines t r).calls.waiting 0) c waits
+  first_so = first_of (grid_has_line now.session.lines t r) (slice_get (line_at now.session.lines t r).calls.waiting 0) c waits
 
   not_heard : (mid : Session L) (n : Refusal) (result : Result (Unit {0}) Unfit) → result ≡ Err (Unfits.Refused n) → n ≡ LogFault
       → Hears t r (Ret code) now.session mid result → left.session.manager ≡ mid.manager → IsFailedToHear t r code c now left

@@ -8,7 +8,7 @@ use Rattle.xa_base.specs.declared.refusal.Refusal.TheVariants.{LogFault, Memory}
 use Rattle.xa_base.specs.declared.step.Step.TheVariants as Steps
 use Rattle.xa_coordinator.specs.Faults.{FaultsLeaveAllOrNone}
 use Rattle.xa_coordinator.specs.Performing.{Performs}
-use Rattle.xa_coordinator.specs.Replies.{reply_of}
+use Rattle.xa_coordinator.specs.Replies.{response_of}
 use Rattle.xa_coordinator.specs.declared.coordinator.Coordinator.{Coordinator}
 use Rattle.xa_log.specs.Content.{Content}
 use Rattle.xa_log.specs.Contract.{Moment}
@@ -18,7 +18,7 @@ use Rattle.xa_requests.specs.declared.response.Response.{Response}
 use Rattle.xa_requests.specs.declared.response.Response.TheVariants as responses
 use Rattle.xa_serve.proofs.Logging.{left_tied, logs_have_all_or_none}
 use Rattle.xa_serve.specs.Logging.{HasAllOrNone, HoldsItsBook, KeepsLog, LeavesContent}
-use Rattle.xa_serve.specs.Session.{decide_refusal, done_refusal, refusal_at}
+use Rattle.xa_serve.specs.Session.{decide_all_refusal, done_all_refusal, refusal_at}
 use Rattle.xa_tm.proofs.Log.Ties.{up_content}
 use Rattle.xa_tm.specs.Book.{Book, Doubt, Doubt.Adds, Doubt.Drops, book_after, rows_for}
 use Rattle.xa_tm.specs.BookAndLog.{IsTied}
@@ -52,7 +52,7 @@ module _ {L : Type 0} (moment : L → Moment) (near : Bool) (old mid new : Coord
 
   pub fault_leaves : (why : Option Refusal) (taken : Response) (r : Result (Unit {0}) Refusal)
       → ((let told : Response = responses.Refused LogFault in told) ≡ taken → ⊥)
-      → (let told : Response = responses.Refused LogFault in told) ≡ reply_of (λ _. taken) r
+      → (let told : Response = responses.Refused LogFault in told) ≡ response_of (λ _. taken) r
       → ((n : Refusal) → why ≡ Some n → (r ≡ Err n) × (mid.session ≡ old.session))
       → (why ≡ None → IfErr r (FailsBy asked f k (book_in mid.session.manager)))
       → new ≡ mid → k.up ≡ true → HoldsItsBook moment near new.session.manager → LeavesContent moment new.session.manager c → HasAllOrNone asked k.row c
@@ -81,7 +81,7 @@ pub faults_leave_all_or_none : {L : Type 0} (moment : L → Moment) → FaultsLe
 faults_leave_all_or_none moment near (requests.Decide gs o) old new c asks did order honest up holds leaves =
     let m = old.session in
     let kept = did.keeps.holds near order honest holds in
-    fault_leaves moment near old did.mid new c (rows_added o (book_in m.manager) gs) (InDecide (written_by o (book_in m.manager) gs)) (decide_refusal m o gs)
+    fault_leaves moment near old did.mid new c (rows_added o (book_in m.manager) gs) (InDecide (written_by o (book_in m.manager) gs)) (decide_all_refusal m o gs)
     responses.Decided did.does.result decided_is_no_refusal did.does.told did.does.does.rules.refused did.does.does.asks.fails did.releases up kept leaves
 faults_leave_all_or_none moment near (requests.Settle g) old new c asks did order honest up holds leaves =
     let m = old.session in
@@ -91,7 +91,7 @@ faults_leave_all_or_none moment near (requests.Settle g) old new c asks did orde
 faults_leave_all_or_none moment near (requests.Done gs) old new c asks did order honest up holds leaves =
     let m = old.session in
     let kept = did.keeps.holds near order honest holds in
-    fault_leaves moment near old did.mid new c (Drops gs) (InDone gs) (done_refusal m gs)
+    fault_leaves moment near old did.mid new c (Drops gs) (InDone gs) (done_all_refusal m gs)
     responses.Noted did.does.result noted_is_no_refusal did.does.told did.does.does.rules.refused did.does.does.asks.fails did.releases up kept leaves
 faults_leave_all_or_none moment near (requests.Begin t) old new c asks did order honest up holds leaves = absurd asks
 faults_leave_all_or_none moment near (requests.Issue t r call) old new c asks did order honest up holds leaves = absurd asks

@@ -22,12 +22,12 @@ use Rattle.xa_coordinator.specs.Looks.{first_reply, waiting_reply}
 use Rattle.xa_coordinator.specs.Managers.{IsOnOwn, ManagersAreApart, RepliesTellOwn, TellsOwn, told_xid}
 use Rattle.xa_coordinator.specs.Performing.{Does}
 use Rattle.xa_coordinator.specs.Recoveries.{TellsOwed}
-use Rattle.xa_coordinator.specs.Replies.{reply_of}
+use Rattle.xa_coordinator.specs.Replies.{response_of}
 use Rattle.xa_coordinator.specs.Rows.{owed_xids}
 use Rattle.xa_coordinator.specs.Standing.{LacksMemory, OnlyTells, StandsFor}
 use Rattle.xa_coordinator.specs.declared.coordinator.Coordinator.{Coordinator}
 use Rattle.xa_line.proofs.TrafficLaws.{next_call_waits}
-use Rattle.xa_line.specs.Grid.{HasLine, has_line, line_at}
+use Rattle.xa_line.specs.Grid.{HasLine, grid_has_line, line_at}
 use Rattle.xa_line.specs.Histories.{known}
 use Rattle.xa_log.specs.Contract.{Moment}
 use Rattle.xa_model.specs.Facts.{next_call}
@@ -47,7 +47,7 @@ use Rattle.xa_serve.specs.Tracking.{KeepsTrack, SessionsAreExplained}
 use Rattle.xa_serve.specs.declared.session.Session.{Session}
 use Rattle.xa_serve.specs.declared.session.answers.Unfit.{Unfit}
 use Rattle.xa_serve.specs.declared.session.answers.Unfit.TheVariants as Unfits
-use Rattle.xa_standings.specs.Explained.{IsOldLog}
+use Rattle.xa_standings.specs.Explained.{HasOnlyOlderRows}
 use Rattle.xa_standings.specs.Seen.{Seen}
 use Rattle.xa_model.specs.Trace.{Origin}
 
@@ -78,9 +78,9 @@ known_then : (call : Asking.Call Xid) (n : Option Call) → Some (known call) �
 known_then call None e = absurd (cc)
 known_then call (Some c) e = (c, cc)
 
-module _ {L : Type 0} (explained : SessionsAreExplained L) (o : Origin) (seen : Seen) (s : Session L) (is_old : IsOldLog o) (keeps : KeepsTrack o seen s)
+module _ {L : Type 0} (explained : SessionsAreExplained L) (o : Origin) (seen : Seen) (s : Session L) (is_old : HasOnlyOlderRows o) (keeps : KeepsTrack o seen s)
   where
-    known_waits : (t r : ℕ) (call : Asking.Call Xid) → has_line s.lines t r ≡ true → slice_get (line_at s.lines t r).calls.waiting 0 ≡ Some call
+    known_waits : (t r : ℕ) (call : Asking.Call Xid) → grid_has_line s.lines t r ≡ true → slice_get (line_at s.lines t r).calls.waiting 0 ≡ Some call
         → (c : Call) × (known call ≡ Some c)
     known_waits t r call there first =
         let told = explained o seen s is_old keeps in
@@ -120,7 +120,7 @@ told_plainly : (name : List ℕ) (reply told : Response) → reply ≡ told → 
 told_plainly name reply told same is = plain name reply (ap is_plain same ∙ is)
 
 result_plain : {A : Type 0} (taken : A → Response) → ((x : A) → is_plain (taken x) ≡ true) → (result : Result A Refusal)
-    → is_plain (reply_of taken result) ≡ true
+    → is_plain (response_of taken result) ≡ true
 result_plain taken all (Ok x) = all x
 result_plain taken all (Err n) = refl
 
@@ -164,26 +164,26 @@ owed_own name rm owed responses.Bye same = absurd same
 owed_own name rm owed (responses.Refused k) same = absurd same
 owed_own name rm owed (responses.Fault k) same = absurd same
 
-module _ {L : Type 0} (law : OwnHaveName) (explained : SessionsAreExplained L) (name : List ℕ) (o : Origin) (seen : Seen) (is_old : IsOldLog o)
+module _ {L : Type 0} (law : OwnHaveName) (explained : SessionsAreExplained L) (name : List ℕ) (o : Origin) (seen : Seen) (is_old : HasOnlyOlderRows o)
     (old : Coordinator L) (keeps : KeepsTrack o seen old.session) (reply : Response) where
   issued_own : (t r : ℕ) (call : Asking.Call Xid) (result : Result (Unit {0}) Refusal) (new : Session L) → Issues t r call old.session new result
-      → reply ≡ reply_of (λ _. responses.Issued call) result → TellsOwn name reply
+      → reply ≡ response_of (λ _. responses.Issued call) result → TellsOwn name reply
   issued_own t r call (Ok x) new does told =
       let known_so = known_issue old.session t r call does.rules.allowed in
       subst (TellsOwn name) (sym told) (own_call law name call known_so.0 known_so.1)
   issued_own t r call (Err n) new does told = told_plainly name reply (responses.Refused n) told refl
 
   waiting_own : (t r : ℕ) → reply ≡ waiting_reply t r old → TellsOwn name reply
-  waiting_own t r told = by_line (has_line old.session.lines t r) refl told
+  waiting_own t r told = by_line (grid_has_line old.session.lines t r) refl told
     where
-      by_first : (w : Option (Asking.Call Xid)) → has_line old.session.lines t r ≡ true → slice_get (line_at old.session.lines t r).calls.waiting 0 ≡ w
+      by_first : (w : Option (Asking.Call Xid)) → grid_has_line old.session.lines t r ≡ true → slice_get (line_at old.session.lines t r).calls.waiting 0 ≡ w
           → reply ≡ first_reply w → TellsOwn name reply
       by_first None there is said = told_plainly name reply responses.Nothing said refl
       by_first (Some call) there is said =
           let known_so = known_waits explained o seen old.session is_old keeps t r call there is in
           subst (TellsOwn name) (sym said) (own_call law name call known_so.0 known_so.1)
 
-      by_line : (b : Bool) → has_line old.session.lines t r ≡ b
+      by_line : (b : Bool) → grid_has_line old.session.lines t r ≡ b
           → reply ≡ (if b then first_reply (if b then slice_get (line_at old.session.lines t r).calls.waiting 0 else None) else responses.Refused Limit)
           → TellsOwn name reply
       by_line true there said = by_first (slice_get (line_at old.session.lines t r).calls.waiting 0) there refl said

@@ -13,16 +13,16 @@ use Rattle.xa_base.specs.declared.step.Outcome.TheVariants as Outcomes
 use Rattle.xa_base.specs.declared.step.Step.TheVariants as Steps
 use Rattle.xa_base.specs.declared.refusal.Refusal.{Refusal}
 use Rattle.xa_base.specs.declared.refusal.Refusal.TheVariants.{Limit}
-use Rattle.xa_coordinator.specs.Rows.{HasRow, LogsRows, committed_by, is_among, owed_xids}
+use Rattle.xa_coordinator.specs.Rows.{HasRow, LogsRows, committed_by, is_gtrid_among, owed_xids}
 use Rattle.xa_log.specs.Content.{Content}
 use Rattle.xa_log.specs.Contract.{Moment}
 use Rattle.xa_model.specs.Trace.{Happening, Happening.Decided}
-use Rattle.xa_coordinator.specs.Replies.{reply_of}
+use Rattle.xa_coordinator.specs.Replies.{response_of}
 use Rattle.xa_requests.specs.declared.request.Request.TheVariants as requests
 use Rattle.xa_requests.specs.declared.response.Response.{Response}
 use Rattle.xa_requests.specs.declared.response.Response.TheVariants as responses
 use Rattle.xa_serve.specs.Logging.{KeepsLog}
-use Rattle.xa_serve.specs.Session.{decide_refusal, has_room_for, refusal_at}
+use Rattle.xa_serve.specs.Session.{decide_all_refusal, has_room_for, refusal_at}
 use Rattle.xa_serve.specs.declared.session.Session.{Session}
 use Rattle.xa_tm.specs.Book.{Book, Waiting, after, after_all, voted_yes}
 use Rattle.xa_tm.specs.BookAndLog.{IsTied, TiedBy}
@@ -62,7 +62,7 @@ row_kept (h ∷ hs) k g set votes row =
     by false t e = row
 
 -- the row of each that is decided to commit is in the book, where a branch of it voted so
-row_added : (gs : List Gtrid) (k : Book) (g : Gtrid) → is_among gs g ≡ true → (k.transaction g).has_yes ≡ true
+row_added : (gs : List Gtrid) (k : Book) (g : Gtrid) → is_gtrid_among gs g ≡ true → (k.transaction g).has_yes ≡ true
     → (after_all k (commits gs)).row g ≡ Some (voted_yes k g)
 row_added [] k g among voted = absurd (cc)
 row_added (h ∷ hs) k g among voted =
@@ -75,8 +75,8 @@ row_added (h ∷ hs) k g among voted =
     yes : gtrid_eq h g ≡ true → (k.transaction h).has_yes ≡ true
     yes e = ap (λ q. (k.transaction q).has_yes) (gtrid_eq-true h g e) ∙ voted
 
-    by : (t : Bool) → gtrid_eq h g ≡ t → (t || is_among hs g) ≡ true
-        → ((after k (Decided h Outcomes.Commit)).row g ≡ Some (voted_yes k g) → wanted) → (is_among hs g ≡ true → wanted) → wanted
+    by : (t : Bool) → gtrid_eq h g ≡ t → (t || is_gtrid_among hs g) ≡ true
+        → ((after k (Decided h Outcomes.Commit)).row g ≡ Some (voted_yes k g) → wanted) → (is_gtrid_among hs g ≡ true → wanted) → wanted
     by true e among now later = now
         (ap (λ y. if y then (if gtrid_eq h g then Some (voted_yes k h) else k.row g) else k.row g) (yes e)
         ∙ ap (λ t. if t then Some (voted_yes k h) else k.row g) e ∙ ap (λ q. Some (voted_yes k q)) (gtrid_eq-true h g e))
@@ -88,7 +88,7 @@ still_up [] k = refl
 still_up (h ∷ hs) k = still_up hs (after k (Decided h Outcomes.Commit))
 
 -- the rows are in a log that holds what the book then says
-pub row_written : (k l : Book) (near : Bool) (log : Option Content) (gs : List Gtrid) (g : Gtrid) → k.up ≡ true → is_among gs g ≡ true
+pub row_written : (k l : Book) (near : Bool) (log : Option Content) (gs : List Gtrid) (g : Gtrid) → k.up ≡ true → is_gtrid_among gs g ≡ true
     → (k.transaction g).has_yes ≡ true → l ≡ after_all k (commits gs) → IsTied near l log → HasRow log g (voted_yes k g)
 row_written k l near log gs g up among voted is tied = in_log log
     (subst (λ u. TiedBy u near (after_all k (commits gs)) log) (still_up gs k ∙ up) (subst (λ b. IsTied near b log) is tied))
@@ -99,17 +99,17 @@ row_written k l near log gs g up among voted is tied = in_log log
 
 -- what is told to be decided is so, by a manager that was up, and its rows are in the log
 pub told_rows : {L : Type 0} (moment : L → Moment) (s t : Session L) (gs : List Gtrid) (reply : Response) (r : Result (Unit {0}) Refusal)
-    → reply ≡ reply_of (λ _. responses.Decided) r → OnOk r ((gs ≡ []) ⊎ ((book_in s.manager).up ≡ true))
+    → reply ≡ response_of (λ _. responses.Decided) r → OnOk r ((gs ≡ []) ⊎ ((book_in s.manager).up ≡ true))
     → OnOk r (book_in t.manager ≡ after_all (book_in s.manager) (commits gs)) → KeepsLog moment s.manager t.manager → LogsRows moment gs s reply t
 told_rows moment s t gs reply r replied up book keeps = λ near g among told order honest holds voted.
     by r (sym replied ∙ told) up book near g among voted (keeps.holds near order honest holds).tied
   where
-    by : (r : Result (Unit {0}) Refusal) → reply_of (λ _. responses.Decided) r ≡ responses.Decided
+    by : (r : Result (Unit {0}) Refusal) → response_of (λ _. responses.Decided) r ≡ responses.Decided
         → OnOk r ((gs ≡ []) ⊎ ((book_in s.manager).up ≡ true)) → OnOk r (book_in t.manager ≡ after_all (book_in s.manager) (commits gs))
-        → (near : Bool) (g : Gtrid) → is_among gs g ≡ true → ((book_in s.manager).transaction g).has_yes ≡ true
+        → (near : Bool) (g : Gtrid) → is_gtrid_among gs g ≡ true → ((book_in s.manager).transaction g).has_yes ≡ true
         → IsTied near (book_in t.manager) (moment (log_in t.manager)).content
         → HasRow (moment (log_in t.manager)).content g (voted_yes (book_in s.manager) g)
-    by (Ok x) told (inl none) book near g among voted tied = absurd (true≢false (sym among ∙ ap (λ hs. is_among hs g) none))
+    by (Ok x) told (inl none) book near g among voted tied = absurd (true≢false (sym among ∙ ap (λ hs. is_gtrid_among hs g) none))
     by (Ok x) told (inr up) book near g among voted tied =
         row_written (book_in s.manager) (book_in t.manager) near (moment (log_in t.manager)).content gs g up among voted book tied
     by (Err n) told up book near g among voted tied = absurd (cc)
@@ -131,7 +131,7 @@ decided_up k (g ∷ gs) o none = inr (up_if_decided k g o (first (refusal_in k (
     first None e = refl
     first (Some n) e = absurd (cc)
 
-pub decide_up : {L : Type 0} (s : Session L) (gs : List Gtrid) (o : Outcome) (r : Result (Unit {0}) Refusal) → OnOk r (decide_refusal s o gs ≡ None)
+pub decide_up : {L : Type 0} (s : Session L) (gs : List Gtrid) (o : Outcome) (r : Result (Unit {0}) Refusal) → OnOk r (decide_all_refusal s o gs ≡ None)
     → OnOk r ((gs ≡ []) ⊎ ((book_in s.manager).up ≡ true))
 decide_up s gs o (Ok x) none = decided_up (book_in s.manager) gs o (if_room (has_room_for s (length gs)) none)
   where

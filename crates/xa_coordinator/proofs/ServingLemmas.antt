@@ -12,9 +12,9 @@ use Rattle.xa_coordinator.proofs.LogLemmas.{replies_keep}
 use Rattle.xa_coordinator.proofs.LineLemmas.{appends_none, asks_of, asks_of_kept, begins_with_all, both_consumed, consumed_none, keeps_all}
 use Rattle.xa_coordinator.proofs.LineLemmas.{kept_none, kept_then_begun, kept_then_written}
 use Rattle.xa_coordinator.proofs.TurnLemmas.{HaveTurns, TakesTurn, both_done, no_turns, one_done, one_turn, takes_turn, turns_both}
-use Rattle.xa_coordinator.specs.Lines.{IsKeptOf, IsPlain, IsWholeLines, ReadsLine, alone, is_nothing, line_of, lines_of, marks, with_end, with_first}
+use Rattle.xa_coordinator.specs.Lines.{IsKeptOf, IsPlain, IsWholeLines, ReadsLine, is_nothing, lone_reply, marks, reply_line, text_lines, with_end, with_first}
 use Rattle.xa_coordinator.specs.NamedLines.{BreaksSessionUnder, ServesUnder, line_read, line_written, lines_read, text_written}
-use Rattle.xa_coordinator.specs.Serving.{AreTurns, BreaksSession, EndsBy, HaveReplies, RepliesToLine, Serves, Turn, WritesUpToLast, is_bye, replies_given, requests_done, text_of, told_in, told_of}
+use Rattle.xa_coordinator.specs.Serving.{AreTurns, BreaksSession, EndsAtLastOr, HaveReplies, RepliesToLine, Serves, Turn, WritesUpToLast, is_bye, replies_given, replies_text, requests_done, told_in, told_of}
 use Rattle.xa_coordinator.specs.ServingLines.{BreaksOff, LosesReply, ServesLine}
 use Rattle.xa_coordinator.specs.declared.coordinator.Coordinator.{Coordinator}
 use Rattle.xa_coordinator.specs.declared.lines.LineReply.{LineReply}
@@ -32,17 +32,17 @@ cons_is_not_nil b bs h = cc
 -- ** lines of a text
 
 -- a line that a line feed ended, and what follows
-pub first_line : (line rest : List ℕ) → IsPlain line → lines_of (line ++ 10 ∷ rest) ≡ line ∷ lines_of rest
+pub first_line : (line rest : List ℕ) → IsPlain line → text_lines (line ++ 10 ∷ rest) ≡ line ∷ text_lines rest
 first_line [] rest plain = refl
 first_line (b ∷ bs) rest plain = by_test (b == 10) plain (first_line bs rest)
   where
-    by_test : (c : Bool) → (c || list_any (λ b. b == 10) bs) ≡ false → (IsPlain bs → lines_of (bs ++ 10 ∷ rest) ≡ bs ∷ lines_of rest)
-        → cond c ([] ∷ lines_of (bs ++ 10 ∷ rest)) (with_first b (lines_of (bs ++ 10 ∷ rest))) ≡ (b ∷ bs) ∷ lines_of rest
+    by_test : (c : Bool) → (c || list_any (λ b. b == 10) bs) ≡ false → (IsPlain bs → text_lines (bs ++ 10 ∷ rest) ≡ bs ∷ text_lines rest)
+        → cond c ([] ∷ text_lines (bs ++ 10 ∷ rest)) (with_first b (text_lines (bs ++ 10 ∷ rest))) ≡ (b ∷ bs) ∷ text_lines rest
     by_test true h on = absurd (true_is_not_false h)
     by_test false h on = ap (with_first b) (on h)
 
 -- a last line, which none ended
-pub last_line : (line : List ℕ) → IsPlain line → line ≢ [] → lines_of line ≡ line ∷ []
+pub last_line : (line : List ℕ) → IsPlain line → line ≢ [] → text_lines line ≡ line ∷ []
 last_line [] plain some = absurd (some refl)
 last_line (b ∷ []) plain some = by_test (b == 10) plain
   where
@@ -52,8 +52,8 @@ last_line (b ∷ []) plain some = by_test (b == 10) plain
 last_line (b ∷ x ∷ xs) plain some = by_test (b == 10) plain (λ h. ap (with_first b) (last_line (x ∷ xs) h (cons_is_not_nil x xs)))
   where
     by_test : (c : Bool) → (c || list_any (λ b. b == 10) (x ∷ xs)) ≡ false
-        → (IsPlain (x ∷ xs) → with_first b (lines_of (x ∷ xs)) ≡ (b ∷ x ∷ xs) ∷ [])
-        → cond c ([] ∷ lines_of (x ∷ xs)) (with_first b (lines_of (x ∷ xs))) ≡ (b ∷ x ∷ xs) ∷ []
+        → (IsPlain (x ∷ xs) → with_first b (text_lines (x ∷ xs)) ≡ (b ∷ x ∷ xs) ∷ [])
+        → cond c ([] ∷ text_lines (x ∷ xs)) (with_first b (text_lines (x ∷ xs))) ≡ (b ∷ x ∷ xs) ∷ []
     by_test true h on = absurd (true_is_not_false h)
     by_test false h on = on h
 
@@ -61,13 +61,13 @@ pub whole_none : IsWholeLines []
 whole_none more = refl
 
 pub whole_line : (line : List ℕ) → IsPlain line → IsWholeLines (line ++ 10 ∷ [])
-whole_line line plain more = ap lines_of (append_assoc line (10 ∷ []) more) ∙ first_line line more plain
-    ∙ ap (λ ls. ls ++ lines_of more) (sym (first_line line [] plain))
+whole_line line plain more = ap text_lines (append_assoc line (10 ∷ []) more) ∙ first_line line more plain
+    ∙ ap (λ ls. ls ++ text_lines more) (sym (first_line line [] plain))
 
 pub whole_both : (read more : List ℕ) → IsWholeLines read → IsWholeLines more → IsWholeLines (read ++ more)
 whole_both read more first second rest =
-    ap lines_of (append_assoc read more rest) ∙ first (more ++ rest) ∙ ap (λ ls. lines_of read ++ ls) (second rest)
-    ∙ sym (append_assoc (lines_of read) (lines_of more) (lines_of rest)) ∙ ap (λ ls. ls ++ lines_of rest) (sym (first more))
+    ap text_lines (append_assoc read more rest) ∙ first (more ++ rest) ∙ ap (λ ls. text_lines read ++ ls) (second rest)
+    ∙ sym (append_assoc (text_lines read) (text_lines more) (text_lines rest)) ∙ ap (λ ls. ls ++ text_lines rest) (sym (first more))
 
 -- ** replies
 
@@ -78,12 +78,12 @@ text_of_both name (r ∷ rs) ss =
     ∙ sym (append_assoc (line_written name r) (text_written name rs) (text_written name ss))
 
 -- none of these ends the session, so that those behind them do
-pub ends_behind : (rs ss : List Response) (P : Type 0) → list_any is_bye rs ≡ false → EndsBy ss P → EndsBy (rs ++ ss) P
+pub ends_behind : (rs ss : List Response) (P : Type 0) → list_any is_bye rs ≡ false → EndsAtLastOr ss P → EndsAtLastOr (rs ++ ss) P
 ends_behind [] ss P silent ends = ends
 ends_behind (r ∷ rs) ss P silent ends = by_test (is_bye r) silent (λ rest. ends_behind rs ss P rest ends)
   where
-    by_test : (c : Bool) → (c || list_any is_bye rs) ≡ false → (list_any is_bye rs ≡ false → EndsBy (rs ++ ss) P)
-        → MatchBool c (rs ++ ss ≡ []) (EndsBy (rs ++ ss) P)
+    by_test : (c : Bool) → (c || list_any is_bye rs) ≡ false → (list_any is_bye rs ≡ false → EndsAtLastOr (rs ++ ss) P)
+        → MatchBool c (rs ++ ss ≡ []) (EndsAtLastOr (rs ++ ss) P)
     by_test true h on = absurd (true_is_not_false h)
     by_test false h on = on h
 
@@ -104,7 +104,7 @@ texts : (name : List ℕ) (greeting : Response) (written mid all : Option (List 
     → Appends written all (text_written name (told_in greeting (ts ++ us)))
 texts name greeting written mid all ts us first second =
     subst (Appends written all)
-    (sym (text_of_both name (told_in greeting ts) (map told_of us)) ∙ ap (λ more. text_written name (alone greeting ∷ more)) (sym (map-append told_of ts us)))
+    (sym (text_of_both name (told_in greeting ts) (map told_of us)) ∙ ap (λ more. text_written name (lone_reply greeting ∷ more)) (sym (map-append told_of ts us)))
     (both_written written mid all (text_written name (told_in greeting ts)) (text_written name (map told_of us)) first second)
 
 -- what was written whole, in two parts
@@ -146,14 +146,14 @@ module _ {L : Type 0} (moment : L → Moment) where
     pub read : List ℕ
     pub turns : List Turn
     pub consumed : Consumes unread left read
-    pub lines : AreTurns (lines_of read) turns
+    pub lines : AreTurns (text_lines read) turns
     pub replied : HaveTurns moment name turns old new
     pub appended : Appends written all (text_written name (told_in greeting turns))
     pub whole : IsWholeLines read
     pub silent : list_any is_bye (map (λ turn. turn.reply) turns) ≡ false
 
 module _ {L : Type 0} (moment : L → Moment) (name : List ℕ) (greeting : Response) where
-  pub greeted : (unread : Option (List ℕ)) (written all : Option (List ℕ)) (c : Coordinator L) → Appends written all (line_written name (alone greeting))
+  pub greeted : (unread : Option (List ℕ)) (written all : Option (List ℕ)) (c : Coordinator L) → Appends written all (line_written name (lone_reply greeting))
       → ServesSome moment name greeting unread unread written all c c
   greeted unread written all c appended = record {
     read = [];
@@ -161,7 +161,7 @@ module _ {L : Type 0} (moment : L → Moment) (name : List ℕ) (greeting : Resp
     consumed = consumed_none unread unread (keeps_all unread);
     lines = no_turns;
     replied = refl;
-    appended = subst (Appends written all) (sym (append-nil (line_written name (alone greeting)))) appended;
+    appended = subst (Appends written all) (sym (append-nil (line_written name (lone_reply greeting)))) appended;
     whole = whole_none;
     silent = refl;
   }
@@ -172,7 +172,7 @@ module _ {L : Type 0} (moment : L → Moment) (name : List ℕ) (greeting : Resp
     read = some.read ++ next.read;
     turns = some.turns ++ next.turns;
     consumed = both_consumed unread part left some.read next.read some.consumed next.consumed;
-    lines = turns_both (lines_of some.read) (lines_of next.read) (lines_of (some.read ++ next.read)) some.turns next.turns some.lines next.lines
+    lines = turns_both (text_lines some.read) (text_lines next.read) (text_lines (some.read ++ next.read)) some.turns next.turns some.lines next.lines
         (some.whole next.read);
     replied = both_done moment name some.turns next.turns a b c some.replied next.replied;
     appended = texts name greeting written mid all some.turns next.turns some.appended next.appended;
@@ -188,11 +188,11 @@ module _ {L : Type 0} (moment : L → Moment) (name : List ℕ) (greeting : Resp
     read = some.read ++ next.read;
     turns = some.turns ++ next.turns;
     consumed = both_consumed unread part left some.read next.read some.consumed next.consumed;
-    lines = turns_both (lines_of some.read) (lines_of next.read) (lines_of (some.read ++ next.read)) some.turns next.turns some.lines next.lines
+    lines = turns_both (text_lines some.read) (text_lines next.read) (text_lines (some.read ++ next.read)) some.turns next.turns some.lines next.lines
         (some.whole next.read);
     replied = both_done moment name some.turns next.turns a b c some.replied next.replied;
     appended = texts name greeting written mid all some.turns next.turns some.appended next.appended;
-    ends = subst (λ rs. EndsBy rs (IsAtEnd left)) (sym (map-append (λ turn. turn.reply) some.turns next.turns))
+    ends = subst (λ rs. EndsAtLastOr rs (IsAtEnd left)) (sym (map-append (λ turn. turn.reply) some.turns next.turns))
         (ends_behind (map (λ turn. turn.reply) some.turns) (map (λ turn. turn.reply) next.turns) (IsAtEnd left) some.silent (next.ends refl));
     keeps = both_keep moment a.session.manager b.session.manager c.session.manager
         (replies_keep moment (lines_read name (requests_done some.turns)) (replies_given some.turns) a b some.replied)
@@ -200,7 +200,7 @@ module _ {L : Type 0} (moment : L → Moment) (name : List ℕ) (greeting : Resp
   }
 
   -- the first line couldn't be written
-  pub not_greeted : (unread written all : Option (List ℕ)) (c : Coordinator L) → AppendsBeginning written all (line_written name (alone greeting))
+  pub not_greeted : (unread written all : Option (List ℕ)) (c : Coordinator L) → AppendsBeginning written all (line_written name (lone_reply greeting))
       → BreaksSessionUnder moment name greeting unread written all c c
   not_greeted unread written all c begun = record {
     read = [];
@@ -209,7 +209,7 @@ module _ {L : Type 0} (moment : L → Moment) (name : List ℕ) (greeting : Resp
     reads = record { consumed = consumed_none unread unread (keeps_all unread); whole = inl whole_none };
     lines = no_turns;
     replied = refl;
-    writes = record { others = []; last = alone greeting; are = refl; between = written; appended = appends_none written; begun = begun };
+    writes = record { others = []; last = lone_reply greeting; are = refl; between = written; appended = appends_none written; begun = begun };
     keeps = kept moment c.session.manager;
   }
 
@@ -223,7 +223,7 @@ module _ {L : Type 0} (moment : L → Moment) (name : List ℕ) (greeting : Resp
     reads = record { consumed = some.consumed; whole = inl some.whole };
     lines = some.lines;
     replied = some.replied;
-    writes = all_written name written all (alone greeting) (map told_of some.turns) some.appended;
+    writes = all_written name written all (lone_reply greeting) (map told_of some.turns) some.appended;
     keeps = replies_keep moment (lines_read name (requests_done some.turns)) (replies_given some.turns) a b some.replied;
   }
 
@@ -239,13 +239,13 @@ module _ {L : Type 0} (moment : L → Moment) (name : List ℕ) (greeting : Resp
           consumed = both_consumed unread part loses.left some.read loses.read some.consumed loses.reads.consumed;
           whole = whole_or_end some.read loses.read loses.left some.whole loses.reads.whole;
         };
-        lines = turns_both (lines_of some.read) (lines_of loses.read) (lines_of (some.read ++ loses.read)) some.turns (loses.turn ∷ []) some.lines loses.lines
+        lines = turns_both (text_lines some.read) (text_lines loses.read) (text_lines (some.read ++ loses.read)) some.turns (loses.turn ∷ []) some.lines loses.lines
             (some.whole loses.read);
         replied = both_done moment name some.turns (loses.turn ∷ []) a b c some.replied loses.replied;
         writes = record {
           others = told_in greeting some.turns;
           last = told_of loses.turn;
-          are = ap (λ more. alone greeting ∷ more) (map-append told_of some.turns (loses.turn ∷ []));
+          are = ap (λ more. lone_reply greeting ∷ more) (map-append told_of some.turns (loses.turn ∷ []));
           between = mid;
           appended = some.appended;
           begun = loses.begun;
@@ -278,7 +278,7 @@ module _ {L : Type 0} (moment : L → Moment) (name : List ℕ) (greeting : Resp
 
 -- ** one line
 
-bye_ends : (reply : Response) (c : Bool) (P : Type 0) → is_bye reply ≡ c → (c ≡ false → P) → EndsBy (reply ∷ []) P
+bye_ends : (reply : Response) (c : Bool) (P : Type 0) → is_bye reply ≡ c → (c ≡ false → P) → EndsAtLastOr (reply ∷ []) P
 bye_ends reply true P is otherwise = subst (λ b. MatchBool b (◌≡◌ {A = List Response} [] []) P) (sym is) refl
 bye_ends reply false P is otherwise = subst (λ b. MatchBool b (◌≡◌ {A = List Response} [] []) P) (sym is) (otherwise refl)
 
@@ -304,7 +304,7 @@ module _ {L : Type 0} (moment : L → Moment) (name : List ℕ) where
 
   -- it is the one line that was read
   only_line : (unread left : Option (List ℕ)) (kept : List ℕ) (is_ended : Bool) → (was : ReadsLine unread left kept is_ended)
-      → is_nothing kept is_ended ≡ false → lines_of (with_end was.line is_ended) ≡ was.line ∷ []
+      → is_nothing kept is_ended ≡ false → text_lines (with_end was.line is_ended) ≡ was.line ∷ []
   only_line unread left kept true was some = first_line was.line [] was.plain
   only_line unread left kept false was some =
       last_line was.line was.plain (λ none. true_is_not_false
@@ -312,9 +312,9 @@ module _ {L : Type 0} (moment : L → Moment) (name : List ℕ) where
 
   turn_lines : (unread left : Option (List ℕ)) (kept : List ℕ) (is_ended : Bool) (told : LineReply) (a b : Coordinator L)
       → (was : ReadsLine unread left kept is_ended) → is_nothing kept is_ended ≡ false → (takes : TakesTurn moment name was.line told a b)
-      → AreTurns (lines_of (with_end was.line is_ended)) (takes.turn ∷ [])
+      → AreTurns (text_lines (with_end was.line is_ended)) (takes.turn ∷ [])
   turn_lines unread left kept is_ended told a b was some takes =
-      one_turn takes.turn (lines_of (with_end was.line is_ended)) takes.is
+      one_turn takes.turn (text_lines (with_end was.line is_ended)) takes.is
       (only_line unread left kept is_ended was some ∙ ap (λ l. l ∷ []) (sym takes.line_is))
 
   line_is_whole : (unread left : Option (List ℕ)) (kept : List ℕ) (is_ended : Bool) (was : ReadsLine unread left kept is_ended)
@@ -364,7 +364,7 @@ module _ {L : Type 0} (moment : L → Moment) (name : List ℕ) where
   whole_if_on unread left kept false reply was h = absurd (true_is_not_false (sym h))
 
   ends_if_over : (unread left : Option (List ℕ)) (kept : List ℕ) (is_ended : Bool) (reply : Response) → (was : ReadsLine unread left kept is_ended)
-      → (is_ended && not (is_bye reply)) ≡ false → EndsBy (reply ∷ []) (IsAtEnd left)
+      → (is_ended && not (is_bye reply)) ≡ false → EndsAtLastOr (reply ∷ []) (IsAtEnd left)
   ends_if_over unread left kept true reply was h =
       bye_ends reply (is_bye reply) (IsAtEnd left) refl (λ no_bye. absurd (true_is_not_false (subst (λ c. not c ≡ false) no_bye h)))
   ends_if_over unread left kept false reply was h = bye_ends reply (is_bye reply) (IsAtEnd left) refl (λ no_bye. was.end refl)
@@ -385,7 +385,7 @@ module _ {L : Type 0} (moment : L → Moment) (name : List ℕ) where
             (subst (Appends written all) (sym (append-nil (line_written name told))) appended);
         whole = whole_if_on unread left kept is_ended told.reply was;
         silent = λ h. subst (λ r. (is_bye r || false) ≡ false) (sym same) (not_bye_if_on is_ended (is_bye told.reply) h);
-        ends = λ h. subst (λ r. EndsBy (r ∷ []) (IsAtEnd left)) (sym same) (ends_if_over unread left kept is_ended told.reply was h);
+        ends = λ h. subst (λ r. EndsAtLastOr (r ∷ []) (IsAtEnd left)) (sym same) (ends_if_over unread left kept is_ended told.reply was h);
       }
 
 -- ** behind a flush
@@ -419,15 +419,15 @@ module _ (law : LinesStay) where
   lines_as_are [] = refl
   lines_as_are (line ∷ lines) = ap (λ l. l ∷ lines_read [] lines) (read_as_is line) ∙ ap (λ ls. line ∷ ls) (lines_as_are lines)
 
-  written_as_is : (told : LineReply) → line_written [] told ≡ line_of told
+  written_as_is : (told : LineReply) → line_written [] told ≡ reply_line told
   written_as_is told = ap (λ t. marks told.before ++ t ++ 10 ∷ []) (law (response_text told.reply))
 
-  pub text_as_is : (replies : List LineReply) → text_written [] replies ≡ text_of replies
+  pub text_as_is : (replies : List LineReply) → text_written [] replies ≡ replies_text replies
   text_as_is [] = refl
-  text_as_is (r ∷ rs) = ap (λ t. t ++ text_written [] rs) (written_as_is r) ∙ ap (λ t. line_of r ++ t) (text_as_is rs)
+  text_as_is (r ∷ rs) = ap (λ t. t ++ text_written [] rs) (written_as_is r) ∙ ap (λ t. reply_line r ++ t) (text_as_is rs)
 
   writes_as_is : (written all : Option (List ℕ)) (replies : List LineReply) → WritesUpToLast (line_written []) written all replies
-      → WritesUpToLast line_of written all replies
+      → WritesUpToLast reply_line written all replies
   writes_as_is written all replies writes = record {
     others = writes.others;
     last = writes.last;

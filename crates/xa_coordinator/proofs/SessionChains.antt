@@ -11,7 +11,7 @@ use Rattle.xa_base.specs.declared.state.Standing.TheVariants.{Prepared}
 use Rattle.xa_coordinator.proofs.BranchLemmas.{calls_on_branches}
 use Rattle.xa_coordinator.proofs.Failures.{IsFailedToHear, failed_in_answer, failed_in_request}
 use Rattle.xa_coordinator.proofs.LogLemmas.{replies_keep, same_keeps}
-use Rattle.xa_coordinator.specs.Sessions.{AreServed, AreServed.Between, AreServed.NoneYet, AreServed.OneMore, CommitStands, IsEmptyLog, IsHandedOn, IsLeft, IsLeft.AfterLine, IsLeft.InAnswer, IsLeft.InRequest, IsSession, LogDecides, StartsOver, WasFoundDecided, WasLeft}
+use Rattle.xa_coordinator.specs.Sessions.{AreServed, AreServed.Between, AreServed.NoneYet, AreServed.OneMore, CommitStandsInLog, IsEmptyLog, IsHandedOn, IsSession, IsSessionLeft, IsSessionLeft.AfterLine, IsSessionLeft.InAnswer, IsSessionLeft.InRequest, LogDecides, StartsOver, WasFoundDecidedInLog, WasLeft}
 use Rattle.xa_coordinator.specs.Votes.{IsLogged}
 use Rattle.xa_coordinator.specs.declared.coordinator.Coordinator.{Coordinator}
 use Rattle.xa_line.specs.Grid.{HasLine}
@@ -30,7 +30,7 @@ use Rattle.xa_serve.specs.Tracking.{FailedAnswersAreFound, FailedDecisionsAreFou
 use Rattle.xa_standings.proofs.Agreeing.{history_begins}
 use Rattle.xa_standings.proofs.Chains.{IsUntold, KnowsCalls, one_untold}
 use Rattle.xa_standings.specs.Agreement.{IsLineOf, MayAllStand, WaitsAt}
-use Rattle.xa_standings.specs.Explained.{IsOldLog}
+use Rattle.xa_standings.specs.Explained.{HasOnlyOlderRows}
 use Rattle.xa_standings.specs.Named.{AreOnBranches}
 use Rattle.xa_standings.specs.Seen.{Seen, Seen.Answered, Seen.Start}
 use Rattle.xa_standings.specs.Sessions.{AfterSessions, AfterSessions.Between as Ends_between, AfterSessions.NoneYet as No_session, AfterSessions.OneMore as One_session, CommitStands as Commit_stands, Finds, FindsLog, IsSession as Is_session, Log, Log.Empty, Log.LeftBy, MayFail, RowsDecide, WasFoundDecided as Was_found, nothing_yet}
@@ -150,7 +150,7 @@ module _ {L : Type 0} (moment : L → Moment) where
     pub holds : Holds last
 
   module _ (laws : Laws L) (handed : L) (o : Origin) (told : Seen) (now : Coordinator L) (is : IsSession moment handed o told now) where
-    old : IsOldLog o
+    old : HasOnlyOlderRows o
     old = is.starts.old o is.begins
 
     on_branches : AreOnBranches told
@@ -276,7 +276,7 @@ module _ {L : Type 0} (moment : L → Moment) where
 
     module _ (last : Option (Coordinator L)) (from to : Branch → Standing) (Decided : Branch → Type 0) (before : AreSessions last from Decided)
         (handed_on : IsHandedOn moment last handed) where
-      pub one_more : (seen : Seen) (left : Coordinator L) → IsLeft moment told now seen left → (moment (log_in left.session.manager)).is_honest
+      pub one_more : (seen : Seen) (left : Coordinator L) → IsSessionLeft moment told now seen left → (moment (log_in left.session.manager)).is_honest
           → (done cut : List Line) → MayAllStand o seen (λ b. Comes seen b (broken (from b))) done cut to
           → AreSessions (Some left) to (λ b. ((from b ≡ Prepared) × IsLogged (moment handed).content b.gtrid) ⊎ Decided b)
       one_more _ _ AfterLine honest done cut may =
@@ -293,7 +293,7 @@ module _ {L : Type 0} (moment : L → Moment) where
   -- ** all of them
 
   pub are_sessions : Laws L → (last : Option (Coordinator L)) (f : Branch → Standing) (served : AreServed moment last f)
-      → AreSessions last f (λ b. WasFoundDecided moment b last f served)
+      → AreSessions last f (λ b. WasFoundDecidedInLog moment b last f served)
   are_sessions laws _ _ NoneYet = record {
     log = Empty 0;
     after = No_session 0;
@@ -302,7 +302,7 @@ module _ {L : Type 0} (moment : L → Moment) where
     holds = tt;
   }
   are_sessions laws _ _ (OneMore last from to handed o told seen now left done cut before handed_on is is_left honest may) =
-      one_more laws handed o told now is last from to (λ b. WasFoundDecided moment b last from before) (are_sessions laws last from before) handed_on
+      one_more laws handed o told now is last from to (λ b. WasFoundDecidedInLog moment b last from before) (are_sessions laws last from before) handed_on
       seen left is_left honest done cut may
   are_sessions laws _ _ (Between last from to d how before was final) =
       let b = are_sessions laws last from before in
@@ -353,7 +353,7 @@ module _ (have_content : StartsHaveContent) (are_apart : StartRowsAreApart) (c :
     undone = λ b u. sym (listed b.gtrid) ∙ rows.undone b u;
   }
 
-  pub commit_stands : (f : Branch → Standing) (b : Branch) → Commit_stands f (start_of c) b → CommitStands f c b
+  pub commit_stands : (f : Branch → Standing) (b : Branch) → Commit_stands f (start_of c) b → CommitStandsInLog f c b
   commit_stands f b stands = record {
     commits = stands.commits;
     row_stays = λ prepared. sym (listed b.gtrid) ∙ stands.row_stays prepared;

@@ -14,7 +14,7 @@ use Rattle.xa_model.specs.Trace.{Origin}
 use Rattle.xa_requests.specs.declared.response.Response.{Response}
 use Rattle.xa_serve.specs.Following.{StandsAtStart}
 use Rattle.xa_serve.specs.Tracking.{StartsAreTracked}
-use Rattle.xa_standings.specs.Explained.{IsOldLog}
+use Rattle.xa_standings.specs.Explained.{HasOnlyOlderRows}
 use Rattle.xa_standings.specs.Seen.{Seen.Start}
 use Rattle.xa_tm.specs.Begins.{BeginsWith}
 
@@ -24,7 +24,7 @@ either false = refl
 
 pub since_start : {L : Type 0} (moment : L → Moment) → StartsAreTracked L → SessionsAreTracked moment → (threads rms : ℕ)
     (lines : List (List ℕ)) (replies : List Response) (old new : Coordinator L) → StandsAtStart threads rms old.session
-    → HaveReplies moment lines replies old new → (o : Origin) → BeginsWith threads rms old.session.manager o → IsOldLog o
+    → HaveReplies moment lines replies old new → (o : Origin) → BeginsWith threads rms old.session.manager o → HasOnlyOlderRows o
     → TracksReplies o o.threads lines replies Start new
 since_start moment starts sessions threads rms lines replies old new stands have o begins is_old =
     let tracks = sessions o Start lines replies old new (starts threads rms old.session stands o begins) have in

@@ -19,7 +19,7 @@ use Rattle.xa_coordinator.specs.Crashes.{LosesFrom}
 use Rattle.xa_coordinator.specs.Lines.{asked_in}
 use Rattle.xa_coordinator.specs.Performing.{Does, Performs}
 use Rattle.xa_coordinator.specs.Releasing.{ReleasesAll}
-use Rattle.xa_coordinator.specs.Replies.{reply_of}
+use Rattle.xa_coordinator.specs.Replies.{response_of}
 use Rattle.xa_coordinator.specs.Serving.{HaveReplies, RepliesBy}
 use Rattle.xa_coordinator.specs.Standing.{LacksMemory, OnlyTells, StandsFor}
 use Rattle.xa_coordinator.specs.Telling.{HaveTold, Tells, TellsBy, TellsLost, is_log_fault, is_refusal}
@@ -84,12 +84,12 @@ module _ {L : Type 0} (laws : Laws L) (o : Origin) (seen : Seen) (old new : Sess
 
   module _ (n : ℕ) where
     begun : (t : ℕ) (result : Result Gtrid Refusal) → Begins t old new result
-        → Goes o (Tells n (requests.Begin t) (reply_of responses.Begun result) seen) old new
+        → Goes o (Tells n (requests.Begin t) (response_of responses.Begun result) seen) old new
     begun t (Ok g) does = stepped (Begun g) tt does.begun.follows (ap (λ g. g.threads) does.quiet.lines)
     begun t (Err r) does = stayed does.quiet.stays
 
     issued : (t r : ℕ) (call : Call Xid) (result : Result (Unit {0}) Refusal) → Issues t r call old new result
-        → Goes o (Tells n (requests.Issue t r call) (reply_of (λ _. responses.Issued call) result) seen) old new
+        → Goes o (Tells n (requests.Issue t r call) (response_of (λ _. responses.Issued call) result) seen) old new
     issued t r call (Ok x) does =
         let known_so = known_issue old t r call does.rules.allowed in
         let goes = stepped (Issued (line t r) known_so.0) tt (does.issued known_so.0 known_so.1).follows (ap (λ g. g.threads) does.lines) in
@@ -124,43 +124,43 @@ module _ {L : Type 0} (laws : Laws L) (o : Origin) (seen : Seen) (old new : Sess
     answered t r name answer k (Err (Unfits.NoSuchState b)) same does none = stayed (does.stays (λ is. absurd (cc)))
 
     decided : (gs : List Gtrid) (outcome : Outcome) (result : Result (Unit {0}) Refusal) → Decides gs outcome old new result
-        → is_log_fault (reply_of (λ _. responses.Decided) result) ≡ false
-        → Goes o (Tells n (requests.Decide gs outcome) (reply_of (λ _. responses.Decided) result) seen) old new
+        → is_log_fault (response_of (λ _. responses.Decided) result) ≡ false
+        → Goes o (Tells n (requests.Decide gs outcome) (response_of (λ _. responses.Decided) result) seen) old new
     decided gs outcome (Ok x) does none =
         stepped_all (map (λ g. Decided g outcome) gs) (All-map IsManagers (λ g. Decided g outcome) gs (λ k d less. tt)) does.decided.follows
         (ap (λ g. g.threads) does.asks.lines)
     decided gs outcome (Err m) does none = stayed (does.asks.stays (no_fault m none))
 
     finished : (gs : List Gtrid) (result : Result (Unit {0}) Refusal) → Finishes gs old new result
-        → is_log_fault (reply_of (λ _. responses.Noted) result) ≡ false
-        → Goes o (Tells n (requests.Done gs) (reply_of (λ _. responses.Noted) result) seen) old new
+        → is_log_fault (response_of (λ _. responses.Noted) result) ≡ false
+        → Goes o (Tells n (requests.Done gs) (response_of (λ _. responses.Noted) result) seen) old new
     finished gs (Ok x) does none =
         stepped_all (map (λ g. Done g) gs) (All-map IsManagers (λ g. Done g) gs (λ k d less. tt)) does.done.follows
         (ap (λ g. g.threads) does.asks.lines)
     finished gs (Err m) does none = stayed (does.asks.stays (no_fault m none))
 
-    settled : (g : Gtrid) (result : Result (Unit {0}) Refusal) → Settles g old new result → is_log_fault (reply_of (λ _. responses.Decided) result) ≡ false
-        → Goes o (Tells n (requests.Settle g) (reply_of (λ _. responses.Decided) result) seen) old new
+    settled : (g : Gtrid) (result : Result (Unit {0}) Refusal) → Settles g old new result → is_log_fault (response_of (λ _. responses.Decided) result) ≡ false
+        → Goes o (Tells n (requests.Settle g) (response_of (λ _. responses.Decided) result) seen) old new
     settled g (Ok x) does none = stepped (Decided g Outcomes.Commit) tt does.decided.follows (ap (λ g. g.threads) does.asks.lines)
     settled g (Err m) does none = stayed (does.asks.stays (no_fault m none))
 
     claimed : (g : Gtrid) (result : Result (Unit {0}) Refusal) → Claims g old new result
-        → Goes o (Tells n (requests.Claim g) (reply_of (λ _. responses.Claimed) result) seen) old new
+        → Goes o (Tells n (requests.Claim g) (response_of (λ _. responses.Claimed) result) seen) old new
     claimed g (Ok x) does = stepped (Claimed g) tt does.claimed.follows (ap (λ g. g.threads) does.quiet.lines)
     claimed g (Err m) does = stayed does.quiet.stays
 
     abandoned : (g : Gtrid) (result : Result (Unit {0}) Refusal) → Abandons g old new result
-        → Goes o (Tells n (requests.Abandon g) (reply_of (λ _. responses.Decided) result) seen) old new
+        → Goes o (Tells n (requests.Abandon g) (response_of (λ _. responses.Decided) result) seen) old new
     abandoned g (Ok x) does = stepped (Decided g Outcomes.Rollback) tt does.decided.follows (ap (λ g. g.threads) does.quiet.lines)
     abandoned g (Err m) does = stayed does.quiet.stays
 
     resolved : (r : ℕ) (result : Result ℕ Refusal) → Resolves r old new result
-        → Goes o (Tells n (requests.Resolve r) (reply_of responses.Resolved result) seen) old new
+        → Goes o (Tells n (requests.Resolve r) (response_of responses.Resolved result) seen) old new
     resolved r (Ok count) does = stepped (Resolved r) tt does.follows (ap (λ g. g.threads) does.lines.lines)
     resolved r (Err m) does = stayed does.stays
 
     resolved_open : (r : ℕ) (result : Result ℕ Refusal) → ResolvesOpen r old new result
-        → Goes o (Tells n (requests.ResolveOpen r) (reply_of responses.Resolved result) seen) old new
+        → Goes o (Tells n (requests.ResolveOpen r) (response_of responses.Resolved result) seen) old new
     resolved_open r (Ok count) does = stepped (ResolvedOpen r) tt does.resolved.follows (ap (λ g. g.threads) does.lines.lines)
     resolved_open r (Err m) does = stayed does.stays
 
@@ -172,7 +172,7 @@ module _ {L : Type 0} (laws : Laws L) (o : Origin) (seen : Seen) (old new : Sess
         by None is = stayed (does.memory is).1
 
     lost : (t r : ℕ) (result : Result (Unit {0}) Refusal) → Loses t r old new result
-        → Goes o (Tells n (requests.CrashLine t r) (reply_of (λ _. responses.Crashed) result) seen) old new
+        → Goes o (Tells n (requests.CrashLine t r) (response_of (λ _. responses.Crashed) result) seen) old new
     lost t r (Ok x) does =
         let first = known_waiting old.lines t r in
         record {
@@ -238,39 +238,39 @@ module _ {L : Type 0} (laws : Laws L) (o : Origin) (moment : L → Moment) where
 
   performed : (request : Request) (reply : Response) (seen : Seen) (old new : Coordinator L) → KeepsTrack o seen old.session → Does request old reply new
       → is_log_fault reply ≡ false → Goes o (Tells old.session.lines.threads request reply seen) old.session new.session
-  performed (requests.Begin t) reply seen old new keeps does none = stands seen old new keeps (Begins t) (reply_of responses.Begun)
+  performed (requests.Begin t) reply seen old new keeps does none = stands seen old new keeps (Begins t) (response_of responses.Begun)
       (λ reply. Tells old.session.lines.threads (requests.Begin t) reply seen) reply does none
       (λ result does none. begun laws o seen old.session new.session keeps old.session.lines.threads t result does)
-  performed (requests.Issue t r call) reply seen old new keeps does none = stands seen old new keeps (Issues t r call) (reply_of (λ _. responses.Issued call))
+  performed (requests.Issue t r call) reply seen old new keeps does none = stands seen old new keeps (Issues t r call) (response_of (λ _. responses.Issued call))
       (λ reply. Tells old.session.lines.threads (requests.Issue t r call) reply seen) reply does none
       (λ result does none. issued laws o seen old.session new.session keeps old.session.lines.threads t r call result does)
   performed (requests.Answer t r name answer) reply seen old new keeps does none =
       heard seen old new keeps old.session.lines.threads t r name answer reply does none
-  performed (requests.Decide gs outcome) reply seen old new keeps does none = stands seen old new keeps (Decides gs outcome) (reply_of (λ _. responses.Decided))
+  performed (requests.Decide gs outcome) reply seen old new keeps does none = stands seen old new keeps (Decides gs outcome) (response_of (λ _. responses.Decided))
       (λ reply. Tells old.session.lines.threads (requests.Decide gs outcome) reply seen) reply does none
       (λ result does none. decided laws o seen old.session new.session keeps old.session.lines.threads gs outcome result does none)
-  performed (requests.Claim g) reply seen old new keeps does none = stands seen old new keeps (Claims g) (reply_of (λ _. responses.Claimed))
+  performed (requests.Claim g) reply seen old new keeps does none = stands seen old new keeps (Claims g) (response_of (λ _. responses.Claimed))
       (λ reply. Tells old.session.lines.threads (requests.Claim g) reply seen) reply does none
       (λ result does none. claimed laws o seen old.session new.session keeps old.session.lines.threads g result does)
-  performed (requests.Settle g) reply seen old new keeps does none = stands seen old new keeps (Settles g) (reply_of (λ _. responses.Decided))
+  performed (requests.Settle g) reply seen old new keeps does none = stands seen old new keeps (Settles g) (response_of (λ _. responses.Decided))
       (λ reply. Tells old.session.lines.threads (requests.Settle g) reply seen) reply does none
       (λ result does none. settled laws o seen old.session new.session keeps old.session.lines.threads g result does none)
-  performed (requests.Abandon g) reply seen old new keeps does none = stands seen old new keeps (Abandons g) (reply_of (λ _. responses.Decided))
+  performed (requests.Abandon g) reply seen old new keeps does none = stands seen old new keeps (Abandons g) (response_of (λ _. responses.Decided))
       (λ reply. Tells old.session.lines.threads (requests.Abandon g) reply seen) reply does none
       (λ result does none. abandoned laws o seen old.session new.session keeps old.session.lines.threads g result does)
   performed (requests.Done gs) reply seen old new keeps does none =
       subst (λ r. Goes o (Tells old.session.lines.threads (requests.Done gs) r seen) old.session new.session) (sym does.told)
       (finished laws o seen old.session new.session keeps old.session.lines.threads gs does.result does.does
       (subst (λ r. is_log_fault r ≡ false) does.told none))
-  performed (requests.Resolve r) reply seen old new keeps does none = stands seen old new keeps (Resolves r) (reply_of responses.Resolved)
+  performed (requests.Resolve r) reply seen old new keeps does none = stands seen old new keeps (Resolves r) (response_of responses.Resolved)
       (λ reply. Tells old.session.lines.threads (requests.Resolve r) reply seen) reply does none
       (λ result does none. resolved laws o seen old.session new.session keeps old.session.lines.threads r result does)
-  performed (requests.ResolveOpen r) reply seen old new keeps does none = stands seen old new keeps (ResolvesOpen r) (reply_of responses.Resolved)
+  performed (requests.ResolveOpen r) reply seen old new keeps does none = stands seen old new keeps (ResolvesOpen r) (response_of responses.Resolved)
       (λ reply. Tells old.session.lines.threads (requests.ResolveOpen r) reply seen) reply does none
       (λ result does none. resolved_open laws o seen old.session new.session keeps old.session.lines.threads r result does)
   performed (requests.Waiting t r) reply seen old new keeps does none = looked seen old new keeps does.1
   performed (requests.Owed r) reply seen old new keeps does none = looked seen old new keeps does.1
-  performed (requests.CrashLine t r) reply seen old new keeps does none = stands seen old new keeps (Loses t r) (reply_of (λ _. responses.Crashed))
+  performed (requests.CrashLine t r) reply seen old new keeps does none = stands seen old new keeps (Loses t r) (response_of (λ _. responses.Crashed))
       (λ reply. Tells old.session.lines.threads (requests.CrashLine t r) reply seen) reply does none
       (λ result does none. lost laws o seen old.session new.session keeps old.session.lines.threads t r result does)
   performed (requests.CrashRm r) reply seen old new keeps does none = losts r 0 old.session.lines.threads reply seen old new keeps does

@@ -7,7 +7,7 @@ use Rattle.std.proofs.lemmas.List.Elements.{All-append, All-cons, All-nil}
 use Rattle.std.specs.List.{list_any}
 use Rattle.xa_log.specs.Contract.{Moment}
 use Rattle.xa_coordinator.proofs.LineLemmas.{asks_of}
-use Rattle.xa_coordinator.specs.Lines.{alone, asked_in, requests_in}
+use Rattle.xa_coordinator.specs.Lines.{asked_in, lone_reply, requests_in}
 use Rattle.xa_coordinator.specs.NamedLines.{line_read, lines_read}
 use Rattle.xa_coordinator.specs.Serving.{AreTurns, HaveReplies, IsTurn, RepliesBy, RepliesInTurn, RepliesToLine, Turn, ends_line, replies_given, replies_of, requests_done, requests_of, told_of}
 use Rattle.xa_coordinator.specs.declared.coordinator.Coordinator.{Coordinator}
@@ -48,7 +48,7 @@ module _ {L : Type 0} (moment : L → Moment) where
       (before : List Response) × (length before ≡ told.before) × RepliesSoFar asked before old told.reply now (drop i others)
 
   pub first_is_done : (asked : List (Option Request)) (first : Option Request) (others : List (Option Request)) (old now : Coordinator L) (reply : Response)
-      → asked ≡ first ∷ others → RepliesBy moment first old reply now → HasReplied asked others 0 (alone reply) old now
+      → asked ≡ first ∷ others → RepliesBy moment first old reply now → HasReplied asked others 0 (lone_reply reply) old now
   first_is_done asked first others old now reply is does =
       ([], refl, subst (λ all. RepliesSoFar all [] old reply now others) (sym is) (does, refl))
 

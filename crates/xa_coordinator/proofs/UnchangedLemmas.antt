@@ -12,7 +12,7 @@ use Rattle.xa_coordinator.specs.Calls.{PerformsAnswer, answer_reply, waits_for_o
 use Rattle.xa_serve.specs.Steps.{Hears, Loses}
 use Rattle.xa_coordinator.specs.Decisions.{PerformsDone}
 use Rattle.xa_coordinator.specs.Performing.{ChangesNothing, Does, is_not_done, is_one_step}
-use Rattle.xa_coordinator.specs.Replies.{reply_of}
+use Rattle.xa_coordinator.specs.Replies.{response_of}
 use Rattle.xa_coordinator.specs.Standing.{LacksMemory, OnlyTells, StandsFor}
 use Rattle.xa_coordinator.specs.declared.coordinator.Coordinator.{Coordinator}
 use Rattle.xa_requests.specs.declared.request.CallName.{CallName}
@@ -42,7 +42,7 @@ no_log_fault n undone is = true≢false (sym undone ∙ ap (λ m. is_not_done (r
 module _ {L : Type 0} (old new : Coordinator L) (reply : Response) where
   -- a step that is refused
   by_result : {A : Type 0} (taken : A → Response) (r : Result A Refusal) → ((x : A) → is_not_done (taken x) ≡ false)
-      → IfErr r (λ n. n ≢ Refusals.LogFault → StaysAs old.session new.session) → reply ≡ reply_of taken r → new ≡ record old { session = new.session }
+      → IfErr r (λ n. n ≢ Refusals.LogFault → StaysAs old.session new.session) → reply ≡ response_of taken r → new ≡ record old { session = new.session }
       → is_not_done reply ≡ true → ChangesNothing old new
   by_result taken (Ok x) done stays told rest undone = absurd (true≢false (sym undone ∙ ap is_not_done told ∙ done x))
   by_result taken (Err n) done stays told rest undone =
@@ -95,7 +95,7 @@ module _ {L : Type 0} (old new : Coordinator L) (reply : Response) (undone : is_
   rows_stay gs h = by h.result h.does.asks.stays h.owed_stay h.told
     where
       by : (r : Result (Unit {0}) Refusal) → IfErr r (λ n. n ≢ Refusals.LogFault → StaysAs old.session new.session) → OnErr r (new.owed ≡ old.owed)
-          → reply ≡ reply_of (λ _. responses.Noted) r → ChangesNothing old new
+          → reply ≡ response_of (λ _. responses.Noted) r → ChangesNothing old new
       by (Ok x) stays owed told = absurd (true≢false (sym undone ∙ ap is_not_done told))
       by (Err n) stays owed told = record { session = stays (no_log_fault n (ap is_not_done (sym told) ∙ undone)); owed = owed }
 

@@ -29,8 +29,8 @@ use Rattle.xa_serve.specs.Steps.{Decides, HappenInTurn, Hears}
 use Rattle.xa_coordinator.specs.Lines.{asked_in}
 use Rattle.xa_coordinator.specs.Performing.{Performs}
 use Rattle.xa_coordinator.specs.Releasing.{ReleasesAll, transaction_of}
-use Rattle.xa_coordinator.specs.Replies.{reply_of}
-use Rattle.xa_coordinator.specs.Rows.{HasRow, LogsRows, is_among}
+use Rattle.xa_coordinator.specs.Replies.{response_of}
+use Rattle.xa_coordinator.specs.Rows.{HasRow, LogsRows, is_gtrid_among}
 use Rattle.xa_coordinator.specs.Serving.{HaveReplies, RepliesBy}
 use Rattle.xa_coordinator.specs.Standing.{LacksMemory, OnlyTells, StandsFor}
 use Rattle.xa_coordinator.specs.Votes.{AreVotes, CommitsAreLogged, IsLogged, VotedCommitsAreLogged, VotesBy, VotesFor, is_heard}
@@ -214,7 +214,7 @@ module _ {L : Type 0} where
 
   -- votes that are told one behind another
   votes_recall : (moment : L → Moment) (votes : List (List ℕ)) (heard : List Response) (gs : List Gtrid) (g : Gtrid) (old new : Coordinator L)
-      → AreVotes votes heard gs → HaveReplies moment votes heard old new → (is_among gs g ≡ true) ⊎ Recalls (book_in old.session.manager) g
+      → AreVotes votes heard gs → HaveReplies moment votes heard old new → (is_gtrid_among gs g ≡ true) ⊎ Recalls (book_in old.session.manager) g
       → Recalls (book_in new.session.manager) g
   votes_recall moment [] [] [] g old new are have (inl among) = absurd (no (sym among))
   votes_recall moment [] [] [] g old new are have (inr was) = subst (λ (c : Coordinator L). Recalls (book_in c.session.manager) g) (sym have) was
@@ -228,20 +228,20 @@ module _ {L : Type 0} where
       recalled : (h ≡ g) ⊎ Recalls (book_in old.session.manager) g → Recalls (book_in next.session.manager) g
       recalled before = line_recalls moment (asked_in l) h g old next r are.0 are.1 replied before
 
-      by : (t : Bool) → gtrid_eq h g ≡ t → ((gtrid_eq h g || is_among hs g) ≡ true) ⊎ Recalls (book_in old.session.manager) g
-          → (is_among hs g ≡ true) ⊎ Recalls (book_in next.session.manager) g
+      by : (t : Bool) → gtrid_eq h g ≡ t → ((gtrid_eq h g || is_gtrid_among hs g) ≡ true) ⊎ Recalls (book_in old.session.manager) g
+          → (is_gtrid_among hs g ≡ true) ⊎ Recalls (book_in next.session.manager) g
       by t is (inr before) = inr (recalled (inr before))
       by true is (inl among) = inr (recalled (inl (gtrid_eq-true h g is)))
-      by false is (inl among) = inl (subst (λ (b : Bool). (b || is_among hs g) ≡ true) is among)
+      by false is (inl among) = inl (subst (λ (b : Bool). (b || is_gtrid_among hs g) ≡ true) is among)
 
 -- ** the commit
 
 -- each that is decided was open
-open_among : (k : Book) (gs : List Gtrid) (g : Gtrid) → EachOnce (IsOpenIn k) gs → is_among gs g ≡ true → IsOpenIn k g
+open_among : (k : Book) (gs : List Gtrid) (g : Gtrid) → EachOnce (IsOpenIn k) gs → is_gtrid_among gs g ≡ true → IsOpenIn k g
 open_among k [] g all among = absurd (no (sym among))
 open_among k (h ∷ hs) g all among = by (gtrid_eq h g) refl among (λ e. open_among k hs g all.2 e)
   where
-    by : (t : Bool) → gtrid_eq h g ≡ t → (t || is_among hs g) ≡ true → (is_among hs g ≡ true → IsOpenIn k g) → IsOpenIn k g
+    by : (t : Bool) → gtrid_eq h g ≡ t → (t || is_gtrid_among hs g) ≡ true → (is_gtrid_among hs g ≡ true → IsOpenIn k g) → IsOpenIn k g
     by true is e later = subst (IsOpenIn k) (gtrid_eq-true h g is) all.0
     by false is e later = later e
 
@@ -268,7 +268,7 @@ all_tied_back near (h ∷ hs) mid new log (next, inr (open_still, same), more) t
     subst (λ c. IsTied near (book_in c.session.manager) log) same (all_tied_back near hs next new log more tied)
 
 module _ {L : Type 0} (moment : L → Moment) (near : Bool) (gs : List Gtrid) (mid new : Coordinator L) (g : Gtrid) where
-  decided_logged : Performs moment (requests.Decide gs Outcomes.Commit) mid responses.Decided new → is_among gs g ≡ true
+  decided_logged : Performs moment (requests.Decide gs Outcomes.Commit) mid responses.Decided new → is_gtrid_among gs g ≡ true
       → Recalls (book_in mid.session.manager) g → (moment (log_in mid.session.manager)).is_in_order → (moment (log_in new.session.manager)).is_honest
       → HoldsItsBook moment near mid.session.manager → IsLogged (moment (log_in new.session.manager)).content g
   decided_logged did among recalls order honest holds = by did.does.result did.does.told did.does.does recalls
@@ -276,7 +276,7 @@ module _ {L : Type 0} (moment : L → Moment) (near : Bool) (gs : List Gtrid) (m
       k : Book
       k = book_in mid.session.manager
 
-      by : (result : Result (Unit {0}) Refusal) → responses.Decided ≡ reply_of (λ _. responses.Decided) result
+      by : (result : Result (Unit {0}) Refusal) → responses.Decided ≡ response_of (λ _. responses.Decided) result
           → Decides gs Outcomes.Commit mid.session did.mid.session result → Recalls (book_in mid.session.manager) g
           → IsLogged (moment (log_in new.session.manager)).content g
       by (Err n) told does was = absurd (let never : (let r : Response = responses.Decided in r) ≡ responses.Refused n = told in cc)
@@ -314,7 +314,7 @@ split_replies moment (l ∷ ls) ms (r ∷ rs) ss a c same (next, replied, more) 
 
 -- ** the rows of each that is told as decided
 
-none_among : (g : Gtrid) → is_among [] g ≡ true → ⊥
+none_among : (g : Gtrid) → is_gtrid_among [] g ≡ true → ⊥
 none_among g e = no (sym e)
 
 decided_is : (n : Refusal) → (let r : Response = responses.Decided in r) ≡ responses.Refused n → ⊥
@@ -323,7 +323,7 @@ decided_is n e = cc
 module _ {L : Type 0} (moment : L → Moment) where
   -- the session did this by one call, and what is over was then forgotten
   rows_of : (gs : List Gtrid) (old mid new : Coordinator L) (hs : List Gtrid) (reply : Response) (r : Result (Unit {0}) Refusal)
-      → reply ≡ reply_of (λ _. responses.Decided) r → OnOk r ((gs ≡ []) ⊎ ((book_in old.session.manager).up ≡ true))
+      → reply ≡ response_of (λ _. responses.Decided) r → OnOk r ((gs ≡ []) ⊎ ((book_in old.session.manager).up ≡ true))
       → OnOk r (book_in mid.session.manager ≡ after_all (book_in old.session.manager) (commits gs)) → ReleasesAll hs mid new
       → KeepsLog moment old.session.manager new.session.manager → LogsRows moment gs old.session reply new.session
   rows_of gs old mid new hs reply (Err n) told up book releases keeps near g among is order honest holds said = absurd (decided_is n (sym is ∙ told))
@@ -331,7 +331,7 @@ module _ {L : Type 0} (moment : L → Moment) where
     where
       by : (gs ≡ []) ⊎ ((book_in old.session.manager).up ≡ true)
           → HasRow (moment (log_in new.session.manager)).content g (voted_yes (book_in old.session.manager) g)
-      by (inl none) = absurd (none_among g (subst (λ xs. is_among xs g ≡ true) none among))
+      by (inl none) = absurd (none_among g (subst (λ xs. is_gtrid_among xs g ≡ true) none among))
       by (inr is_up) =
           row_written (book_in old.session.manager) (book_in mid.session.manager) near (moment (log_in new.session.manager)).content gs g is_up among said book
           (all_tied_back near hs mid new (moment (log_in new.session.manager)).content releases (keeps.holds near order honest holds).tied)

@@ -5,7 +5,7 @@ use Rattle.xa_base.specs.Call.{are_alike, kind_of, xid_in}
 use Rattle.xa_base.specs.Xid.{Xid, xid_eq}
 use Rattle.xa_base.specs.declared.answer.Answer.{Answer}
 use Rattle.xa_base.specs.declared.call.Call.{Call}
-use Rattle.xa_coordinator.specs.Replies.{reply_of}
+use Rattle.xa_coordinator.specs.Replies.{response_of}
 use Rattle.xa_coordinator.specs.Standing.{LacksMemory, OnlyTells, StandsFor}
 use Rattle.xa_coordinator.specs.declared.coordinator.Coordinator.{Coordinator}
 use Rattle.xa_line.specs.Grid.{Grid}
@@ -49,7 +49,7 @@ answer_reply reply (Err (Unfits.NoSuchState b)) = responses.Fault faults.NoSuchS
 
 module _ {L : Type 0} where
   abbrev pub PerformsIssue : (thread rm : ℕ) → Call Xid → (old : Coordinator L) → Response → (new : Coordinator L) → Type 0
-  PerformsIssue thread rm call = StandsFor (Issues thread rm call) (reply_of (λ _. responses.Issued call))
+  PerformsIssue thread rm call = StandsFor (Issues thread rm call) (response_of (λ _. responses.Issued call))
 
   -- an answer to another call is a fault; else it is heard, if there is memory to copy it
   abbrev pub PerformsAnswer : (thread rm : ℕ) → CallName → Answer Xid → (old : Coordinator L) → Response → (new : Coordinator L) → Type 0

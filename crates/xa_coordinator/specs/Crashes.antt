@@ -1,7 +1,7 @@
 -- Lines that are lost.
 use Rattle.std.specs.Prelude.{◌≡◌, ℕ, ◌+◌, zero, suc, Result, MatchResult}
 use Rattle.xa_base.specs.declared.refusal.Refusal.{Refusal}
-use Rattle.xa_coordinator.specs.Replies.{reply_of}
+use Rattle.xa_coordinator.specs.Replies.{response_of}
 use Rattle.xa_coordinator.specs.Standing.{OnlyTells, StandsFor}
 use Rattle.xa_coordinator.specs.declared.coordinator.Coordinator.{Coordinator}
 use Rattle.xa_requests.specs.declared.response.Response.{Response}
@@ -10,7 +10,7 @@ use Rattle.xa_serve.specs.Steps.{Loses}
 
 module _ {L : Type 0} where
   abbrev pub PerformsCrashLine : (thread rm : ℕ) → (old : Coordinator L) → Response → (new : Coordinator L) → Type 0
-  PerformsCrashLine thread rm = StandsFor (Loses thread rm) (reply_of (λ _. responses.Crashed))
+  PerformsCrashLine thread rm = StandsFor (Loses thread rm) (response_of (λ _. responses.Crashed))
 
   -- the session lost the line, or didn't, and nothing else changed
   pub record LosesOne (thread rm : ℕ) (old : Coordinator L) (result : Result (Unit {0}) Refusal) (new : Coordinator L) : Type 0 where

@@ -3,7 +3,7 @@ use Rattle.std.specs.Prelude.{◌≡◌, ℕ, List, Result, OnErr, OnOk}
 use Rattle.xa_base.specs.declared.branch.Gtrid.{Gtrid}
 use Rattle.xa_base.specs.declared.refusal.Refusal.{Refusal}
 use Rattle.xa_base.specs.declared.step.Outcome.{Outcome}
-use Rattle.xa_coordinator.specs.Replies.{reply_of}
+use Rattle.xa_coordinator.specs.Replies.{response_of}
 use Rattle.xa_coordinator.specs.Rows.{owed_without}
 use Rattle.xa_coordinator.specs.Standing.{StandsFor}
 use Rattle.xa_coordinator.specs.declared.coordinator.Coordinator.{Coordinator}
@@ -15,25 +15,25 @@ use Rattle.xa_serve.specs.Steps.{Abandons, Begins, Claims, Decides, Finishes, Se
 
 module _ {L : Type 0} where
   abbrev pub PerformsBegin : (thread : ℕ) → (old : Coordinator L) → Response → (new : Coordinator L) → Type 0
-  PerformsBegin thread = StandsFor (Begins thread) (reply_of responses.Begun)
+  PerformsBegin thread = StandsFor (Begins thread) (response_of responses.Begun)
 
   abbrev pub PerformsClaim : Gtrid → (old : Coordinator L) → Response → (new : Coordinator L) → Type 0
-  PerformsClaim g = StandsFor (Claims g) (reply_of (λ _. responses.Claimed))
+  PerformsClaim g = StandsFor (Claims g) (response_of (λ _. responses.Claimed))
 
   abbrev pub PerformsAbandon : Gtrid → (old : Coordinator L) → Response → (new : Coordinator L) → Type 0
-  PerformsAbandon g = StandsFor (Abandons g) (reply_of (λ _. responses.Decided))
+  PerformsAbandon g = StandsFor (Abandons g) (response_of (λ _. responses.Decided))
 
   abbrev pub PerformsDecide : List Gtrid → Outcome → (old : Coordinator L) → Response → (new : Coordinator L) → Type 0
-  PerformsDecide gs outcome = StandsFor (Decides gs outcome) (reply_of (λ _. responses.Decided))
+  PerformsDecide gs outcome = StandsFor (Decides gs outcome) (response_of (λ _. responses.Decided))
 
   abbrev pub PerformsSettle : Gtrid → (old : Coordinator L) → Response → (new : Coordinator L) → Type 0
-  PerformsSettle g = StandsFor (Settles g) (reply_of (λ _. responses.Decided))
+  PerformsSettle g = StandsFor (Settles g) (response_of (λ _. responses.Decided))
 
   -- the rows of these leave the log, and their branches are owed no more; or nothing is done
   pub record PerformsDone (gs : List Gtrid) (old : Coordinator L) (reply : Response) (new : Coordinator L) : Type 0 where
     pub result : Result (Unit {0}) Refusal
     pub does : Finishes gs old.session new.session result
-    pub told : reply ≡ reply_of (λ _. responses.Noted) result
+    pub told : reply ≡ response_of (λ _. responses.Noted) result
     pub owed : OnOk result (new.owed.items ≡ owed_without gs old.owed.items)
     pub owed_stay : OnErr result (new.owed ≡ old.owed)
     pub rest : new ≡ record old { session = new.session; owed = new.owed }

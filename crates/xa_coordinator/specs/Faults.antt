@@ -20,17 +20,17 @@ rows_asked (requests.Settle g) k = Adds (rows_for k (g ∷ []))
 rows_asked (requests.Done gs) k = Drops gs
 rows_asked request k = NoDoubt
 
-abbrev pub AsksForRows : Request → Type 0
-AsksForRows (requests.Decide gs outcome) = Unit
-AsksForRows (requests.Settle g) = Unit
-AsksForRows (requests.Done gs) = Unit
-AsksForRows request = ⊥
+abbrev pub MayChangeRows : Request → Type 0
+MayChangeRows (requests.Decide gs outcome) = Unit
+MayChangeRows (requests.Settle g) = Unit
+MayChangeRows (requests.Done gs) = Unit
+MayChangeRows request = ⊥
 
 -- A request is refused since the log failed. The log, if it isn't shut, then has the rows that it had, or these with all of the change that
 -- the request asked for; and so has each content that a crash of its store may leave. What had its book's rows before has been honest.
 abbrev pub FaultsLeaveAllOrNone : {L : Type 0} → (L → Moment) → Type 0
 FaultsLeaveAllOrNone {L} moment =
-    (near : Bool) (request : Request) (old new : Coordinator L) (c : Content) → AsksForRows request
+    (near : Bool) (request : Request) (old new : Coordinator L) (c : Content) → MayChangeRows request
     → Performs moment request old (responses.Refused LogFault) new
     → Honestly (moment (log_in old.session.manager)) (moment (log_in new.session.manager))
     ((book_in old.session.manager).up ≡ true → HoldsItsBook moment near old.session.manager → LeavesContent moment new.session.manager c

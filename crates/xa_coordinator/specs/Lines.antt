@@ -65,13 +65,13 @@ abbrev pub with_first : ℕ → List (List ℕ) → List (List ℕ)
 with_first b [] = (b ∷ []) ∷ []
 with_first b (line ∷ lines) = (b ∷ line) ∷ lines
 
-abbrev pub lines_of : List ℕ → List (List ℕ)
-lines_of [] = []
-lines_of (b ∷ bs) = if b == 10 then [] ∷ lines_of bs else with_first b (lines_of bs)
+abbrev pub text_lines : List ℕ → List (List ℕ)
+text_lines [] = []
+text_lines (b ∷ bs) = if b == 10 then [] ∷ text_lines bs else with_first b (text_lines bs)
 
 -- another line begins after what was read
 abbrev pub IsWholeLines : List ℕ → Type 0
-IsWholeLines read = (more : List ℕ) → lines_of (read ++ more) ≡ lines_of read ++ lines_of more
+IsWholeLines read = (more : List ℕ) → text_lines (read ++ more) ≡ text_lines read ++ text_lines more
 
 -- whole lines were read: another one begins after them, or nothing is left
 pub record ReadsWholeLines (unread left : Option (List ℕ)) (read : List ℕ) : Type 0 where
@@ -84,9 +84,9 @@ pub record ReadsWholeLines (unread left : Option (List ℕ)) (read : List ℕ) :
 abbrev pub marks : (before : ℕ) → List ℕ
 marks before = repeat before (codes ";")
 
-abbrev pub line_of : LineReply → List ℕ
-line_of told = marks told.before ++ response_text told.reply ++ codes "\n"
+abbrev pub reply_line : LineReply → List ℕ
+reply_line told = marks told.before ++ response_text told.reply ++ codes "\n"
 
 -- the reply to a line of one request
-abbrev pub alone : Response → LineReply
-alone reply = record { before = 0; reply = reply }
+abbrev pub lone_reply : Response → LineReply
+lone_reply reply = record { before = 0; reply = reply }

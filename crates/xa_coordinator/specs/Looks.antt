@@ -4,7 +4,7 @@ use Rattle.xa_base.specs.Xid.{Xid}
 use Rattle.xa_base.specs.declared.call.Call.{Call}
 use Rattle.xa_base.specs.declared.refusal.Refusal.TheVariants.{Limit}
 use Rattle.xa_coordinator.specs.declared.coordinator.Coordinator.{Coordinator}
-use Rattle.xa_line.specs.Grid.{has_line}
+use Rattle.xa_line.specs.Grid.{grid_has_line}
 use Rattle.xa_requests.specs.declared.response.Response.{Response}
 use Rattle.xa_requests.specs.declared.response.Response.TheVariants as responses
 use Rattle.xa_serve.specs.Session.{first_waiting}
@@ -17,7 +17,7 @@ first_reply (Some call) = responses.Waits call
 -- the call that waits first on a line
 abbrev pub waiting_reply : {L : Type 0} → (thread rm : ℕ) → Coordinator L → Response
 waiting_reply thread rm c =
-    if has_line c.session.lines thread rm then first_reply (first_waiting c.session.lines thread rm) else responses.Refused Limit
+    if grid_has_line c.session.lines thread rm then first_reply (first_waiting c.session.lines thread rm) else responses.Refused Limit
 
 -- whether the manager is up, and how much has happened
 abbrev pub status_of : {L : Type 0} → Coordinator L → Response

@@ -13,7 +13,7 @@ use Rattle.xa_requests.specs.declared.request.Request.{Request}
 use Rattle.xa_requests.specs.declared.response.Response.{Response}
 use Rattle.xa_requests.specs.declared.response.Response.TheVariants as responses
 use Rattle.xa_serve.specs.Tracking.{KeepsTrack}
-use Rattle.xa_standings.specs.Explained.{IsOldLog}
+use Rattle.xa_standings.specs.Explained.{HasOnlyOlderRows}
 use Rattle.xa_standings.specs.Seen.{Seen}
 
 -- the identifier of a call, if it is on a branch, is written as one of this name
@@ -30,7 +30,7 @@ TellsOwn name reply = Unit
 -- a session that keeps track of what was seen, from an old log, gave this reply to some request
 pub record Replied {L : Type 0} (moment : L → Moment) (old new : Coordinator L) (reply : Response) : Type 0 where
   pub start : Origin
-  pub is_old : IsOldLog start
+  pub is_old : HasOnlyOlderRows start
   pub seen : Seen
   pub keeps : KeepsTrack start seen old.session
   pub request : Request

@@ -3,8 +3,8 @@ use Rattle.std.specs.Prelude.{ℕ, ◌&&◌, if◌then◌else◌, nat_le, List, 
 use Rattle.std.specs.Io.KnownBytes.{Appends, Consumes, IsAtEnd}
 use Rattle.std.specs.List.{flat_map}
 use Rattle.std.specs.Str.{is_utf8}
-use Rattle.xa_coordinator.specs.Lines.{ReadsWholeLines, lines_of, marks}
-use Rattle.xa_coordinator.specs.Serving.{AreTurns, EndsBy, HaveReplies, Turn, WritesUpToLast, replies_given, requests_done, told_in}
+use Rattle.xa_coordinator.specs.Lines.{ReadsWholeLines, marks, text_lines}
+use Rattle.xa_coordinator.specs.Serving.{AreTurns, EndsAtLastOr, HaveReplies, Turn, WritesUpToLast, replies_given, requests_done, told_in}
 use Rattle.xa_coordinator.specs.declared.coordinator.Coordinator.{Coordinator}
 use Rattle.xa_coordinator.specs.declared.lines.LineReply.{LineReply}
 use Rattle.xa_coordinator.specs.declared.lines.TheConstants.{LINE_LIMIT}
@@ -36,10 +36,10 @@ module _ {L : Type 0} (moment : L → Moment) where
     pub read : List ℕ
     pub turns : List Turn
     pub consumed : Consumes unread left read
-    pub lines : AreTurns (lines_of read) turns
+    pub lines : AreTurns (text_lines read) turns
     pub replied : HaveReplies moment (lines_read name (requests_done turns)) (replies_given turns) old new
     pub appended : Appends written all (text_written name (told_in greeting turns))
-    pub ends : EndsBy (map (λ turn. turn.reply) turns) (IsAtEnd left)
+    pub ends : EndsAtLastOr (map (λ turn. turn.reply) turns) (IsAtEnd left)
     -- the log has what the book says at the end, if it had at the start
     pub keeps : KeepsLog moment old.session.manager new.session.manager
 
@@ -50,7 +50,7 @@ module _ {L : Type 0} (moment : L → Moment) where
     pub left : Option (List ℕ)
     pub turns : List Turn
     pub reads : ReadsWholeLines unread left read
-    pub lines : AreTurns (lines_of read) turns
+    pub lines : AreTurns (text_lines read) turns
     pub replied : HaveReplies moment (lines_read name (requests_done turns)) (replies_given turns) old new
     pub writes : WritesUpToLast (line_written name) written all (told_in greeting turns)
     pub keeps : KeepsLog moment old.session.manager new.session.manager

@@ -2,7 +2,7 @@
 use Rattle.std.specs.Prelude.{◌≡◌, ◌⊎◌, ℕ, nat_lt, List, MatchBool}
 use Rattle.xa_base.specs.Xid.{Xid}
 use Rattle.xa_base.specs.declared.refusal.Refusal.TheVariants as Refusals
-use Rattle.xa_coordinator.specs.Replies.{reply_of}
+use Rattle.xa_coordinator.specs.Replies.{response_of}
 use Rattle.xa_coordinator.specs.Rows.{owed_xids}
 use Rattle.xa_coordinator.specs.Standing.{StandsFor}
 use Rattle.xa_coordinator.specs.declared.coordinator.Coordinator.{Coordinator}
@@ -19,10 +19,10 @@ TellsOwed xids reply = ⊥
 
 module _ {L : Type 0} where
   abbrev pub PerformsResolve : (rm : ℕ) → (old : Coordinator L) → Response → (new : Coordinator L) → Type 0
-  PerformsResolve rm = StandsFor (Resolves rm) (reply_of responses.Resolved)
+  PerformsResolve rm = StandsFor (Resolves rm) (response_of responses.Resolved)
 
   abbrev pub PerformsResolveOpen : (rm : ℕ) → (old : Coordinator L) → Response → (new : Coordinator L) → Type 0
-  PerformsResolveOpen rm = StandsFor (ResolvesOpen rm) (reply_of responses.Resolved)
+  PerformsResolveOpen rm = StandsFor (ResolvesOpen rm) (response_of responses.Resolved)
 
   -- the branches at the resource manager are told that are still owed
   abbrev pub PerformsOwed : (rm : ℕ) → Coordinator L → Response → Type 0

@@ -7,9 +7,9 @@ use Rattle.xa_requests.specs.declared.response.Response.TheVariants as responses
 use Rattle.xa_tm.specs.Calls.{book_in}
 
 -- a step that is taken is replied so, and one that isn't by its refusal
-abbrev pub reply_of : {A : Type 0} → (A → Response) → Result A Refusal → Response
-reply_of taken (Ok x) = taken x
-reply_of taken (Err n) = responses.Refused n
+abbrev pub response_of : {A : Type 0} → (A → Response) → Result A Refusal → Response
+response_of taken (Ok x) = taken x
+response_of taken (Err n) = responses.Refused n
 
 -- the first line of a session: its incarnation, and how many rows and records its log had at the start
 abbrev pub greeting_of : {L : Type 0} → Coordinator L → Response

@@ -19,12 +19,12 @@ use Rattle.xa_tm.specs.Book.{Waiting, voted_yes}
 use Rattle.xa_tm.specs.Calls.{book_in, log_in}
 
 -- it is one of these transactions
-abbrev pub is_among : List Gtrid → Gtrid → Bool
-is_among gs g = list_any (λ h. gtrid_eq h g) gs
+abbrev pub is_gtrid_among : List Gtrid → Gtrid → Bool
+is_gtrid_among gs g = list_any (λ h. gtrid_eq h g) gs
 
 -- what is still owed without the branches of these transactions
 abbrev pub owed_without : List Gtrid → List Branch → List Branch
-owed_without gs owed = filter (λ b. not (is_among gs b.gtrid)) owed
+owed_without gs owed = filter (λ b. not (is_gtrid_among gs b.gtrid)) owed
 
 -- the identifiers of the branches at a resource manager
 abbrev pub owed_xids : (rm : ℕ) → List Branch → List Xid
@@ -45,7 +45,7 @@ HasRow log g waiting = IsSomeAnd log (λ c. get c.decisions g ≡ Some waiting)
 -- was in order, had what the book said, and has been honest since.
 abbrev pub LogsRows : {L : Type 0} → (moment : L → Moment) → List Gtrid → (old : Session L) → Response → (new : Session L) → Type 0
 LogsRows moment gs old reply new =
-    (near : Bool) (g : Gtrid) → is_among gs g ≡ true → reply ≡ responses.Decided
+    (near : Bool) (g : Gtrid) → is_gtrid_among gs g ≡ true → reply ≡ responses.Decided
     → Honestly (moment (log_in old.manager)) (moment (log_in new.manager))
     (HoldsItsBook moment near old.manager → ((book_in old.manager).transaction g).has_yes ≡ true
     → HasRow (moment (log_in new.manager)).content g (voted_yes (book_in old.manager) g))

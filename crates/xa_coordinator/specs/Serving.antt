@@ -2,7 +2,7 @@
 use Rattle.std.specs.Prelude.{◌≡◌, ◌⊎◌, ℕ, suc, Bool, true, false, MatchBool, All, List, [], ◌∷◌, ◌++◌, length, map, take, Option, Some, None}
 use Rattle.std.specs.Io.KnownBytes.{Appends, Consumes, IsAtEnd}
 use Rattle.std.specs.List.{flat_map, list_any}
-use Rattle.xa_coordinator.specs.Lines.{ReadsWholeLines, alone, asked_in, line_of, lines_of, requests_in}
+use Rattle.xa_coordinator.specs.Lines.{ReadsWholeLines, asked_in, lone_reply, reply_line, requests_in, text_lines}
 use Rattle.xa_coordinator.specs.Performing.{Performs}
 use Rattle.xa_coordinator.specs.Standing.{OnlyTells}
 use Rattle.xa_coordinator.specs.declared.coordinator.Coordinator.{Coordinator}
@@ -92,16 +92,16 @@ replies_given turns = flat_map replies_of turns
 
 -- what is written of the first line of a session and of these lines
 abbrev pub told_in : (greeting : Response) → List Turn → List LineReply
-told_in greeting turns = alone greeting ∷ map told_of turns
+told_in greeting turns = lone_reply greeting ∷ map told_of turns
 
 -- the lines of these replies
-abbrev pub text_of : List LineReply → List ℕ
-text_of replies = flat_map line_of replies
+abbrev pub replies_text : List LineReply → List ℕ
+replies_text replies = flat_map reply_line replies
 
 -- the last reply, and no other, ends the session; or none does, and this holds
-abbrev pub EndsBy : List Response → Type 0 → Type 0
-EndsBy [] P = P
-EndsBy (reply ∷ replies) P = MatchBool (is_bye reply) (replies ≡ []) (EndsBy replies P)
+abbrev pub EndsAtLastOr : List Response → Type 0 → Type 0
+EndsAtLastOr [] P = P
+EndsAtLastOr (reply ∷ replies) P = MatchBool (is_bye reply) (replies ≡ []) (EndsAtLastOr replies P)
 
 -- of these replies each but the last was written, and of the last a beginning
 pub record WritesUpToLast (line_for : LineReply → List ℕ) (written all : Option (List ℕ)) (replies : List LineReply) : Type 0 where
@@ -119,10 +119,10 @@ module _ {L : Type 0} (moment : L → Moment) where
     pub read : List ℕ
     pub turns : List Turn
     pub consumed : Consumes unread left read
-    pub lines : AreTurns (lines_of read) turns
+    pub lines : AreTurns (text_lines read) turns
     pub replied : HaveReplies moment (requests_done turns) (replies_given turns) old new
-    pub appended : Appends written all (text_of (told_in greeting turns))
-    pub ends : EndsBy (map (λ turn. turn.reply) turns) (IsAtEnd left)
+    pub appended : Appends written all (replies_text (told_in greeting turns))
+    pub ends : EndsAtLastOr (map (λ turn. turn.reply) turns) (IsAtEnd left)
     -- the log has what the book says at the end, if it had at the start
     pub keeps : KeepsLog moment old.session.manager new.session.manager
 
@@ -133,7 +133,7 @@ module _ {L : Type 0} (moment : L → Moment) where
     pub left : Option (List ℕ)
     pub turns : List Turn
     pub reads : ReadsWholeLines unread left read
-    pub lines : AreTurns (lines_of read) turns
+    pub lines : AreTurns (text_lines read) turns
     pub replied : HaveReplies moment (requests_done turns) (replies_given turns) old new
-    pub writes : WritesUpToLast line_of written all (told_in greeting turns)
+    pub writes : WritesUpToLast reply_line written all (told_in greeting turns)
     pub keeps : KeepsLog moment old.session.manager new.session.manager

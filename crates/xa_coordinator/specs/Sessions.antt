@@ -10,7 +10,7 @@ use Rattle.xa_base.specs.declared.answer.Answer.TheVariants.{Ret}
 use Rattle.xa_base.specs.declared.refusal.Refusal.TheVariants.{LogFault}
 use Rattle.xa_base.specs.declared.state.Standing.{Standing}
 use Rattle.xa_base.specs.declared.state.Standing.TheVariants.{Committed, Completed, Prepared, Unstarted}
-use Rattle.xa_coordinator.specs.Faults.{AsksForRows}
+use Rattle.xa_coordinator.specs.Faults.{MayChangeRows}
 use Rattle.xa_coordinator.specs.Performing.{Performs}
 use Rattle.xa_coordinator.specs.Serving.{HaveReplies}
 use Rattle.xa_coordinator.specs.Telling.{HaveTold, is_log_fault}
@@ -30,12 +30,12 @@ use Rattle.xa_serve.specs.Logging.{HoldsItsBook, LeavesContent}
 use Rattle.xa_serve.specs.Session.{known_waiting}
 use Rattle.xa_serve.specs.Tracking.{KeepsTrack}
 use Rattle.xa_standings.specs.Agreement.{MayAllStand, StandAlike}
-use Rattle.xa_standings.specs.Explained.{IsOldLog}
+use Rattle.xa_standings.specs.Explained.{HasOnlyOlderRows}
 use Rattle.xa_standings.specs.Seen.{Seen, Seen.Answered, Seen.Start}
 use Rattle.xa_standings.specs.Sessions.{IsCommitting}
 use Rattle.xa_standings.specs.Standings.{Comes}
 use Rattle.xa_tm.specs.Begins.{BeginsWith}
-use Rattle.xa_tm.specs.BookAndLog.{SameRows}
+use Rattle.xa_tm.specs.BookAndLog.{SameRowsAndRecords}
 use Rattle.xa_tm.specs.Calls.{log_in}
 use Rattle.xa_tm.specs.Started.{IsStarted, IsStartedOver}
 
@@ -60,7 +60,7 @@ module _ {L : Type 0} (moment : L → Moment) where
     pub was_left : WasLeft last left
     pub content : Content
     pub has : (moment handed).content ≡ Some content
-    pub same : SameRows content left
+    pub same : SameRowsAndRecords content left
     pub raised : left.incarnation ≤ content.incarnation
 
   -- ** one session
@@ -68,7 +68,7 @@ module _ {L : Type 0} (moment : L → Moment) where
   -- a coordinator starts over a log that it is handed: what `Coordinator::new` ensures
   pub record StartsOver (threads rms : ℕ) (handed : L) (first : Coordinator L) : Type 0 where
     pub stands : StandsAtStart threads rms first.session
-    pub old : (o : Origin) → BeginsWith threads rms first.session.manager o → IsOldLog o
+    pub old : (o : Origin) → BeginsWith threads rms first.session.manager o → HasOnlyOlderRows o
     pub started : IsStarted threads rms first.session.manager
     pub over : IsStartedOver moment threads rms (moment handed) first.session.manager
     pub holds : Honestly (moment handed) (moment (log_in first.session.manager)) (HoldsItsBook moment true first.session.manager)
@@ -91,15 +91,15 @@ module _ {L : Type 0} (moment : L → Moment) where
 
 -- A session is left, with so much seen: after a line, as where its driver ends or the program is killed; or in a request in which its log
 -- failed, as it does where the program is killed there. An answer counts as told then, whether or not its record was written.
-pub data IsLeft {L : Type 0} (moment : L → Moment) (seen : Seen) (now : Coordinator L) : Seen → Coordinator L → Type 0 where
-  AfterLine : IsLeft moment seen now seen now
+pub data IsSessionLeft {L : Type 0} (moment : L → Moment) (seen : Seen) (now : Coordinator L) : Seen → Coordinator L → Type 0 where
+  AfterLine : IsSessionLeft moment seen now seen now
   InRequest :
-      (request : Request) (left : Coordinator L) → AsksForRows request → Performs moment request now (responses.Refused LogFault) left
-      → IsLeft moment seen now seen left
+      (request : Request) (left : Coordinator L) → MayChangeRows request → Performs moment request now (responses.Refused LogFault) left
+      → IsSessionLeft moment seen now seen left
   InAnswer :
       (thread rm : ℕ) (name : CallName) (code : Code) (call : Call) (left : Coordinator L) → known_waiting now.session.lines thread rm ≡ Some call
       → Performs moment (requests.Answer thread rm name (Ret code)) now (responses.Refused LogFault) left
-      → IsLeft moment seen now (Answered seen (line thread rm) call (Ret code)) left
+      → IsSessionLeft moment seen now (Answered seen (line thread rm) call (Ret code)) left
 
 -- ** all of them
 
@@ -112,7 +112,7 @@ pub data AreServed {L : Type 0} (moment : L → Moment) : Option (Coordinator L)
   OneMore :
       (last : Option (Coordinator L)) (from to : Branch → Standing) (handed : L) (o : Origin) (told seen : Seen) (now left : Coordinator L)
       (done cut : List Line) → AreServed moment last from → IsHandedOn moment last handed → IsSession moment handed o told now
-      → IsLeft moment told now seen left → (moment (log_in left.session.manager)).is_honest
+      → IsSessionLeft moment told now seen left → (moment (log_in left.session.manager)).is_honest
       → MayAllStand o seen (λ b. Comes seen b (broken (from b))) done cut to → AreServed moment (Some left) to
   Between :
       (last : Option (Coordinator L)) (from to : Branch → Standing) (d : Branch) (how : How) → AreServed moment last from
@@ -135,15 +135,15 @@ ServedLogsDecide {L} moment =
     → LeavesContent moment last.session.manager c → LogDecides f c
 
 -- One of these sessions began where the branch stood prepared, over a log with the row of its transaction.
-abbrev pub WasFoundDecided : {L : Type 0} (moment : L → Moment) (b : Branch) (last : Option (Coordinator L)) (f : Branch → Standing)
+abbrev pub WasFoundDecidedInLog : {L : Type 0} (moment : L → Moment) (b : Branch) (last : Option (Coordinator L)) (f : Branch → Standing)
     → AreServed moment last f → Type 0
-WasFoundDecided moment b _ _ NoneYet = ⊥
-WasFoundDecided moment b _ _ (OneMore last from to handed o told seen now left done cut before handed_on is is_left honest may) =
-    ((from b ≡ Prepared) × IsLogged (moment handed).content b.gtrid) ⊎ WasFoundDecided moment b last from before
-WasFoundDecided moment b _ _ (Between last from to d how before was final) = WasFoundDecided moment b last from before
+WasFoundDecidedInLog moment b _ _ NoneYet = ⊥
+WasFoundDecidedInLog moment b _ _ (OneMore last from to handed o told seen now left done cut before handed_on is is_left honest may) =
+    ((from b ≡ Prepared) × IsLogged (moment handed).content b.gtrid) ⊎ WasFoundDecidedInLog moment b last from before
+WasFoundDecidedInLog moment b _ _ (Between last from to d how before was final) = WasFoundDecidedInLog moment b last from before
 
 -- Such a branch is to commit; and as long as it stands prepared, the log has its row.
-pub record CommitStands (f : Branch → Standing) (log : Content) (b : Branch) : Type 0 where
+pub record CommitStandsInLog (f : Branch → Standing) (log : Content) (b : Branch) : Type 0 where
   pub commits : IsCommitting (f b)
   pub row_stays : f b ≡ Prepared → is_some (get log.decisions b.gtrid) ≡ true
 
@@ -151,7 +151,7 @@ pub record CommitStands (f : Branch → Standing) (log : Content) (b : Branch) :
 abbrev pub ServedCommitsStand : {L : Type 0} → (L → Moment) → Type 0
 ServedCommitsStand {L} moment =
     (last : Coordinator L) (f : Branch → Standing) (c : Content) (b : Branch) (served : AreServed moment (Some last) f)
-    → WasFoundDecided moment b (Some last) f served → LeavesContent moment last.session.manager c → CommitStands f c b
+    → WasFoundDecidedInLog moment b (Some last) f served → LeavesContent moment last.session.manager c → CommitStandsInLog f c b
 
 -- What lines and their replies tell is known of each session that starts over a log that it is handed, and it is one of these.
 abbrev pub ServedSessionsAreSeen : {L : Type 0} → (L → Moment) → Type 0

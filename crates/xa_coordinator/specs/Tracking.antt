@@ -14,7 +14,7 @@ use Rattle.xa_serve.specs.Following.{StandsAtStart}
 use Rattle.xa_serve.specs.Session.{known_at}
 use Rattle.xa_serve.specs.Tracking.{KeepsTrack}
 use Rattle.xa_standings.specs.Agreement.{OwnStandAlike, StandSo, WaitsAt}
-use Rattle.xa_standings.specs.Explained.{IsExplained, IsOldLog}
+use Rattle.xa_standings.specs.Explained.{HasOnlyOlderRows, IsExplained}
 use Rattle.xa_standings.specs.Seen.{Seen, Seen.Start}
 use Rattle.xa_tm.specs.Begins.{BeginsWith}
 
@@ -56,7 +56,7 @@ pub record AreExplained (o : Origin) (lines : List (List ℕ)) (replies : List R
 abbrev pub ServedSessionsAreExplained : {L : Type 0} → (L → Moment) → Type 0
 ServedSessionsAreExplained {L} moment =
     (threads rms : ℕ) (lines : List (List ℕ)) (replies : List Response) (old new : Coordinator L) → StandsAtStart threads rms old.session
-    → HaveReplies moment lines replies old new → (o : Origin) → BeginsWith threads rms old.session.manager o → IsOldLog o
+    → HaveReplies moment lines replies old new → (o : Origin) → BeginsWith threads rms old.session.manager o → HasOnlyOlderRows o
     → AreExplained o lines replies
 
 -- What lines and their replies tell since the start, up to where the log failed, has a right history; and databases that obey the branch
@@ -75,5 +75,5 @@ pub record DatabasesAgree {L : Type 0} (o : Origin) (lines : List (List ℕ)) (r
 abbrev pub ServedDatabasesAgree : {L : Type 0} → (L → Moment) → Type 0
 ServedDatabasesAgree {L} moment =
     (threads rms : ℕ) (lines : List (List ℕ)) (replies : List Response) (old new : Coordinator L) → StandsAtStart threads rms old.session
-    → HaveReplies moment lines replies old new → (o : Origin) → BeginsWith threads rms old.session.manager o → IsOldLog o
+    → HaveReplies moment lines replies old new → (o : Origin) → BeginsWith threads rms old.session.manager o → HasOnlyOlderRows o
     → DatabasesAgree o lines replies new

@@ -9,7 +9,7 @@ use Rattle.xa_base.specs.declared.step.Outcome.TheVariants as Outcomes
 use Rattle.xa_coordinator.specs.Lines.{asked_in}
 use Rattle.xa_coordinator.specs.Performing.{Performs}
 use Rattle.xa_coordinator.specs.Releasing.{transaction_of}
-use Rattle.xa_coordinator.specs.Rows.{LogsRows, committed_by, is_among}
+use Rattle.xa_coordinator.specs.Rows.{LogsRows, committed_by, is_gtrid_among}
 use Rattle.xa_coordinator.specs.Serving.{HaveReplies, RepliesTo}
 use Rattle.xa_coordinator.specs.declared.coordinator.Coordinator.{Coordinator}
 use Rattle.xa_log.specs.Content.{Content}
@@ -55,6 +55,6 @@ abbrev pub VotedCommitsAreLogged : {L : Type 0} → (L → Moment) → Type 0
 VotedCommitsAreLogged {L} moment =
     (near : Bool) (votes : List (List ℕ)) (heard : List Response) (line : List ℕ) (gs : List Gtrid) (old mid new : Coordinator L) (g : Gtrid)
     → AreVotes votes heard gs → HaveReplies moment votes heard old mid → asked_in line ≡ Some (requests.Decide gs Outcomes.Commit)
-    → RepliesTo moment line mid responses.Decided new → is_among gs g ≡ true
+    → RepliesTo moment line mid responses.Decided new → is_gtrid_among gs g ≡ true
     → Honestly (moment (log_in old.session.manager)) (moment (log_in new.session.manager))
     (HoldsItsBook moment near old.session.manager → IsLogged (moment (log_in new.session.manager)).content g)

@@ -13,7 +13,7 @@ ghost use Rattle.xa_model.specs.Trace.{Origin};
 ghost use Rattle.xa_serve.specs.Following.{StandsAtStart};
 ghost use Rattle.xa_serve.specs.Logging.{HoldsItsBook, KeepsLog};
 ghost use Rattle.xa_serve.specs.Session.{IsReady};
-ghost use Rattle.xa_standings.specs.Explained.{IsOldLog};
+ghost use Rattle.xa_standings.specs.Explained.{HasOnlyOlderRows};
 ghost use Rattle.xa_tm.specs.Begins.{BeginsWith};
 ghost use Rattle.xa_tm.specs.Calls.{book_in, log_in};
 ghost use Rattle.xa_tm.specs.Release.{HoldsNothingOf, IsOver};
@@ -56,7 +56,7 @@ impl<L: DecisionLog + Drop> Coordinator<L> {
         ensures ready { IfOk result (λ c. IsReady c.session) }
         ensures stands { IfOk result (λ c. StandsAtStart threads rms c.session) }
         ensures old { IfOk result (λ c. (o : Origin) →
-            BeginsWith threads rms c.session.manager o → IsOldLog o) }
+            BeginsWith threads rms c.session.manager o → HasOnlyOlderRows o) }
         ensures count { IfOk result (λ c. c.session.happenings ≡ 0) }
         // What the log had.
         ensures owed { IfOk result (λ c.

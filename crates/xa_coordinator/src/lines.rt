@@ -3,7 +3,7 @@
 ghost use Rattle.std.specs.Prelude.{◌≡◌, ◌<◌, length, map, IfOk, OnErr, OnOk};
 ghost use Rattle.std.specs.Io.KnownBytes.{Appends};
 ghost use Rattle.std.specs.String.{string_bytes};
-ghost use Rattle.xa_coordinator.specs.Lines.{KeepsShort, ReadsLine, ReadsOne, alone, asked_in, cut_at_marks, is_nothing, requests_in};
+ghost use Rattle.xa_coordinator.specs.Lines.{KeepsShort, ReadsLine, ReadsOne, asked_in, cut_at_marks, is_nothing, lone_reply, requests_in};
 ghost use Rattle.xa_coordinator.specs.NamedLines.{line_read, line_written};
 ghost use Rattle.xa_files.specs.Outputs.{AppendsBeginning};
 ghost use Rattle.xa_names.specs.Lines.{line_renamed};
@@ -41,7 +41,7 @@ pub(crate) struct LineReply {
 impl LineReply {
     /// The reply to a line of one request.
     pub fn alone(reply: Response) -> LineReply
-        ensures { result ≡ alone reply }
+        ensures { result ≡ lone_reply reply }
     {
         LineReply { before: 0, reply }
     }

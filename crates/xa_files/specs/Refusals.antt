@@ -7,14 +7,14 @@ use Rattle.xa_files.specs.declared.refusal.Refusal.{Refusal}
 use Rattle.xa_files.specs.declared.refusal.Refusal.TheVariants.{Header, Step, Job, Memory}
 
 -- the fault of a run of the document
-abbrev pub fault_of : Refusal → RunFault
-fault_of (Header finding) = faults.Header
-fault_of (Step n finding) = faults.Step n
-fault_of (Job n finding) = faults.Job n
-fault_of Memory = faults.Memory
+abbrev pub document_fault_of : Refusal → RunFault
+document_fault_of (Header finding) = faults.Header
+document_fault_of (Step n finding) = faults.Step n
+document_fault_of (Job n finding) = faults.Job n
+document_fault_of Memory = faults.Memory
 
 -- What a reader returned, seen by `view`, is what the document gives, unless memory ran out: where it refuses, the refusal is one of the
 -- document's own fault.
-abbrev pub Reads : {X Y : Type 0} → (X → Y) → Result X Refusal → Result Y RunFault → Type 0
-Reads view (Ok x) read = read ≡ Ok (view x)
-Reads view (Err refusal) read = Fails (fault_of refusal) read
+abbrev pub ReadsDocument : {X Y : Type 0} → (X → Y) → Result X Refusal → Result Y RunFault → Type 0
+ReadsDocument view (Ok x) read = read ≡ Ok (view x)
+ReadsDocument view (Err refusal) read = Fails (document_fault_of refusal) read

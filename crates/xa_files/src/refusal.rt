@@ -1,7 +1,7 @@
 //! Why a document is refused.
 
 ghost use Rattle.std.specs.Prelude.{◌≡◌};
-ghost use Rattle.xa_files.specs.Refusals.{fault_of};
+ghost use Rattle.xa_files.specs.Refusals.{document_fault_of};
 ghost use Rattle.xa_files.specs.declared.refusal.Refusal.TheVariants.{Memory as WantsMemory};
 
 use crate::fault::RunFault;
@@ -24,7 +24,7 @@ pub enum Refusal<'a> {
 impl Refusal<'_> {
     /// The fault of a run of the document.
     pub fn fault(&self) -> RunFault
-        ensures { result ≡ fault_of self.now }
+        ensures { result ≡ document_fault_of self.now }
     {
         match self {
             Refusal::Header(_) => RunFault::Header,
@@ -36,7 +36,7 @@ impl Refusal<'_> {
 }
 
 impl<'a> From<Refusal<'a>> for RunFault {
-    ghost from_gives = { λ refusal fault. fault ≡ fault_of refusal };
+    ghost from_gives = { λ refusal fault. fault ≡ document_fault_of refusal };
 
     fn from(refusal: Refusal<'a>) -> RunFault {
         refusal.fault()

@@ -13,7 +13,7 @@ ghost use Rattle.xa_base.specs.declared.answer.Answer.{Answer};
 ghost use Rattle.xa_base.specs.declared.call.Call.{Call};
 ghost use Rattle.xa_base.specs.declared.step.Step.TheVariants.{Issue};
 ghost use Rattle.xa_line.specs.Histories.{AreKnownAs, HasGrown, LineStands, known, known_answered};
-ghost use Rattle.xa_line.specs.Traffic.{Traffic, is_full, issued, no_traffic};
+ghost use Rattle.xa_line.specs.Traffic.{Traffic, calls_issued, is_full, no_traffic};
 
 /// A line refuses a call exactly where a history does. This is a law; the function does nothing:
 ///
@@ -22,11 +22,11 @@ ghost use Rattle.xa_line.specs.Traffic.{Traffic, is_full, issued, no_traffic};
 /// - `full`: if as many calls wait, both are full alike.
 pub fn lines_as_in_histories()
     ensures not_open { (tr : Trace) (t r : ℕ) (c : Call Xid) (l : Traffic) →
-        AreKnownAs (issued l) (facts.issued tr (line t r)) →
-        comes_unopened (issued l) c ≡ applies tr (step_of (Issue t r c)) NotOpen }
+        AreKnownAs (calls_issued l) (facts.issued tr (line t r)) →
+        comes_unopened (calls_issued l) c ≡ applies tr (step_of (Issue t r c)) NotOpen }
     ensures on_closed { (tr : Trace) (t r : ℕ) (c : Call Xid) (l : Traffic) →
-        AreKnownAs (issued l) (facts.issued tr (line t r)) →
-        has_closed (issued l) ≡ applies tr (step_of (Issue t r c)) Closed }
+        AreKnownAs (calls_issued l) (facts.issued tr (line t r)) →
+        has_closed (calls_issued l) ≡ applies tr (step_of (Issue t r c)) Closed }
     ensures full { (tr : Trace) (t r : ℕ) (c : Call Xid) (l : Traffic) →
         length l.calls.waiting ≡ waiting tr (line t r) →
         is_full l ≡ applies tr (step_of (Issue t r c)) Full }

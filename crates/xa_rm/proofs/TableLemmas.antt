@@ -28,7 +28,7 @@ use Rattle.xa_base.specs.declared.state.Fate.TheVariants as Fates
 use Rattle.xa_base.specs.declared.state.Standing.{Standing}
 use Rattle.xa_base.specs.declared.state.Standing.TheVariants.{Unstarted, Active, Idle, Prepared, RollbackOnly, Completed, Committed, RolledBack, Lost, ReadOnly, Forgotten}
 use Rattle.xa_base.proofs.StateLemmas.{broken_in_doubt}
-use Rattle.xa_rm.specs.Branches.{IsIndex, Lists, held_at, branch_or_new}
+use Rattle.xa_rm.specs.Branches.{IsIndex, ListsIf, held_at, branch_or_new}
 use Rattle.xa_rm.specs.TableEntries.{held_branch, was_started}
 use Rattle.xa_rm.specs.ResourceManager.{HoldsFormat, HoldsNewer, HoldsNoFormat, HoldsPast, is_past, is_past_as, names_newer}
 use Rattle.xa_rm.specs.declared.table_entry.TableEntry.{TableEntry}
@@ -57,7 +57,7 @@ put_at false b had h o e f = f
 
 -- the index goes along
 pub index_after_put : {S : Type 0} (table new_table : HashMap Xid TableEntry S) (index new_index : BTreeSet Xid) (x : Xid) (h : TableEntry) (b : Bool) → IsIndex table index
-    → hashed.Updates xid_eq table new_table x (Some h) → Lists index new_index x b → b ≡ is_in_doubt h.standing
+    → hashed.Updates xid_eq table new_table x (Some h) → ListsIf index new_index x b → b ≡ is_in_doubt h.standing
     → IsIndex new_table new_index
 index_after_put table new_table index new_index x h b is_index put listed e = record {
   indexed = λ q.
@@ -67,7 +67,7 @@ index_after_put table new_table index new_index x h b is_index put listed e = re
 }
 
 -- an index lists what it lists
-pub lists_same : (index : BTreeSet Xid) (x : Xid) (b : Bool) → contains xid_cmp index x ≡ b → Lists index index x b
+pub lists_same : (index : BTreeSet Xid) (x : Xid) (b : Bool) → contains xid_cmp index x ≡ b → ListsIf index index x b
 lists_same index x b e y =
     elim (xid_eq x y) as (λ t. xid_eq x y ≡ t → contains xid_cmp index y ≡ (if t then b else contains xid_cmp index y)) [
       | true ↦ λ same. ap (contains xid_cmp index) (sym (xid_eq-same x y same)) ∙ e

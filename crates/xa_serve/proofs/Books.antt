@@ -10,7 +10,7 @@ use Rattle.xa_model.specs.Replies.Guards.{call_guards, first_guard}
 use Rattle.xa_model.specs.Replies.Steps.{Step}
 use Rattle.xa_model.specs.Replies.View.{view_of}
 use Rattle.xa_model.specs.Trace.{Happening, Origin, Trace, Trace.From, Trace.Then}
-use Rattle.xa_standings.specs.Explained.{IsOldLog}
+use Rattle.xa_standings.specs.Explained.{HasOnlyOlderRows}
 use Rattle.xa_tm.specs.Book.{Book, book_after, book_of, doubt_of_happening}
 use Rattle.xa_tm.specs.Laws.{IsLookedAt}
 use Rattle.xa_tm.specs.News.{Asked}
@@ -67,7 +67,7 @@ module _ (tr : Trace) (k : Book) (stands : BookStands tr k) where
 -- ** a start
 
 -- its rows and records are old, where its book's are
-pub old_log : (o : Origin) → IsOld (book_of (From o)) → IsOldLog o
+pub old_log : (o : Origin) → IsOld (book_of (From o)) → HasOnlyOlderRows o
 old_log o old = record {
   rows_old = λ g lists. old.rows g (has_row_is (From o) g ∙ lists);
   record_old = λ b has. old.records b (recorded_is (From o) b ∙ has);

@@ -22,7 +22,7 @@ use Rattle.xa_standings.specs.Seen.{HasAnswer, IsHistory, IsHistory.Hears, Keeps
 use Rattle.xa_standings.specs.Sessions.{Finds, Log.LeftBy}
 use Rattle.xa_tm.proofs.Log.Ties.{holds_record}
 use Rattle.xa_tm.specs.Book.{Book, after, book_after, doubt_of, recorded_with, records_with}
-use Rattle.xa_tm.specs.BookAndLog.{HoldsBook, MayHold, SameRows, changed_by}
+use Rattle.xa_tm.specs.BookAndLog.{HoldsBook, MayHold, SameRowsAndRecords, changed_by}
 use Rattle.xa_tm.specs.Calls.{book_in}
 use Rattle.xa_serve.specs.Answering.{IsFirst}
 use Rattle.xa_serve.specs.Following.{BookStands}
@@ -129,7 +129,7 @@ module _ (k : Book) (l : Line) (c : Call) (a : Answer) (up : k.up ≡ true) (con
         holds = (
           changed_by (doubt_of (record_of c a)) d,
           heard_holds k l c a d (before d holds),
-          inl (subst (λ x. SameRows content (changed_by x d)) doubt_is made.1),
+          inl (subst (λ x. SameRowsAndRecords content (changed_by x d)) doubt_is made.1),
         );
         least = has.least;
       })

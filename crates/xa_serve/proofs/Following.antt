@@ -10,7 +10,7 @@ use Rattle.xa_base.specs.declared.step.Outcome.TheVariants as Outcomes
 use Rattle.xa_base.specs.declared.step.Step.TheVariants as Steps
 use Rattle.xa_line.specs.Grid.{Grid, HasLine, IsWhole, line_at}
 use Rattle.xa_line.specs.Histories.{LineStands}
-use Rattle.xa_line.specs.Traffic.{Traffic, answered, heard, issued}
+use Rattle.xa_line.specs.Traffic.{Traffic, answered, answers_heard, calls_issued}
 use Rattle.xa_line.proofs.TrafficLaws.{line_goes_on}
 use Rattle.xa_model.specs.Facts as facts
 use Rattle.xa_model.specs.Facts.Distinct.{ApartRows}
@@ -40,8 +40,8 @@ pub line_stays : (tr : Trace) (e : Happening) (l : Line) (t : Traffic) → facts
     → facts.new_taken e l ≡ [] → facts.new_heard e l ≡ []
     → LineStands tr l t → LineStands (Then tr e) l t
 line_stays tr e l t b i a h stands =
-    line_goes_on tr e l t t [] [] [] stands b (sym (append-nil (issued t))) (rw i refl) (sym (append-nil (answered t))) (rw a refl)
-    (sym (append-nil (heard t))) (rw h refl) stands.each_answered
+    line_goes_on tr e l t t [] [] [] stands b (sym (append-nil (calls_issued t))) (rw i refl) (sym (append-nil (answered t))) (rw a refl)
+    (sym (append-nil (answers_heard t))) (rw h refl) stands.each_answered
 
 -- a happening of the manager alone is nothing to the lines and the resource managers
 pub record IsOwn (tr : Trace) (e : Happening) : Type 0 where

@@ -22,7 +22,7 @@ use Rattle.xa_model.specs.Trace.{Answer, Call, Name.Foreign, Name.Ours}
 use Rattle.xa_standings.specs.Seen.{HasAnswer}
 use Rattle.xa_tm.specs.Answering.{FitsRecord, IsAnswerTo, branch_asked}
 use Rattle.xa_tm.specs.News.{Asked}
-use Rattle.xa_serve.specs.Hearing.{can_hear, fits_row, heard_first, is_code_on, is_ok, with_answer}
+use Rattle.xa_serve.specs.Hearing.{can_hear, fits_row, heard_first, is_code_on, is_ok, with_answer_heard}
 
 both : (a b : Bool) → (a && b) ≡ true → (a ≡ true) × (b ≡ true)
 both true true e = (refl, refl)
@@ -119,5 +119,5 @@ first_heard : (t : Traffic) (waiting : List (Asking.Call Xid)) (answer : Given.A
 first_heard t [] answer e = e
 first_heard t (call ∷ rest) answer e = refl
 
-pub answer_heard : (t : Traffic) (answer : Given.Answer Xid) → t.answers.waiting ≡ [] → (with_answer t answer).answers.waiting ≡ []
+pub answer_heard : (t : Traffic) (answer : Given.Answer Xid) → t.answers.waiting ≡ [] → (with_answer_heard t answer).answers.waiting ≡ []
 answer_heard t answer e = first_heard t t.calls.waiting answer e

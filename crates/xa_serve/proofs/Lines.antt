@@ -10,9 +10,9 @@ use Rattle.xa_base.specs.declared.call.Call.{Call}
 use Rattle.xa_base.specs.declared.refusal.Refusal.{Refusal}
 use Rattle.xa_base.specs.declared.refusal.Refusal.TheVariants.{Busy, Closed, Full, Limit, ManagerDown, NotOpen, RmDown}
 use Rattle.xa_base.specs.declared.step.Step.TheVariants as Steps
-use Rattle.xa_line.specs.Grid.{Grid, HasLine, IsWhole, has_line, line_at, with_line}
+use Rattle.xa_line.specs.Grid.{Grid, HasLine, IsWhole, grid_has_line, line_at, with_line}
 use Rattle.xa_line.specs.Histories.{known}
-use Rattle.xa_line.specs.Traffic.{Traffic, barred, is_full, issued, opening_refusal, places, room_refusal}
+use Rattle.xa_line.specs.Traffic.{Traffic, barred, calls_issued, is_full, opening_refusal, places, room_refusal}
 use Rattle.xa_line.proofs.HistoryLaws.{closed_of_known, opened_of_known, unopened_of_known}
 use Rattle.xa_line.proofs.GridLaws.{line_at-with_line_other_rm, line_at-with_line_other_thread, line_at-with_line_same}
 use Rattle.xa_model.specs.Replies.Guards.{Guard, call_guards, first_guard, refusal_by}
@@ -46,20 +46,20 @@ lt_is m n e = grind (arith, nat_tests, e)
 -- what is so where a line may be told of
 pub record MayTell {L : Type 0} (s : Session L) (t r : ℕ) : Type 0 where
   pub free : is_over s ≡ false
-  pub there : has_line s.lines t r ≡ true
+  pub there : grid_has_line s.lines t r ≡ true
   pub has : HasLine s.lines t r
   pub up : (book_in s.manager).up ≡ true
 
 -- the book has the line exactly if the session has
 there_is : {L : Type 0} (s : Session L) (t r : ℕ)
-    → (nat_lt t (book_in s.manager).threads && nat_lt r (book_in s.manager).rms) ≡ has_line s.lines t r
+    → (nat_lt t (book_in s.manager).threads && nat_lt r (book_in s.manager).rms) ≡ grid_has_line s.lines t r
 there_is s t r = λ i. nat_lt t (s.sized.0 i) && nat_lt r (s.sized.1 i)
 
 -- what the table says of a line, by what it looks at
 abbrev pub line_why : (over there up : Bool) → Option Refusal
 line_why over there up = if over || not there then Some Limit else (if not up then Some ManagerDown else None)
 
-pub line_rule : {L : Type 0} (s : Session L) (t r : ℕ) → line_refusal s t r ≡ line_why (is_over s) (has_line s.lines t r) (book_in s.manager).up
+pub line_rule : {L : Type 0} (s : Session L) (t r : ℕ) → line_refusal s t r ≡ line_why (is_over s) (grid_has_line s.lines t r) (book_in s.manager).up
 line_rule s t r =
     by (is_over s) (nat_lt t (book_in s.manager).threads && nat_lt r (book_in s.manager).rms) (book_in s.manager).up
     ∙ ap (λ there. line_why (is_over s) there (book_in s.manager).up) (there_is s t r)
@@ -79,7 +79,7 @@ line_free true there up e = absurd (cc)
 
 pub may_tell : {L : Type 0} (s : Session L) (t r : ℕ) → line_refusal s t r ≡ None → MayTell s t r
 may_tell s t r none =
-    let parts = line_free (is_over s) (has_line s.lines t r) (book_in s.manager).up (sym (line_rule s t r) ∙ none) in
+    let parts = line_free (is_over s) (grid_has_line s.lines t r) (book_in s.manager).up (sym (line_rule s t r) ∙ none) in
     let there = both (nat_lt t s.lines.threads) (nat_lt r s.lines.rms) parts.1 in
     record { free = parts.0; there = parts.1; has = (lt_is _ _ there.0, lt_is _ _ there.1); up = parts.2 }
 
@@ -94,7 +94,7 @@ none_second (Some x) p e = absurd (cc)
 -- what the table says of a call: what it does of its line, what that line says, what the book does, and that there is room
 pub issue_rule : {L : Type 0} (s : Session L) (t r : ℕ) (call : Call Xid) → issue_refusal s t r call
     ≡ option_or (line_refusal s t r)
-    (option_or (barred (issued (line_at s.lines t r)) call)
+    (option_or (barred (calls_issued (line_at s.lines t r)) call)
     (option_or (refusal_in (book_in s.manager) (Steps.Issue t r (map_call name_of call))) (if is_full (line_at s.lines t r) then Some Full else None)))
 issue_rule s t r call =
     let v = view_in (book_in s.manager) in
@@ -104,9 +104,9 @@ issue_rule s t r call =
     let there = nat_lt t v.threads && nat_lt r v.rms in
     ap (λ o. if is_over s then Some Limit else o) (table_of_issue v (lines_seen s) t r asked)
     ∙ (λ i. if is_over s then Some Limit
-    else issue_why there v.up true (bar_of (unopened_of_known (issued at) call i) (closed_of_known (issued at) i)) why (is_full at))
-    ∙ by (is_over s) there v.up (barred (issued at) call) (call_guards v t r asked) (is_full at)
-    ∙ ap (λ o. option_or (line_refusal s t r) (option_or (barred (issued at) call) (option_or o (if is_full at then Some Full else None))))
+    else issue_why there v.up true (bar_of (unopened_of_known (calls_issued at) call i) (closed_of_known (calls_issued at) i)) why (is_full at))
+    ∙ by (is_over s) there v.up (barred (calls_issued at) call) (call_guards v t r asked) (is_full at)
+    ∙ ap (λ o. option_or (line_refusal s t r) (option_or (barred (calls_issued at) call) (option_or o (if is_full at then Some Full else None))))
     (sym (book_of_issue v t r asked))
   where
     by : (over there up : Bool) (bar : Option Refusal) (gs : List Guard) (full : Bool)
@@ -129,7 +129,7 @@ full_is n = by (nat_le places n) refl
 -- what is so where a call may wait
 pub record MayIssue {L : Type 0} (s : Session L) (t r : ℕ) (call : Call Xid) : Type 0 where
   pub tell : MayTell s t r
-  pub bar : barred (issued (line_at s.lines t r)) call ≡ None
+  pub bar : barred (calls_issued (line_at s.lines t r)) call ≡ None
   pub book : refusal_in (book_in s.manager) (Steps.Issue t r (map_call name_of call)) ≡ None
   pub room : is_full (line_at s.lines t r) ≡ false
 
@@ -141,7 +141,7 @@ pub may_issue_so : {L : Type 0} (s : Session L) (t r : ℕ) (call : Call Xid) �
 may_issue_so s t r call none =
     let full = if is_full (line_at s.lines t r) then Some Full else None in
     let book = refusal_in (book_in s.manager) (Steps.Issue t r (map_call name_of call)) in
-    let bar = barred (issued (line_at s.lines t r)) call in
+    let bar = barred (calls_issued (line_at s.lines t r)) call in
     let all = sym (issue_rule s t r call) ∙ none in
     let by_bar = none_second (line_refusal s t r) (option_or bar (option_or book full)) all in
     let by_book = none_second bar (option_or book full) by_bar in
@@ -156,7 +156,7 @@ may_issue_so s t r call none =
 
 -- why the line of the first thread takes no recovery of so many calls
 abbrev pub recovery_bar : Traffic → (calls : ℕ) → Option Refusal
-recovery_bar t n = option_or (opening_refusal (issued t)) (option_or (if awaits_page t then Some Busy else None) (room_refusal t n))
+recovery_bar t n = option_or (opening_refusal (calls_issued t)) (option_or (if awaits_page t then Some Busy else None) (room_refusal t n))
 
 pub recovery_rule : {L : Type 0} (s : Session L) (r n : ℕ)
     → recovery_refusal s r n ≡ option_or (line_refusal s 0 r) (recovery_bar (line_at s.lines 0 r) n)
@@ -166,9 +166,9 @@ recovery_rule s r n =
     let full = nat_lt places (length at.calls.waiting + n) in
     (λ i. behind_page (awaits_page at)
     (if is_over s then Some Limit
-    else refusal_by (has_line s.lines 0 r)
-    ((ManagerDown, not up) ∷ (RmDown, not true) ∷ (NotOpen, not (opened_of_known (issued at) i)) ∷ (Closed, closed_of_known (issued at) i) ∷ (Full, full) ∷ [])))
-    ∙ by (awaits_page at) (is_over s) (has_line s.lines 0 r) up (has_opened (issued at)) (has_closed (issued at)) full
+    else refusal_by (grid_has_line s.lines 0 r)
+    ((ManagerDown, not up) ∷ (RmDown, not true) ∷ (NotOpen, not (opened_of_known (calls_issued at) i)) ∷ (Closed, closed_of_known (calls_issued at) i) ∷ (Full, full) ∷ [])))
+    ∙ by (awaits_page at) (is_over s) (grid_has_line s.lines 0 r) up (has_opened (calls_issued at)) (has_closed (calls_issued at)) full
     ∙ ap (λ o. option_or o (recovery_bar at n)) (sym (line_rule s 0 r))
   where
     by : (awaited over there up opened closed full : Bool)
@@ -202,7 +202,7 @@ may_recover s r n none =
 -- ** the call that waits first
 
 -- as a history knows it
-pub waiting_known : (g : Grid) (t r : ℕ) (call : Call Xid) → has_line g t r ≡ true → slice_get (line_at g t r).calls.waiting 0 ≡ Some call
+pub waiting_known : (g : Grid) (t r : ℕ) (call : Call Xid) → grid_has_line g t r ≡ true → slice_get (line_at g t r).calls.waiting 0 ≡ Some call
     → known_waiting g t r ≡ known call
 waiting_known g t r call there first =
     ap (λ b. option_and_then known (if b then slice_get (line_at g t r).calls.waiting 0 else None)) there ∙ ap (option_and_then known) first
@@ -211,7 +211,7 @@ known_if_is : (o : Option (Call Xid)) → known_if o ≡ option_and_then known o
 known_if_is (Some call) = refl
 known_if_is None = refl
 
-pub waiting_if : (g : Grid) (t r : ℕ) (o : Option (Call Xid)) → has_line g t r ≡ true → o ≡ slice_get (line_at g t r).calls.waiting 0
+pub waiting_if : (g : Grid) (t r : ℕ) (o : Option (Call Xid)) → grid_has_line g t r ≡ true → o ≡ slice_get (line_at g t r).calls.waiting 0
     → known_if o ≡ known_waiting g t r
 waiting_if g t r o there first =
     known_if_is o ∙ ap (option_and_then known) first

@@ -26,7 +26,7 @@ use Rattle.xa_tm.proofs.Log.Ties.{SameOfLog, tied_same, up_content}
 use Rattle.xa_tm.proofs.Several.Contents.{changed_at, of_same}
 use Rattle.xa_tm.proofs.Several.Decisions.{all_kept, all_open, kept_up, written_new, written_up}
 use Rattle.xa_tm.specs.Book.{Book, Doubt, Doubt.Adds, Doubt.Drops, Waiting, after, after_all, book_after, doubt_of, failed_restarts_after, row_with, rows_for}
-use Rattle.xa_tm.specs.BookAndLog.{HoldsBook, IsChangeOf, IsTied, IsTiedDown, IsTiedUp, SameRows, TiedBy, changed_by}
+use Rattle.xa_tm.specs.BookAndLog.{HoldsBook, IsChangeOf, IsTied, IsTiedDown, IsTiedUp, SameRowsAndRecords, TiedBy, changed_by}
 use Rattle.xa_tm.specs.Calls.{AsksFor, FailsBy, IsOpenIn, book_in, log_in, written_by}
 use Rattle.xa_tm.specs.InTurn.{decide_refusal, done_refusal, rows_added}
 use Rattle.xa_tm.specs.LedgerBook.{IsSound}
@@ -390,7 +390,7 @@ reached k c tied = by k.up tied
 all_or_none : (near : Bool) (k : Book) (c : Content) → IsTied near k (Some c) → HasAllOrNone k.doubt k.row c
 all_or_none near k c tied = by k.up tied
   where
-    rows : (before : Content) → HoldsBook k before → SameRows c before ⊎ (IsChangeOf k.row k.doubt × SameRows c (changed_by k.doubt before))
+    rows : (before : Content) → HoldsBook k before → SameRowsAndRecords c before ⊎ (IsChangeOf k.row k.doubt × SameRowsAndRecords c (changed_by k.doubt before))
         → HasAllOrNone k.doubt k.row c
     rows before h (inl same) = inl (λ g. ap (λ m. get m g) same.decisions ∙ h.rows g)
     rows before h (inr made) = inr (λ g. ap (λ m. get m g) made.1.decisions

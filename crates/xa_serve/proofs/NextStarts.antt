@@ -11,7 +11,7 @@ use Rattle.xa_model.specs.Trace.{Fault, Happening.Failed, Origin, Trace, Trace.T
 use Rattle.xa_standings.specs.Seen.{Seen}
 use Rattle.xa_standings.specs.Sessions.{Finds, FindsLog, Log.LeftBy, MayFail}
 use Rattle.xa_tm.specs.Book.{Book, Doubt, book_after, book_of, doubt_of_happening}
-use Rattle.xa_tm.specs.BookAndLog.{IsTied, MayHold, SameRows, TiedBy}
+use Rattle.xa_tm.specs.BookAndLog.{IsTied, MayHold, SameRowsAndRecords, TiedBy}
 use Rattle.xa_tm.specs.Calls.{book_in}
 use Rattle.xa_tm.specs.Release.{HasReleased}
 use Rattle.xa_serve.specs.Following.{BookStands, StandsIn}
@@ -77,7 +77,7 @@ module _ (past : Trace) (k : Book) (stands : BookStands past k) (run : IsRun pas
       at : MayHoldRows past c
       at = may_hold_rows past c (whole_holds stands.0 (book_of past) k c stands.1 has.holds)
 
-      by : SameRows c at.0 ⊎ SameRows c (after_change (doubt past) at.0) → SameRows before at.0 ⊎ SameRows before (after_change (doubt past) at.0)
+      by : SameRowsAndRecords c at.0 ⊎ SameRowsAndRecords c (after_change (doubt past) at.0) → SameRowsAndRecords before at.0 ⊎ SameRowsAndRecords before (after_change (doubt past) at.0)
       by (inl same) = inl (record { decisions = same.decisions; heuristics = same.heuristics })
       by (inr same) = inr (record { decisions = same.decisions; heuristics = same.heuristics })
 

@@ -10,7 +10,7 @@ use Rattle.xa_base.specs.declared.call.Call as Asking
 use Rattle.xa_base.specs.declared.refusal.Refusal.TheVariants as Refusals
 use Rattle.xa_line.specs.Grid.{line_at}
 use Rattle.xa_line.specs.Histories.{known as known_call}
-use Rattle.xa_line.specs.Traffic.{Traffic, issued, opening_refusal, places, room_refusal}
+use Rattle.xa_line.specs.Traffic.{Traffic, calls_issued, opening_refusal, places, room_refusal}
 use Rattle.xa_line.proofs.HistoryLaws.{closed_known}
 use Rattle.xa_line.proofs.TrafficLaws.{same_length}
 use Rattle.xa_model.specs.Trace.{Call}
@@ -29,17 +29,17 @@ opening_so true true e = absurd (cc)
 opening_so false closed e = absurd (cc)
 
 -- the line is open, and isn't closed
-open_in : (at : Traffic) (n : ℕ) → recovery_bar at n ≡ None → (has_opened (issued at) ≡ true) × (has_closed (issued at) ≡ false)
+open_in : (at : Traffic) (n : ℕ) → recovery_bar at n ≡ None → (has_opened (calls_issued at) ≡ true) × (has_closed (calls_issued at) ≡ false)
 open_in at n none =
-    opening_so (has_opened (issued at)) (has_closed (issued at))
-    (none_first (opening_refusal (issued at)) (option_or (if awaits_page at then Some Refusals.Busy else None) (room_refusal at n)) none)
+    opening_so (has_opened (calls_issued at)) (has_closed (calls_issued at))
+    (none_first (opening_refusal (calls_issued at)) (option_or (if awaits_page at then Some Refusals.Busy else None) (room_refusal at n)) none)
 
-pub closed_in : (at : Traffic) (n : ℕ) → recovery_bar at n ≡ None → has_closed (issued at) ≡ false
+pub closed_in : (at : Traffic) (n : ℕ) → recovery_bar at n ≡ None → has_closed (calls_issued at) ≡ false
 closed_in at n none = (open_in at n none).1
 
 pub recovery_open : {L : Type 0} (s : Session L) (r n : ℕ) (x : Traffic) → recovery_refusal s r n ≡ None → x ≡ line_at s.lines 0 r
-    → has_opened (issued x) ≡ true
-recovery_open s r n x none is = ap (λ t. has_opened (issued t)) is ∙ (open_in (line_at s.lines 0 r) n (may_recover s r n none).1).0
+    → has_opened (calls_issued x) ≡ true
+recovery_open s r n x none is = ap (λ t. has_opened (calls_issued t)) is ∙ (open_in (line_at s.lines 0 r) n (may_recover s r n none).1).0
 
 -- and has room for its calls
 pub recovery_room : {L : Type 0} (s : Session L) (r n : ℕ) (ks : List Call) (calls : List (Asking.Call Xid)) (x : Traffic) (count : ℕ)
@@ -49,7 +49,7 @@ recovery_room s r n ks calls x count none are is len many =
     let at = line_at s.lines 0 r in
     let behind = option_or (if awaits_page at then Some Refusals.Busy else None) (room_refusal at n) in
     let room = none_second (if awaits_page at then Some Refusals.Busy else None) (room_refusal at n)
-    (none_second (opening_refusal (issued at)) behind (may_recover s r n none).1) in
+    (none_second (opening_refusal (calls_issued at)) behind (may_recover s r n none).1) in
     let fits = fits_so (length at.calls.waiting + n) room in
     let same = same_length known_call calls ks are in
     let here : length x.calls.waiting ≡ length at.calls.waiting = ap (λ (t : Traffic). length t.calls.waiting) is in
@@ -68,10 +68,10 @@ recovery_room s r n ks calls x count none are is len many =
 -- no call of it closes the line
 pub recovery_unclosed : {L : Type 0} (s : Session L) (r n : ℕ) (ks : List Call) (calls : List (Asking.Call Xid)) (x : Traffic)
     → recovery_refusal s r n ≡ None → map known_call calls ≡ map Some ks → x ≡ line_at s.lines 0 r → has_closed ks ≡ false
-    → has_closed (issued x ++ calls) ≡ false
+    → has_closed (calls_issued x ++ calls) ≡ false
 recovery_unclosed s r n ks calls x none are is plain =
     let at = line_at s.lines 0 r in
-    list_any-append closes (issued x) calls
-    ∙ unclosed _ _ (ap (λ t. has_closed (issued t)) is
+    list_any-append closes (calls_issued x) calls
+    ∙ unclosed _ _ (ap (λ t. has_closed (calls_issued t)) is
     ∙ closed_in at n (may_recover s r n none).1)
     (closed_known calls ks are ∙ plain)

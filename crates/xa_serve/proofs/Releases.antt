@@ -10,14 +10,14 @@ use Rattle.xa_tm.specs.declared.manager.Manager.{Manager}
 use Rattle.xa_serve.specs.Following.{BookStands, StandsIn}
 use Rattle.xa_serve.specs.Headroom.{HasHeadroom, first_headroom}
 use Rattle.xa_serve.specs.Session.{IsReady}
-use Rattle.xa_serve.specs.Sizes.{IsSized}
+use Rattle.xa_serve.specs.Sizes.{HasItsLines}
 use Rattle.xa_serve.specs.declared.session.Session.{Session}
 use Rattle.xa_serve.proofs.Books.{book_left}
 use Rattle.xa_serve.proofs.Headroom.{releases_keep_headroom}
 use Rattle.xa_serve.proofs.Logging.{kept_as, quiet_keeps, same_released}
 use Rattle.xa_serve.specs.Logging.{KeepsLog}
 
-module _ {L : Type 0} (s : Session L) (m : Manager L) (sized : IsSized (book_in m) s.lines) (g : Gtrid) (done : Bool) (over : done ≡ true → IsOver (book_in s.manager) g)
+module _ {L : Type 0} (s : Session L) (m : Manager L) (sized : HasItsLines (book_in m) s.lines) (g : Gtrid) (done : Bool) (over : done ≡ true → IsOver (book_in s.manager) g)
     (released : done ≡ true → book_in m ≡ book_without g (book_in s.manager)) (same : done ≡ false → m ≡ s.manager) where
   -- what is so of the book, and stays so without a transaction that is over, is so of the new one
   stays : (P : Book → Type 0) → (IsOver (book_in s.manager) g → P (book_in s.manager) → P (book_without g (book_in s.manager))) → P (book_in s.manager)

@@ -21,7 +21,7 @@ use Rattle.xa_tm.specs.Refusing.{service_refusal_in, view_in}
 use Rattle.xa_tm.specs.declared.manager.Manager.{Manager}
 use Rattle.xa_serve.specs.Following.{StaysAs}
 use Rattle.xa_serve.specs.Headroom.{HasHeadroom, MayHappen, first_headroom}
-use Rattle.xa_serve.specs.Sizes.{IsSized}
+use Rattle.xa_serve.specs.Sizes.{HasItsLines}
 use Rattle.xa_serve.specs.Session.{AllHeard, IsReady, begin_refusal, happenings_by, has_room_for, is_over, lines_by, lines_seen, refusal_at, refusal_of_all}
 use Rattle.xa_serve.specs.declared.session.Session.{Session}
 use Rattle.xa_serve.proofs.Headroom.{MayHappenInTurn, headroom_kept, headroom_kept_by_all}
@@ -168,16 +168,16 @@ same_session a b manager lines monitor count = λ i. record {
   lines = lines i;
   monitor = monitor i;
   happenings = count i;
-  sized = is_prop→PathP (λ j. IsSized (book_in (manager j)) (lines j)) (λ j p q k. (ℕ_set _ _ p.0 q.0 k, ℕ_set _ _ p.1 q.1 k)) a.sized b.sized i;
+  sized = is_prop→PathP (λ j. HasItsLines (book_in (manager j)) (lines j)) (λ j p q k. (ℕ_set _ _ p.0 q.0 k, ℕ_set _ _ p.1 q.1 k)) a.sized b.sized i;
 }
 
 -- ** sizes
 
 -- no happening changes the book's size
-pub sized_by : {L : Type 0} (s : Session L) (k : Book) → k ≡ book_in s.manager → IsSized k s.lines
+pub sized_by : {L : Type 0} (s : Session L) (k : Book) → k ≡ book_in s.manager → HasItsLines k s.lines
 sized_by s k same = (ap (λ (k : Book). k.threads) same ∙ s.sized.0, ap (λ (k : Book). k.rms) same ∙ s.sized.1)
 
-pub sized_after : {L : Type 0} (s : Session L) (k : Book) (asked : Doubt) (e : Happening) → k ≡ book_after (book_in s.manager) asked e → IsSized k s.lines
+pub sized_after : {L : Type 0} (s : Session L) (k : Book) (asked : Doubt) (e : Happening) → k ≡ book_after (book_in s.manager) asked e → HasItsLines k s.lines
 sized_after s k asked e same = (ap (λ (k : Book). k.threads) same ∙ s.sized.0, ap (λ (k : Book). k.rms) same ∙ s.sized.1)
 
 -- nor do several in turn
@@ -187,7 +187,7 @@ size_after_all (e ∷ es) k = size_after_all es (after k e)
 
 -- nor a call that fails
 pub sized_by_failure : {L : Type 0} (s : Session L) (k : Book) (asked : Doubt) (f : Fault) (q : Refusal) → FailsBy asked f (book_in s.manager) k q
-    → IsSized k s.lines
+    → HasItsLines k s.lines
 sized_by_failure s k asked f q (inl memory) = sized_by s k memory.1
 sized_by_failure s k asked f q (inr fell) = sized_after s k asked (Failed f) fell.1
 
@@ -195,13 +195,13 @@ sized_by_failure s k asked f q (inr fell) = sized_after s k asked (Failed f) fel
 pub sized_by_call : {L : Type 0} (s : Session L) (m : Manager L) (why : Option Refusal) (asked : Doubt) (f : Fault) (es : List Happening)
     (reply : Result (Unit {0}) Refusal) → ((n : Refusal) → why ≡ Some n → (reply ≡ Err n) × (m ≡ s.manager))
     → OnOk reply (book_in m ≡ after_all (book_in s.manager) es)
-    → (why ≡ None → IfErr reply (FailsBy asked f (book_in s.manager) (book_in m))) → IsSized (book_in m) s.lines
+    → (why ≡ None → IfErr reply (FailsBy asked f (book_in s.manager) (book_in m))) → HasItsLines (book_in m) s.lines
 sized_by_call s m why asked f es (Ok u) refused is fails =
     let size = size_after_all es (book_in s.manager) in
     (ap (λ (k : Book). k.threads) is ∙ size.0 ∙ s.sized.0, ap (λ (k : Book). k.rms) is ∙ size.1 ∙ s.sized.1)
 sized_by_call s m why asked f es (Err q) refused is fails = by why refl
   where
-    by : (o : Option Refusal) → why ≡ o → IsSized (book_in m) s.lines
+    by : (o : Option Refusal) → why ≡ o → HasItsLines (book_in m) s.lines
     by (Some n) some = sized_by s (book_in m) (ap book_in (refused n some).1)
     by None none = sized_by_failure s (book_in m) asked f q (fails none)
 

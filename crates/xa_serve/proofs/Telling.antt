@@ -17,9 +17,9 @@ use Rattle.xa_base.specs.declared.refusal.Refusal.TheVariants as Refusals
 use Rattle.xa_base.specs.declared.reply.Reply.TheVariants as Replies
 use Rattle.xa_base.specs.declared.step.Part.TheVariants as Parts
 use Rattle.xa_base.specs.declared.step.Step.TheVariants as Steps
-use Rattle.xa_line.specs.Grid.{Grid, HasLine, IsWhole, has_line, line_at, with_line}
+use Rattle.xa_line.specs.Grid.{Grid, HasLine, IsWhole, grid_has_line, line_at, with_line}
 use Rattle.xa_line.specs.Histories.{LineStands, known as known_call, known_answered}
-use Rattle.xa_line.specs.Traffic.{PassesOn, Traffic, answered, heard, issued, no_traffic, taken, with_more, with_one_more}
+use Rattle.xa_line.specs.Traffic.{PassesOn, Traffic, answered, answers_heard, calls_issued, calls_taken, no_traffic, with_more, with_one_more}
 use Rattle.xa_line.proofs.GridLaws.{line_at-with_line_other_rm, line_at-with_line_other_thread, line_at-with_line_same, whole-with_line}
 use Rattle.xa_line.proofs.TrafficLaws.{as_many_calls, line_goes_on, line_renewed, next_answer_waits, next_call_waits, same_length}
 use Rattle.xa_line.proofs.FlowLaws.{all_of-PassesOn}
@@ -36,14 +36,14 @@ use Rattle.xa_model.specs.Trace.{Answer as KnownAnswer, Call, Happening, Happeni
 use Rattle.xa_model.proofs.Keys.{line_eq-refl}
 use Rattle.xa_model.proofs.Replies.Guards.{bar_of, issue_rule, issue_why}
 use Rattle.xa_model.proofs.Replies.Replies.{allowed_right}
-use Rattle.xa_standings.specs.Agreement.{call_at}
+use Rattle.xa_standings.specs.Agreement.{waiting_call_at}
 use Rattle.xa_tm.specs.Book.{Doubt.NoDoubt, after, book_after, doubt_of_happening}
 use Rattle.xa_tm.specs.Calls.{book_in}
 use Rattle.xa_tm.specs.News.{Asked}
 use Rattle.xa_tm.specs.Refusing.{resolved_in, resolved_open_in}
 use Rattle.xa_tm.proofs.History.Recovery.{resolved_is, resolved_open_is}
 use Rattle.xa_serve.specs.Following.{AreRight, BookStands, LeadsTo, LeadsByAnswer, LeadsByLoss, StandsIn}
-use Rattle.xa_serve.specs.Hearing.{heard_first, with_answer}
+use Rattle.xa_serve.specs.Hearing.{heard_first, with_answer_heard}
 use Rattle.xa_serve.specs.Session.{LetsWait, known_at, known_waiting, recovery_refusal}
 use Rattle.xa_serve.specs.declared.session.Session.{Session}
 use Rattle.xa_serve.proofs.Books.{book_goes, call_allowed, resolves_alike, resolves_open_alike, up_alike}
@@ -92,7 +92,7 @@ known_first f (Some a) None e = absurd (cc)
 known_first f (Some a) (Some b) e = sym (some_is (f a) (Some b) e)
 
 -- the call that waits first on a line of a session does by each history in which the session stands
-pub first_waits : {L : Type 0} (s : Session L) (tr : Trace) (t r : ℕ) → StandsIn tr s → HasLine s.lines t r → has_line s.lines t r ≡ true
+pub first_waits : {L : Type 0} (s : Session L) (tr : Trace) (t r : ℕ) → StandsIn tr s → HasLine s.lines t r → grid_has_line s.lines t r ≡ true
     → facts.next_call tr (line t r) ≡ known_waiting s.lines t r
 first_waits s tr t r stands has there =
     let at = line_at s.lines t r in
@@ -106,19 +106,19 @@ get_behind (x ∷ xs) ys n =
     ap (slice_get (x ∷ (xs ++ ys))) (let same : suc (length xs) + n ≡ suc (length xs + n) = omega arith in same) ∙ get_behind xs ys n
 
 -- and so does each call behind it
-pub call_waits : {L : Type 0} (s : Session L) (tr : Trace) (t r n : ℕ) → StandsIn tr s → HasLine s.lines t r → has_line s.lines t r ≡ true
-    → call_at tr (line t r) n ≡ known_at s.lines t r n
+pub call_waits : {L : Type 0} (s : Session L) (tr : Trace) (t r n : ℕ) → StandsIn tr s → HasLine s.lines t r → grid_has_line s.lines t r ≡ true
+    → waiting_call_at tr (line t r) n ≡ known_at s.lines t r n
 call_waits s tr t r n stands has there =
     let l = line t r in
     let at = line_at s.lines t r in
     let here = stands.lines t r has in
-    let gone : length (facts.taken tr l) ≡ length (taken at) =
+    let gone : length (facts.taken tr l) ≡ length (calls_taken at) =
     sym (same_length known_answered (answered at) (facts.taken tr l) here.all_answered) ∙ sym (ap length here.each_answered ∙ length-map (answered at) (λ p. p.0)) in
-    let same : option_map known_call (slice_get at.calls.waiting n) ≡ option_map Some (call_at tr l n) =
-    ap (option_map known_call) (sym (get_behind (taken at) at.calls.waiting n)) ∙ sym (slice_get-map known_call (issued at) (length (taken at) + n))
-    ∙ ap (λ m. slice_get (map known_call (issued at)) (m + n)) (sym gone) ∙ ap (λ zs. slice_get zs (length (facts.taken tr l) + n)) here.all_issued
+    let same : option_map known_call (slice_get at.calls.waiting n) ≡ option_map Some (waiting_call_at tr l n) =
+    ap (option_map known_call) (sym (get_behind (calls_taken at) at.calls.waiting n)) ∙ sym (slice_get-map known_call (calls_issued at) (length (calls_taken at) + n))
+    ∙ ap (λ m. slice_get (map known_call (calls_issued at)) (m + n)) (sym gone) ∙ ap (λ zs. slice_get zs (length (facts.taken tr l) + n)) here.all_issued
     ∙ slice_get-map Some (facts.issued tr l) (length (facts.taken tr l) + n) in
-    known_first known_call (slice_get at.calls.waiting n) (call_at tr l n) same
+    known_first known_call (slice_get at.calls.waiting n) (waiting_call_at tr l n) same
     ∙ ap (λ b. option_and_then known_call (if b then slice_get at.calls.waiting n else None)) (sym there)
 
 -- a session stands in a history but for one line
@@ -161,7 +161,7 @@ beside_taken tr t r s k a stands right = record {
 }
 
 module _ {L : Type 0} (old new : Session L) (t r : ℕ) where
-  there_in : (tr : Trace) → StandsIn tr old → has_line old.lines t r ≡ true
+  there_in : (tr : Trace) → StandsIn tr old → grid_has_line old.lines t r ≡ true
       → (nat_lt t (facts.origin tr).threads && nat_lt r (facts.origin tr).rms) ≡ true
   there_in tr stands there = (λ i. nat_lt t (sym stands.threads i) && nat_lt r (sym stands.rms i)) ∙ there
 
@@ -206,8 +206,8 @@ issued_line : (tr : Trace) (t r : ℕ) (c : Call) (call : Asking.Call Xid) (old 
     → LineStands tr (line t r) old → LineStands (Then tr (Issued (line t r) c)) (line t r) (record old { calls = with_one_more old.calls call })
 issued_line tr t r c call old is stands =
     line_goes_on tr (Issued (line t r) c) (line t r) old (record old { calls = with_one_more old.calls call }) (call ∷ []) [] [] stands refl
-    (sym (append_assoc (taken old) old.calls.waiting (call ∷ []))) (rw (is, line_eq-refl (line t r)) refl)
-    (sym (append-nil (answered old))) refl (sym (append-nil (heard old))) refl stands.each_answered
+    (sym (append_assoc (calls_taken old) old.calls.waiting (call ∷ []))) (rw (is, line_eq-refl (line t r)) refl)
+    (sym (append-nil (answered old))) refl (sym (append-nil (answers_heard old))) refl stands.each_answered
 
 unbarred : (shut closed : Bool) → (if shut then Some Refusals.NotOpen else (if closed then Some Refusals.Closed else None)) ≡ None
     → (shut ≡ false) × (closed ≡ false)
@@ -224,9 +224,9 @@ module _ {L : Type 0} (old new : Session L) (t r : ℕ) (call : Asking.Call Xid)
       let here = stands.lines t r may.tell.has in
       let there = there_in old new t r tr stands may.tell.there in
       let up = up_in old new t r tr stands may.tell.up in
-      let bar = unbarred (comes_unopened (issued at) call) (has_closed (issued at)) may.bar in
-      let open_so = sym (unopened_known (issued at) (facts.issued tr (line t r)) call here.all_issued) ∙ bar.0 in
-      let unclosed = sym (closed_known (issued at) (facts.issued tr (line t r)) here.all_issued) ∙ bar.1 in
+      let bar = unbarred (comes_unopened (calls_issued at) call) (has_closed (calls_issued at)) may.bar in
+      let open_so = sym (unopened_known (calls_issued at) (facts.issued tr (line t r)) call here.all_issued) ∙ bar.0 in
+      let unclosed = sym (closed_known (calls_issued at) (facts.issued tr (line t r)) here.all_issued) ∙ bar.1 in
       let none = call_allowed tr (book_in old.manager) stands.book stands.run t r a may.book in
       let room = ap (nat_le 64) (sym (as_many_calls tr (line t r) at here)) ∙ may.room in
       issue_rule (view_of tr) (lines_of tr) t r a
@@ -271,8 +271,8 @@ first_is (y ∷ ys) x e = (ys, ap (λ z. z ∷ ys) (some_is y x e))
 none_unheard : (tr : Trace) (l : Line) (at : Traffic) → LineStands tr l at → at.answers.waiting ≡ []
     → length (facts.heard tr l) ≡ length (facts.taken tr l)
 none_unheard tr l at stands none =
-    sym (same_length known_answered (heard at) (facts.heard tr l) stands.all_heard)
-    ∙ ap length (sym (append-nil (heard at)) ∙ ap (λ ws. heard at ++ ws) (sym none))
+    sym (same_length known_answered (answers_heard at) (facts.heard tr l) stands.all_heard)
+    ∙ ap length (sym (append-nil (answers_heard at)) ∙ ap (λ ws. answers_heard at ++ ws) (sym none))
     ∙ same_length known_answered (answered at) (facts.taken tr l) stands.all_answered
 
 some_seen : {A : Type 0} (o : Option A) (x : A) → Some (Some x) ≡ option_map Some o → o ≡ Some x
@@ -300,11 +300,11 @@ module _ (tr : Trace) (l : Line) (k : Call) (call : Asking.Call Xid) (answer : G
   pub took_line : LineStands (Then tr (Took l k given)) l mid
   took_line =
       line_goes_on tr (Took l k given) l at mid [] ((call, answer) ∷ []) [] stands refl
-      (all_of-PassesOn at.calls call mid.calls passes ∙ sym (append-nil (issued at))) refl
-      (sym (append_assoc (heard at) at.answers.waiting ((call, answer) ∷ []))) (rw (is, line_eq-refl l) refl)
-      (sym (append-nil (heard at))) refl
+      (all_of-PassesOn at.calls call mid.calls passes ∙ sym (append-nil (calls_issued at))) refl
+      (sym (append_assoc (answers_heard at) at.answers.waiting ((call, answer) ∷ []))) (rw (is, line_eq-refl l) refl)
+      (sym (append-nil (answers_heard at))) refl
       (ap (λ xs. xs ++ call ∷ []) stands.each_answered
-      ∙ sym (ap (map (λ p. p.0)) (sym (append_assoc (heard at) at.answers.waiting ((call, answer) ∷ []))) ∙ map-append (λ p. p.0) (answered at)
+      ∙ sym (ap (map (λ p. p.0)) (sym (append_assoc (answers_heard at) at.answers.waiting ((call, answer) ∷ []))) ∙ map-append (λ p. p.0) (answered at)
       ((call, answer) ∷ [])))
 
   pub waits_answered : facts.next_answer (Then tr (Took l k given)) l ≡ Some (k, given)
@@ -318,7 +318,7 @@ module _ (tr : Trace) (l : Line) (k : Call) (call : Asking.Call Xid) (answer : G
       let after = heard_first at (call ∷ rest) answer in
       let passed : PassesOn mid.answers (call, answer) after.answers = record { oldest = ap (λ ws. ws ++ (call, answer) ∷ []) none; through = refl } in
       line_goes_on (Then tr (Took l k given)) (Heard l k given) l mid after [] [] ((call, answer) ∷ []) took_line refl
-      (sym (append-nil (issued mid))) refl
+      (sym (append-nil (calls_issued mid))) refl
       (all_of-PassesOn mid.answers (call, answer) after.answers passed ∙ sym (append-nil (answered mid))) refl
       refl (rw (is, line_eq-refl l) refl)
       (took_line.each_answered ∙ ap (map (λ q. q.0)) (sym (all_of-PassesOn mid.answers (call, answer) after.answers passed)))
@@ -329,7 +329,7 @@ module _ {L : Type 0} (old new : Session L) (t r : ℕ) (call : Asking.Call Xid)
 
   pub answered_follows : MayTell old t r → slice_get (line_at old.lines t r).calls.waiting 0 ≡ Some call → accepted (map_call name_of call) ≡ Some k
       → (line_at old.lines t r).answers.waiting ≡ [] → book_in new.manager ≡ after (book_in old.manager) (Heard (line t r) k told)
-      → new.lines ≡ with_line old.lines t r (with_answer (line_at old.lines t r) answer) → LeadsByAnswer (line t r) k told old new
+      → new.lines ≡ with_line old.lines t r (with_answer_heard (line_at old.lines t r) answer) → LeadsByAnswer (line t r) k told old new
   answered_follows may first is none book lines tr stands =
       let l = line t r in
       let at = line_at old.lines t r in
@@ -343,10 +343,10 @@ module _ {L : Type 0} (old new : Session L) (t r : ℕ) (call : Asking.Call Xid)
         λ sound.
             let right : Right (Then tr took) e = (up_in old new t r tr stands may.up, waits_answered tr l k call answer head.0 at here is head.1 none) in
             let run : IsRun (Then tr took) = (stands.run, (next, sound)) in
-            let put : LineStands (Then (Then tr took) e) l (with_answer at answer) =
+            let put : LineStands (Then (Then tr took) e) l (with_answer_heard at answer) =
             subst (λ ws. LineStands (Then (Then tr took) e) l (heard_first at ws answer)) (sym head.1)
             (heard_line tr l k call answer head.0 at here is head.1 none) in
-            let stand = lines_with (Then (Then tr took) e) old.lines t r (with_answer at answer) stands.whole may.has put
+            let stand = lines_with (Then (Then tr took) e) old.lines t r (with_answer_heard at answer) stands.whole may.has put
             (λ u q has_u apart. line_stays (Then tr took) e (line u q) (line_at old.lines u q) refl refl refl (rw apart refl)
             (line_stays tr took (line u q) (line_at old.lines u q) refl refl (rw apart refl) refl (stands.lines u q has_u))) in (
               right,
@@ -355,7 +355,7 @@ module _ {L : Type 0} (old new : Session L) (t r : ℕ) (call : Asking.Call Xid)
                 apart = stands.apart;
                 threads = ap (λ g. g.threads) lines ∙ stands.threads;
                 rms = ap (λ g. g.rms) lines ∙ stands.rms;
-                whole = subst IsWhole (sym lines) (whole-with_line old.lines t r (with_answer at answer) stands.whole);
+                whole = subst IsWhole (sym lines) (whole-with_line old.lines t r (with_answer_heard at answer) stands.whole);
                 rms_up = λ q. stands.rms_up q;
                 book = book_goes (Then tr took) (book_in old.manager) stands.book e _ run right stands.apart tt book;
                 lines =
@@ -372,8 +372,8 @@ more_issued : (tr : Trace) (e : Happening) (l : Line) (old : Traffic) (calls : L
     → map known_call calls ≡ map Some (facts.new_calls tr e l) → LineStands (Then tr e) l (record old { calls = with_more old.calls calls })
 more_issued tr e l old calls stands unbroken no_taken no_heard are =
     line_goes_on tr e l old (record old { calls = with_more old.calls calls }) calls [] [] stands unbroken
-    (sym (append_assoc (taken old) old.calls.waiting calls)) are
-    (sym (append-nil (answered old))) (rw no_taken refl) (sym (append-nil (heard old))) (rw no_heard refl) stands.each_answered
+    (sym (append_assoc (calls_taken old) old.calls.waiting calls)) are
+    (sym (append-nil (answered old))) (rw no_taken refl) (sym (append-nil (answers_heard old))) (rw no_heard refl) stands.each_answered
 
 -- what a recovery is to the lines and the resource managers
 record IsRecovery (tr : Trace) (e : Happening) (r : ℕ) (calls : List Call) : Type 0 where
@@ -414,7 +414,7 @@ module _ {L : Type 0} (old new : Session L) (r : ℕ) where
   unclosed_in : (tr : Trace) (n : ℕ) → StandsIn tr old → recovery_refusal old r n ≡ None → facts.is_closed tr (line 0 r) ≡ false
   unclosed_in tr n stands none =
       let may = may_tell old 0 r (may_recover old r n none).0 in
-      sym (closed_known (issued (line_at old.lines 0 r)) (facts.issued tr (line 0 r)) (stands.lines 0 r may.has).all_issued)
+      sym (closed_known (calls_issued (line_at old.lines 0 r)) (facts.issued tr (line 0 r)) (stands.lines 0 r may.has).all_issued)
       ∙ closed_in (line_at old.lines 0 r) n (may_recover old r n none).1
 
   recovery_goes : (tr : Trace) (e : Happening) (n : ℕ) (known : List Call) (calls : List (Asking.Call Xid)) → StandsIn tr old → Right tr e

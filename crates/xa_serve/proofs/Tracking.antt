@@ -2,7 +2,7 @@
 use Rattle.std.proofs.Common.{◌≡◌, ◌∙◌, ◌<◌, ◌&&◌, ℕ, suc, true, List, [], ◌∷◌, length, Option, ap, arith, refl, subst, sym}
 use Rattle.std.specs.Prelude.{All, nat_lt}
 use Rattle.std.proofs.lemmas.Bool.Decides.{nat_tests}
-use Rattle.xa_line.specs.Grid.{HasLine, IsWhole, line_at, has_line}
+use Rattle.xa_line.specs.Grid.{HasLine, IsWhole, line_at, grid_has_line}
 use Rattle.xa_line.specs.Histories.{LineStands}
 use Rattle.xa_model.specs.Protocol.{IsRun}
 use Rattle.xa_model.specs.Trace.{Answer, Branch, Call, Happening, Line, Origin, Trace, Trace.Then, line}
@@ -132,7 +132,7 @@ calls_tracked o seen s keeps t r n lt lr tr history run =
     let rms : s.lines.rms ≡ o.rms = stands.rms ∙ ap (λ (p : Origin). p.rms) begins in
     let of_threads : t < s.lines.threads = subst (λ n. t < n) (sym threads) lt in
     let of_rms : r < s.lines.rms = subst (λ n. r < n) (sym rms) lr in
-    let there : has_line s.lines t r ≡ true = λ i. lt_so t s.lines.threads of_threads i && lt_so r s.lines.rms of_rms i in
+    let there : grid_has_line s.lines t r ≡ true = λ i. lt_so t s.lines.threads of_threads i && lt_so r s.lines.rms of_rms i in
     call_waits s tr t r n stands (of_threads, of_rms) there
 
 -- it stands wherever it stood, where it stays as it was

@@ -7,7 +7,7 @@ use Rattle.xa_model.specs.Facts.{next_call, origin, rm_up}
 use Rattle.xa_model.specs.Facts.Distinct.{ApartRows}
 use Rattle.xa_model.specs.Protocol.{IsRun, OldOrigin, Right, SoundAnswer}
 use Rattle.xa_model.specs.Trace.{Answer, Call, Happening, Happening.Heard, Happening.Took, Line, Origin, Trace, Trace.From, Trace.Then, line}
-use Rattle.xa_standings.specs.Monitor.{Hears, Loses, Monitors, SaysTheSame}
+use Rattle.xa_standings.specs.Monitor.{HearsAnswer, Loses, Monitors, SaysTheSame}
 use Rattle.xa_standings.specs.Seen.{Seen.Start, Waits, break_of}
 use Rattle.xa_tm.specs.Begins.{BeginsWith}
 use Rattle.xa_tm.specs.Book.{Book, book_of}
@@ -82,7 +82,7 @@ Follows e old new = FollowsAll (e ∷ []) old new
 pub record FollowsAnswer {L : Type 0} (l : Line) (c : Call) (a : Answer) (old new : Session L) : Type 0 where
   pub leads : LeadsByAnswer l c a old new
   pub counted : new.happenings ≡ old.happenings + 1
-  pub states : Hears l c a old.monitor new.monitor
+  pub states : HearsAnswer l c a old.monitor new.monitor
 
 -- it follows the loss of a line, and counts it, and its monitor follows it
 pub record FollowsLoss {L : Type 0} (l : Line) (c : Option Call) (old new : Session L) : Type 0 where

@@ -66,5 +66,5 @@ heard_first t (call ∷ rest) answer = record {
   answers = record { gone = t.answers.gone ++ (call, answer) ∷ []; waiting = [] };
 }
 
-abbrev pub with_answer : Traffic → Given Xid → Traffic
-with_answer t answer = heard_first t t.calls.waiting answer
+abbrev pub with_answer_heard : Traffic → Given Xid → Traffic
+with_answer_heard t answer = heard_first t t.calls.waiting answer

@@ -7,5 +7,5 @@ use Rattle.xa_serve.specs.contracts.session_lines.SessionLines as Lines
 use Rattle.xa_serve.specs.contracts.session_line.SessionLine as Line
 
 -- once the loan is over, the line has the traffic that was written there last, and the others are as they were
-abbrev pub LendsLine : MutBor Grid → (thread rm : ℕ) → MutBor Traffic → Fml
-LendsLine g t r result = Lends Lines.the_row Line.the_row g result (λ l. with_line g.now t r l)
+abbrev pub LendsSessionLine : MutBor Grid → (thread rm : ℕ) → MutBor Traffic → Fml
+LendsSessionLine g t r result = Lends Lines.the_row Line.the_row g result (λ l. with_line g.now t r l)

@@ -13,7 +13,7 @@ use Rattle.xa_base.specs.declared.refusal.Refusal.TheVariants.{Busy, Full, Limit
 use Rattle.xa_base.specs.declared.step.Outcome.{Outcome}
 use Rattle.xa_base.specs.declared.step.Part.TheVariants as Parts
 use Rattle.xa_base.specs.declared.step.Step.TheVariants as Steps
-use Rattle.xa_line.specs.Grid.{Grid, HasLine, has_line, line_at, new_grid, with_line}
+use Rattle.xa_line.specs.Grid.{Grid, HasLine, grid_has_line, line_at, new_grid, with_line}
 use Rattle.xa_line.specs.Histories.{AreKnownAs, known, lines_in}
 use Rattle.xa_line.specs.Traffic.{Traffic, with_more}
 use Rattle.xa_model.specs.Replies.Guards.{recovery_guards, refusal_by, refusal_of}
@@ -71,12 +71,12 @@ abbrev pub refusal_of_all : {L : Type 0} → Session L → (of_manager : Book �
 refusal_of_all s of_manager gs = if has_room_for s (length gs) then of_manager (book_in s.manager) gs else Some Limit
 
 -- why it refuses to decide these transactions so
-abbrev pub decide_refusal : {L : Type 0} → Session L → Outcome → List Gtrid → Option Refusal
-decide_refusal s outcome gs = refusal_of_all s (turns.decide_refusal outcome) gs
+abbrev pub decide_all_refusal : {L : Type 0} → Session L → Outcome → List Gtrid → Option Refusal
+decide_all_refusal s outcome gs = refusal_of_all s (turns.decide_refusal outcome) gs
 
 -- why it refuses that these are done
-abbrev pub done_refusal : {L : Type 0} → Session L → List Gtrid → Option Refusal
-done_refusal s gs = refusal_of_all s turns.done_refusal gs
+abbrev pub done_all_refusal : {L : Type 0} → Session L → List Gtrid → Option Refusal
+done_all_refusal s gs = refusal_of_all s turns.done_refusal gs
 
 -- why it refuses a thread's begin, the first reason that applies
 abbrev pub begin_refusal : {L : Type 0} → Session L → (thread : ℕ) → Option Refusal
@@ -99,7 +99,7 @@ lines_by _ g = g
 
 -- the call that waits first on the line; none where the session has no such line
 abbrev pub first_waiting : Grid → (thread rm : ℕ) → Option (Call Xid)
-first_waiting g t r = if has_line g t r then slice_get (line_at g t r).calls.waiting 0 else None
+first_waiting g t r = if grid_has_line g t r then slice_get (line_at g t r).calls.waiting 0 else None
 
 -- the same as a history knows it
 abbrev pub known_waiting : Grid → (thread rm : ℕ) → Option KnownCall
@@ -107,7 +107,7 @@ known_waiting g t r = option_and_then known (first_waiting g t r)
 
 -- the call that waits on the line behind so many others, as a history knows it
 abbrev pub known_at : Grid → (thread rm : ℕ) → ℕ → Option KnownCall
-known_at g t r n = option_and_then known (if has_line g t r then slice_get (line_at g t r).calls.waiting n else None)
+known_at g t r n = option_and_then known (if grid_has_line g t r then slice_get (line_at g t r).calls.waiting n else None)
 
 -- why it refuses whatever is told of a line: as its loss, so an answer
 abbrev pub line_refusal : {L : Type 0} → Session L → (thread rm : ℕ) → Option Refusal
@@ -137,7 +137,7 @@ abbrev pub recovery_refusal : {L : Type 0} → Session L → (rm calls : ℕ) �
 recovery_refusal s r n =
     behind_page (awaits_page (line_at s.lines 0 r))
     (if is_over s then Some Limit
-    else refusal_by (has_line s.lines 0 r) (recovery_guards (view_in (book_in s.manager)) (lines_seen s) r n))
+    else refusal_by (grid_has_line s.lines 0 r) (recovery_guards (view_in (book_in s.manager)) (lines_seen s) r n))
 
 -- of one that ends what was listed, and of one that first rolls back what is open of that
 abbrev pub resolve_refusal : {L : Type 0} → Session L → (rm : ℕ) → Option Refusal

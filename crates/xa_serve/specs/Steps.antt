@@ -24,8 +24,8 @@ use Rattle.xa_tm.specs.Refusing.{resolved_in, resolved_open_in}
 use Rattle.xa_tm.specs.Release.{HoldsNothingOf, IsOver, book_without}
 use Rattle.xa_serve.specs.Answering.{FailsToHear, HearsAs, IsFirst, IsFoundLater}
 use Rattle.xa_serve.specs.Following.{Follows, FollowsAll, FollowsLoss, StandsIn, StaysAs}
-use Rattle.xa_serve.specs.Hearing.{with_answer}
-use Rattle.xa_serve.specs.Session.{BranchExplains, IsExplainable, LetsWait, begin_refusal, decide_refusal, done_refusal, issue_refusal, known_waiting, line_refusal, lines_by, refusal_at, resolve_open_refusal, resolve_refusal, unfit}
+use Rattle.xa_serve.specs.Hearing.{with_answer_heard}
+use Rattle.xa_serve.specs.Session.{BranchExplains, IsExplainable, LetsWait, begin_refusal, decide_all_refusal, done_all_refusal, issue_refusal, known_waiting, line_refusal, lines_by, refusal_at, resolve_open_refusal, resolve_refusal, unfit}
 use Rattle.xa_serve.specs.declared.session.Session.{Session}
 use Rattle.xa_serve.specs.declared.session.answers.Unfit.{Unfit}
 use Rattle.xa_serve.specs.declared.session.answers.Unfit.TheVariants as Unfits
@@ -63,8 +63,8 @@ abbrev pub Happens : {L : Type 0} → Happening → (old new : Session L) → Ty
 Happens e old new = HappenInTurn (e ∷ []) old new
 
 -- the transaction that is begun next
-abbrev pub next_gtrid : Book → Gtrid
-next_gtrid k = record { incarnation = k.incarnation; sequence = k.sequence + 1 }
+abbrev pub next_gtrid_in : Book → Gtrid
+next_gtrid_in k = record { incarnation = k.incarnation; sequence = k.sequence + 1 }
 
 -- ** decisions
 
@@ -73,7 +73,7 @@ module _ {L : Type 0} where
   pub record Begins (thread : ℕ) (old new : Session L) (result : Result Gtrid Refusal) : Type 0 where
     pub rules : ObeysRules (begin_refusal old thread) old new result
     pub quiet : IsQuiet (begin_refusal old thread) old new result
-    pub next : IfOk result (λ g. g ≡ next_gtrid (book_in old.manager))
+    pub next : IfOk result (λ g. g ≡ next_gtrid_in (book_in old.manager))
     pub begun : IfOk result (λ g. Happens (Begun g) old new)
 
   -- it is claimed
@@ -90,8 +90,8 @@ module _ {L : Type 0} where
 
   -- these are decided so
   pub record Decides (gs : List Gtrid) (outcome : Outcome) (old new : Session L) (result : Result (Unit {0}) Refusal) : Type 0 where
-    pub rules : ObeysRules (decide_refusal old outcome gs) old new result
-    pub asks : AsksLog (decide_refusal old outcome gs)
+    pub rules : ObeysRules (decide_all_refusal old outcome gs) old new result
+    pub asks : AsksLog (decide_all_refusal old outcome gs)
         (FailsBy (Adds (rows_for (book_in old.manager) (written_by outcome (book_in old.manager) gs)))
         (InDecide (written_by outcome (book_in old.manager) gs))) old new result
     pub decided : OnOk result (HappenInTurn (map (λ g. Decided g outcome) gs) old new)
@@ -106,8 +106,8 @@ module _ {L : Type 0} where
 
   -- the rows of these leave the log
   pub record Finishes (gs : List Gtrid) (old new : Session L) (result : Result (Unit {0}) Refusal) : Type 0 where
-    pub rules : ObeysRules (done_refusal old gs) old new result
-    pub asks : AsksLog (done_refusal old gs) (FailsBy (Drops gs) (InDone gs)) old new result
+    pub rules : ObeysRules (done_all_refusal old gs) old new result
+    pub asks : AsksLog (done_all_refusal old gs) (FailsBy (Drops gs) (InDone gs)) old new result
     pub done : OnOk result (HappenInTurn (map (λ g. Done g) gs) old new)
 
 -- ** calls
@@ -131,7 +131,7 @@ module _ {L : Type 0} where
     pub unexplained : (b : Branch) → result ≡ Err (Unfits.NoSuchState b) → (BranchExplains old thread rm answer b → ⊥) × (new ≡ old)
     pub explained : unfit old thread rm answer ≡ None → ((b : Branch) → result ≢ Err (Unfits.NoSuchState b)) → IsExplainable old thread rm answer
     pub heard : OnOk result ((c : KnownCall) → IsFirst old thread rm c → HearsAs thread rm c (map_answer name_of answer) old new)
-    pub lines : OnOk result (new.lines ≡ with_line old.lines thread rm (with_answer (line_at old.lines thread rm) answer))
+    pub lines : OnOk result (new.lines ≡ with_line old.lines thread rm (with_answer_heard (line_at old.lines thread rm) answer))
     -- else it is as no state explains it, or memory is refused or the log fails
     pub only : unfit old thread rm answer ≡ None → IfErr result IsFoundLater
     pub fails : (n : Refusal) → result ≡ Err (Unfits.Refused n) → unfit old thread rm answer ≡ None → (c : KnownCall) → IsFirst old thread rm c

@@ -13,7 +13,7 @@ use Rattle.xa_model.specs.Protocol.{IsRun}
 use Rattle.xa_model.specs.Replies.History.{name_of}
 use Rattle.xa_model.specs.Trace.{Answer, Call, Fault, Fault.InDecide, Fault.InDone, Fault.InHear, Happening, Happening.Failed, Line, Origin, Trace, line}
 use Rattle.xa_standings.specs.Agreement.{WaitsAt}
-use Rattle.xa_standings.specs.Explained.{IsExplained, IsOldLog}
+use Rattle.xa_standings.specs.Explained.{HasOnlyOlderRows, IsExplained}
 use Rattle.xa_standings.specs.Monitor.{Monitors}
 use Rattle.xa_standings.specs.Seen.{HasAnswer, IsHistory, IsManagers, KeepsRules, Seen, Seen.Answered, Seen.Did, Seen.Lost, Seen.Start}
 use Rattle.xa_standings.specs.Sessions.{Finds, Log.LeftBy, MayFail}
@@ -138,4 +138,4 @@ FailedAnswersAreFound L =
 
 -- What a session keeps track of, from an old log, has a right history.
 abbrev pub SessionsAreExplained : Type 0 → Type 0
-SessionsAreExplained L = (o : Origin) (seen : Seen) (s : Session L) → IsOldLog o → KeepsTrack o seen s → IsExplained o seen
+SessionsAreExplained L = (o : Origin) (seen : Seen) (s : Session L) → HasOnlyOlderRows o → KeepsTrack o seen s → IsExplained o seen

@@ -1,7 +1,7 @@
 //! A session: the manager over its log, the lines, and the monitor of the branches. A file for each family of requests.
 
 ghost use Rattle.xa_tm.specs.Calls.{book_in};
-ghost use Rattle.xa_serve.specs.Sizes.{IsSized};
+ghost use Rattle.xa_serve.specs.Sizes.{HasItsLines};
 
 pub(crate) mod answers;
 mod calls;
@@ -38,10 +38,10 @@ pub struct Session<L: Drop> {
 
 impl<L: DecisionLog + Drop> Session<L> {
     ghost use Rattle.std.specs.Prelude.{◌≡◌, Bool, true, Err, IfOk, IsSomeAnd};
-    ghost use Rattle.xa_line.specs.Grid.{has_line, new_grid};
+    ghost use Rattle.xa_line.specs.Grid.{grid_has_line, new_grid};
     ghost use Rattle.xa_log.specs.Contract.{Honestly};
     ghost use Rattle.xa_model.specs.Trace.{Origin};
-    ghost use Rattle.xa_standings.specs.Explained.{IsOldLog};
+    ghost use Rattle.xa_standings.specs.Explained.{HasOnlyOlderRows};
     ghost use Rattle.xa_tm.specs.Begins.{BeginsWith};
     ghost use Rattle.xa_tm.specs.Calls.{log_in};
     ghost use Rattle.xa_tm.specs.Started.{IsStarted, IsStartedOver};
@@ -64,7 +64,7 @@ impl<L: DecisionLog + Drop> Session<L> {
         ensures count { IfOk result (λ s. s.0.happenings ≡ 0) }
         ensures stands { IfOk result (λ s. StandsAtStart threads rms s.0) }
         ensures old { IfOk result (λ s. (o : Origin) → BeginsWith threads rms s.0.manager o →
-            IsOldLog o) }
+            HasOnlyOlderRows o) }
         // The log that was handed in: its rows and its records, and its incarnation, which is raised.
         ensures started { IfOk result (λ s. IsStarted threads rms s.0.manager) }
         ensures over { IfOk result (λ s.
@@ -145,7 +145,7 @@ impl<L: DecisionLog + Drop> Session<L> {
 
     /// Whether there is a line of the thread to the resource manager.
     pub fn has_line(&self, thread: u32, rm: u32) -> bool
-        ensures { result ≡ has_line self.now.lines thread rm }
+        ensures { result ≡ grid_has_line self.now.lines thread rm }
     {
         self.lines.has(thread, rm)
     }

@@ -1,8 +1,8 @@
 //! The line of one thread of a session to one resource manager.
 
 ghost use Rattle.std.specs.Prelude.{◌≡◌, []};
-ghost use Rattle.xa_line.specs.Traffic.{issued};
-ghost use Rattle.xa_serve.specs.Hearing.{with_answer};
+ghost use Rattle.xa_line.specs.Traffic.{calls_issued};
+ghost use Rattle.xa_serve.specs.Hearing.{with_answer_heard};
 
 use std::marker::Model;
 use xa_base::{Answer, Call, LINE_LIMIT, Refusal};
@@ -18,13 +18,13 @@ pub struct SessionLine {
 impl Model for SessionLine {
     ghost use Rattle.std.specs.Prelude.{◌≡◌, IfSome, true, unwrap_or};
     ghost use Rattle.xa_base.specs.Opening.{has_opened};
-    ghost use Rattle.xa_line.specs.Traffic.{Traffic, issued, no_traffic};
+    ghost use Rattle.xa_line.specs.Traffic.{Traffic, calls_issued, no_traffic};
 
     ghost Value = { Traffic };
 
     ghost view = { λ l. unwrap_or l.line no_traffic };
 
-    ghost invariant = { λ l. IfSome l.line (λ line. has_opened (issued line) ≡ true) };
+    ghost invariant = { λ l. IfSome l.line (λ line. has_opened (calls_issued line) ≡ true) };
 }
 
 impl SessionLine {
@@ -46,7 +46,7 @@ impl SessionLine {
     /// Lets a call wait, as [`Line::issue`] does. The first xa_open takes the room.
     pub(crate) fn issue(&mut self, call: Call, room: Option<Line>) -> Result<(), Refusal>
         requires new { IfSome room (λ line. line ≡ no_traffic) }
-        requires made { room ≡ None → has_opened (issued self.old) ≡ true }
+        requires made { room ≡ None → has_opened (calls_issued self.old) ≡ true }
         ensures reason { result_err result ≡ refusal self.old call }
         ensures accepted { OnOk result (self.new ≡
             record self.old { calls = with_one_more self.old.calls call }) }
@@ -77,7 +77,7 @@ impl SessionLine {
     /// The call that waits first is taken, answered and heard.
     pub(crate) fn answer_first(&mut self, answer: Answer)
         requires { self.old.answers.waiting ≡ [] }
-        ensures { self.new ≡ with_answer self.old answer }
+        ensures { self.new ≡ with_answer_heard self.old answer }
     {
         if let Some(line) = &mut self.line {
             answer_first(line, answer);
@@ -103,14 +103,14 @@ impl SessionLine {
 
     /// Whether an xa_open was issued since the line was new or renewed. A closed line is open too.
     pub(crate) fn is_open(&self) -> bool
-        ensures { result ≡ has_opened (issued self.now) }
+        ensures { result ≡ has_opened (calls_issued self.now) }
     {
         self.line.is_some()
     }
 
     /// Says why a call may not follow those that were issued, as [`Line::check`] does.
     pub(crate) fn check(&self, call: &Call) -> Result<(), Refusal>
-        ensures { result_err result ≡ barred (issued self.now) call.now }
+        ensures { result_err result ≡ barred (calls_issued self.now) call.now }
     {
         if let Some(line) = &self.line {
             return line.check(call);
@@ -123,7 +123,7 @@ impl SessionLine {
 
     /// The same for any call but xa_open.
     pub(crate) fn check_open(&self) -> Result<(), Refusal>
-        ensures { result_err result ≡ opening_refusal (issued self.now) }
+        ensures { result_err result ≡ opening_refusal (calls_issued self.now) }
     {
         match &self.line {
             Some(line) => line.check_open(),
@@ -145,8 +145,8 @@ impl SessionLine {
     /// Lets these calls wait, in turn, as [`Line::issue_all`] does.
     pub(crate) fn issue_all(&mut self, calls: Vec<Call>)
         requires room { length self.old.calls.waiting + vec_len calls ≤ places }
-        requires open { has_opened (issued self.old) ≡ true }
-        requires unclosed { has_closed (issued self.old ++ calls.items) ≡ false }
+        requires open { has_opened (calls_issued self.old) ≡ true }
+        requires unclosed { has_closed (calls_issued self.old ++ calls.items) ≡ false }
         ensures { self.new ≡ record self.old { calls = with_more self.old.calls calls.items } }
     {
         if let Some(line) = &mut self.line {
@@ -158,8 +158,8 @@ impl SessionLine {
 /// The call that waits first is taken, answered and heard.
 fn answer_first(line: &mut Line, answer: Answer)
     requires { line.old.answers.waiting ≡ [] }
-    ensures value { line.new ≡ with_answer line.old answer }
-    ensures issued { issued line.new ≡ issued line.old }
+    ensures value { line.new ≡ with_answer_heard line.old answer }
+    ensures issued { calls_issued line.new ≡ calls_issued line.old }
 {
     if let Some(call) = line.take() {
         let _ = line.answer(call, answer);

@@ -29,10 +29,10 @@ impl Model for SessionLines {
 impl SessionLines {
     ghost use Rattle.std.specs.Prelude.{◌≡◌, ◌+◌, ◌*◌, ◌<◌, length, IfOk, IfSome, None, true};
     ghost use Rattle.std.specs.Borrow.{sem};
-    ghost use Rattle.xa_line.specs.Grid.{HasLine, IsWhole, has_line, line_at, new_grid, place};
+    ghost use Rattle.xa_line.specs.Grid.{HasLine, IsWhole, grid_has_line, line_at, new_grid, place};
     ghost use Rattle.xa_base.specs.Opening.{has_opened};
-    ghost use Rattle.xa_line.specs.Traffic.{issued, no_traffic};
-    ghost use Rattle.xa_serve.specs.Lending.{LendsLine};
+    ghost use Rattle.xa_line.specs.Traffic.{calls_issued, no_traffic};
+    ghost use Rattle.xa_serve.specs.Lending.{LendsSessionLine};
 
     /// The lines of so many threads to so many resource managers, all of them new.
     pub(crate) fn new(alloc: Global, threads: u32, rms: u32) -> Result<SessionLines, Memory>
@@ -69,7 +69,7 @@ impl SessionLines {
 
     /// Whether there is a line of the thread to the resource manager.
     pub(crate) fn has(&self, thread: u32, rm: u32) -> bool
-        ensures value { result ≡ has_line self.now thread rm }
+        ensures value { result ≡ grid_has_line self.now thread rm }
         ensures whole { IsWhole self.now }
     {
         thread < self.threads && rm < self.rms
@@ -100,7 +100,7 @@ impl SessionLines {
         requires { HasLine self.now thread rm }
         ensures new { IfOk result (λ room. IfSome room (λ line. line ≡ no_traffic)) }
         ensures made { IfOk result (λ room. room ≡ None →
-            has_opened (issued (line_at self.now thread rm)) ≡ true) }
+            has_opened (calls_issued (line_at self.now thread rm)) ≡ true) }
     {
         if self.line(thread, rm).is_open() {
             return Ok(None);

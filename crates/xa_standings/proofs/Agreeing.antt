@@ -11,9 +11,9 @@ use Rattle.xa_model.specs.Promises.Agreement.{IsUndone}
 use Rattle.xa_model.specs.Promises.Processes.{Resumes, resumed}
 use Rattle.xa_model.specs.Protocol.{AllRight, OldOrigin}
 use Rattle.xa_model.specs.Trace.{Answer, Branch, Call, Happening, Happening.Begun, Happening.Claimed, Happening.Decided, Happening.Done, Happening.Issued, Happening.Nothing, Happening.Resolved, Happening.ResolvedOpen, Line, Origin, Trace, Trace.Then, line_eq}
-use Rattle.xa_standings.specs.Across.{IsKnownAsLeft, behind}
+use Rattle.xa_standings.specs.Across.{IsKnownAsLeft, continued_by}
 use Rattle.xa_standings.specs.Agreement.{HaveCome, MayAllStand, OwnStandAlike, StandAlike, StandSo}
-use Rattle.xa_standings.specs.Explained.{IsOldLog}
+use Rattle.xa_standings.specs.Explained.{HasOnlyOlderRows}
 use Rattle.xa_standings.specs.Seen.{Alone, IsHistory, IsHistory.Does, IsHistory.Hears, IsHistory.Loses, IsHistory.LosesAnswer, IsHistory.Starts, IsManagers, KeepsRules, Seen}
 use Rattle.xa_standings.specs.Standings.{Comes, MayStand}
 use Rattle.xa_standings.proofs.Books.{same_books}
@@ -86,7 +86,7 @@ history_heard o _ _ l keeps (LosesAnswer seen tr now k c a h alone) =
 
 -- ** so they agree
 
-pub agreed : (o : Origin) (seen : Seen) → IsOldLog o → KeepsRules o seen → (f : Branch → Standing) → StandSo o seen f → OwnStandAlike o.incarnation f
+pub agreed : (o : Origin) (seen : Seen) → HasOnlyOlderRows o → KeepsRules o seen → (f : Branch → Standing) → StandSo o seen f → OwnStandAlike o.incarnation f
 agreed o seen old keeps f so b c own same committed undone =
     own_alike r.now r.runs b c (subst (λ i. i ≤ b.gtrid.incarnation) (sym r.start) own) same (r.there b ∙ committed)
     (subst IsUndone (sym (r.there c)) undone)
@@ -139,10 +139,10 @@ pub agreed_across : (past : Trace) (o : Origin) (seen : Seen) → AllRight past 
     → ((b : Branch) → IsKnownAsLeft past o b) → (f : Branch → Standing) → HaveCome o seen f → StandAlike f
 agreed_across past o seen a resumes old keeps known f so b c same committed undone =
     let whole = (behind_right past o r.now a resumes r.start r.runs).0 in
-    are_alike (behind (resumed past o) r.now) whole b c same (there b ∙ committed) (subst IsUndone (sym (there c)) undone)
+    are_alike (continued_by (resumed past o) r.now) whole b c same (there b ∙ committed) (subst IsUndone (sym (there c)) undone)
   where
     r : LeavesThere o seen (λ p. p ≡ o) so.done so.cut f
     r = from_known o seen old keeps so.done so.cut f so.may
 
-    there : (b : Branch) → standing (behind (resumed past o) r.now) b ≡ f b
+    there : (b : Branch) → standing (continued_by (resumed past o) r.now) b ≡ f b
     there b = same_there past o r.now a resumes r.start r.runs b (known b) ∙ r.there b

@@ -12,10 +12,10 @@ use Rattle.xa_base.specs.declared.state.Standing.{Standing}
 use Rattle.xa_model.specs.Replies.History.{name_by}
 use Rattle.xa_model.specs.Replies.Steps.{ours_of}
 use Rattle.xa_model.specs.Trace.{Branch, Call, Code}
-use Rattle.xa_standings.specs.Entries.{branch_asked}
-use Rattle.xa_standings.specs.Monitor.{Leads, known}
-use Rattle.xa_standings.specs.Standings.{ExplainsIf, Takes}
-use Rattle.xa_standings.specs.States.{Asked, LeadsInto, LeadsOnto, has}
+use Rattle.xa_standings.specs.Entries.{branch_in_call}
+use Rattle.xa_standings.specs.Monitor.{LeadsExactly, known}
+use Rattle.xa_standings.specs.Standings.{ExplainsAsked, ExplainsIf}
+use Rattle.xa_standings.specs.States.{LeadsInto, LeadsOnto, MovesAsAsked, has}
 use Rattle.xa_standings.specs.declared.states.States.{States}
 
 -- ** the branch of a call
@@ -33,7 +33,7 @@ named call make k x None e a m = OnNone (λ c is. let no : None ≡ Some c = sym
 unnamed : (call : Waiting Xid) (d : Call) → known call ≡ Some d → asks_of d ≡ None → Asks call None
 unnamed call d e a = OnNone (λ c is. let same : d ≡ c = let both : Some d ≡ Some c = sym e ∙ is in cc in ap asks_of (sym same) ∙ a)
 
-pub asked : (call : Waiting Xid) → Asks call (branch_asked call)
+pub asked : (call : Waiting Xid) → Asks call (branch_in_call call)
 asked Calls.OpenRm = unnamed Calls.OpenRm Calls.OpenRm refl refl
 asked Calls.CloseRm = unnamed Calls.CloseRm Calls.CloseRm refl refl
 asked (Calls.Start x join) = named (Calls.Start x join) (λ b. Calls.Start b join) (start_kind join) x (branch_of_xid x) refl refl (λ b. refl)
@@ -49,7 +49,7 @@ asked (Calls.Recover n s e) = unnamed (Calls.Recover n s e) (Calls.Recover n s e
 pub one_leads : (before after : Branch → States) (Step : Branch → Standing → Standing → Type 0) (b : Branch) (states : States)
     → ((q : Branch) → after q ≡ (if branch_eq b q then states else before q)) → LeadsInto (before b) (Step b) states → LeadsOnto (before b) (Step b) states
     → ((q : Branch) → branch_eq b q ≡ false → (f g : Standing) → Step q f g → g ≡ f)
-    → ((q : Branch) → branch_eq b q ≡ false → (f : Standing) → Step q f f) → Leads before Step after
+    → ((q : Branch) → branch_eq b q ≡ false → (f : Standing) → Step q f f) → LeadsExactly before Step after
 one_leads before after Step b states e into onto only stays = record {
   into = λ q f g h step. ap (λ z. has z (state_of g)) (e q) ∙ into_by q (branch_eq b q) refl f g h step;
   onto = λ q t h. onto_by q (branch_eq b q) refl t (sym (ap (λ z. has z t) (e q)) ∙ h);
@@ -63,21 +63,21 @@ one_leads before after Step b states e into onto only stays = record {
     onto_by q true p = subst (λ z. LeadsOnto (before z) (Step z) states) (branch_eq-true b q p) onto
     onto_by q false p = λ t h. (t, h, λ f w. (f, stays q p f, w))
 
-pub asked_here : {X : Type 0} (k : Kind) (b : Branch) (x : X) (a : Code) (f g : Standing) → Takes (Some (k, b)) a b f g → Asked (Some (k, x)) a f g
+pub asked_here : {X : Type 0} (k : Kind) (b : Branch) (x : X) (a : Code) (f g : Standing) → ExplainsAsked (Some (k, b)) a b f g → MovesAsAsked (Some (k, x)) a f g
 asked_here k b x a f g step = subst (λ t. ExplainsIf t f k a g) (branch_eq-refl b) step
 
-pub takes_here : {X : Type 0} (k : Kind) (b : Branch) (x : X) (a : Code) (f g : Standing) → Asked (Some (k, x)) a f g → Takes (Some (k, b)) a b f g
+pub takes_here : {X : Type 0} (k : Kind) (b : Branch) (x : X) (a : Code) (f g : Standing) → MovesAsAsked (Some (k, x)) a f g → ExplainsAsked (Some (k, b)) a b f g
 takes_here k b x a f g step = subst (λ t. ExplainsIf t f k a g) (sym (branch_eq-refl b)) step
 
-pub takes_away : (k : Kind) (b q : Branch) (a : Code) → branch_eq b q ≡ false → (f g : Standing) → Takes (Some (k, b)) a q f g → g ≡ f
+pub takes_away : (k : Kind) (b q : Branch) (a : Code) → branch_eq b q ≡ false → (f g : Standing) → ExplainsAsked (Some (k, b)) a q f g → g ≡ f
 takes_away k b q a n f g step = subst (λ t. ExplainsIf t f k a g) n step
 
-pub stays_away : (k : Kind) (b q : Branch) (a : Code) → branch_eq b q ≡ false → (f : Standing) → Takes (Some (k, b)) a q f f
+pub stays_away : (k : Kind) (b q : Branch) (a : Code) → branch_eq b q ≡ false → (f : Standing) → ExplainsAsked (Some (k, b)) a q f f
 stays_away k b q a n f = subst (λ t. ExplainsIf t f k a f) (sym n) refl
 
 -- the same states, where nothing is asked
 pub same_lead : (before after : Branch → States) (Step : Branch → Standing → Standing → Type 0) → ((q : Branch) → after q ≡ before q)
-    → ((q : Branch) (f g : Standing) → Step q f g → g ≡ f) → ((q : Branch) (f : Standing) → Step q f f) → Leads before Step after
+    → ((q : Branch) (f g : Standing) → Step q f g → g ≡ f) → ((q : Branch) (f : Standing) → Step q f f) → LeadsExactly before Step after
 same_lead before after Step e only stays = record {
   into = λ q f g h step. ap (λ z. has z (state_of g)) (e q) ∙ (ap (λ z. has (before q) (state_of z)) (only q f g step) ∙ h);
   onto = λ q t h. (t, sym (ap (λ z. has z t) (e q)) ∙ h, λ f p. (f, stays q f, p));

@@ -10,11 +10,11 @@ use Rattle.xa_base.specs.declared.state.Standing.TheVariants.{Prepared}
 use Rattle.xa_model.specs.Facts.{lists_row}
 use Rattle.xa_model.specs.Protocol.{IsRun}
 use Rattle.xa_model.specs.Trace.{Answer, Branch, Call, Happening.Took, Line, Name, Origin, Trace, Trace.Then, line_eq}
-use Rattle.xa_standings.specs.Agreement.{IsLineOf, MayAllStand, MayAllStand.AsTold, MayAllStand.CutOff, MayAllStand.EndedAlone, MayAllStand.UnderWay, WaitsAt, WasDone, call_at, times}
+use Rattle.xa_standings.specs.Agreement.{IsLineOf, MayAllStand, MayAllStand.AsTold, MayAllStand.CutOff, MayAllStand.EndedAlone, MayAllStand.UnderWay, WaitsAt, WasDone, times, waiting_call_at}
 use Rattle.xa_standings.specs.Explained.{IsExplained}
 use Rattle.xa_standings.specs.Seen.{HasAnswer, IsHistory, IsHistory.Hears, Seen, Seen.Answered}
 use Rattle.xa_standings.specs.Sessions.{AfterSessions, AfterSessions.Between, AfterSessions.NoneYet, AfterSessions.OneMore, Finds, IsSession, Log, Log.LeftBy, WasFoundDecided}
-use Rattle.xa_standings.specs.Standings.{Comes, Explained, Takes}
+use Rattle.xa_standings.specs.Standings.{Comes, Explained, ExplainsAsked}
 use Rattle.xa_standings.proofs.UntoldCalls.{alone_calls, heard_calls, one_if, taken_calls}
 use Rattle.xa_standings.proofs.Names.{alone_ran}
 use Rattle.xa_standings.proofs.ReachedStandings.{IsReached, none_reached, explained, one_more, between}
@@ -48,7 +48,7 @@ module _ (o : Origin) (seen : Seen) (l : Line) (c : Call) (a : Answer) (here : I
     (waits : WaitsAt o seen l 0 (Some c)) (knows : KnowsCalls o seen) (explained : IsExplained o (Answered seen l c a)) where
   -- behind the answer the calls wait that waited before it, but for the first on its line
   calls_behind : (tr : Trace) → IsHistory o (Answered seen l c a) tr → IsRun tr
-      → (old : Trace) × IsHistory o seen old × IsRun old × ((m : Line) (n : ℕ) → call_at tr m n ≡ call_at old m (one_if (line_eq l m) n))
+      → (old : Trace) × IsHistory o seen old × IsRun old × ((m : Line) (n : ℕ) → waiting_call_at tr m n ≡ waiting_call_at old m (one_if (line_eq l m) n))
   calls_behind _ (Hears _ old now _ _ _ i alone) run = (
     old,
     i,
@@ -63,7 +63,7 @@ module _ (o : Origin) (seen : Seen) (l : Line) (c : Call) (a : Answer) (here : I
       let old = calls_behind explained.history explained.is_history explained.runs in
       let same : there.0 ≡ Some d =
       sym (there.1 old.0 old.1 old.2)
-      ∙ (ap (call_at old.0 m) (times_last done l m)
+      ∙ (ap (waiting_call_at old.0 m) (times_last done l m)
       ∙ (sym (old.3 m (times done m)) ∙ later explained.history explained.is_history explained.runs)) in
       λ tr i run. there.1 tr i run ∙ same
 
@@ -77,7 +77,7 @@ module _ (o : Origin) (seen : Seen) (l : Line) (c : Call) (a : Answer) (here : I
 
       by : (a : Answer) → HasAnswer c a → ((b : Branch) → Explained l c a b (from b) (to b)) → WasDone c from to
       by (Ret code) h x = (code, x)
-      by (Page names) h x = (Codes.Success, λ b. subst (λ z. Takes z Codes.Success b (from b) (to b)) (sym (unnamed c names h)) (x b).0)
+      by (Page names) h x = (Codes.Success, λ b. subst (λ z. ExplainsAsked z Codes.Success b (from b) (to b)) (sym (unnamed c names h)) (x b).0)
 
   -- so where the branches may stand by what was told, they may by what was told before, with the call under way
   pub untold : (stood : Branch → Standing) (done cut : List Line) (f : Branch → Standing)

@@ -16,8 +16,8 @@ use Rattle.xa_model.specs.Promises.Processes.{Resumes, gone, resumed}
 use Rattle.xa_model.specs.Facts.Standings.{moved_by}
 use Rattle.xa_model.specs.Protocol.{AllRight, IsRun, OldOrigin}
 use Rattle.xa_model.specs.Trace.{Answer, Branch, Call, Happening, Happening.CompletedAlone, Happening.Took, Line, Origin, Trace, Trace.From, Trace.Then, line_eq, line_of}
-use Rattle.xa_standings.specs.Across.{GoesOn, IsKnownAsLeft, behind}
-use Rattle.xa_standings.specs.Explained.{IsOldLog, IsRunOf}
+use Rattle.xa_standings.specs.Across.{GoesOn, IsKnownAsLeft, continued_by}
+use Rattle.xa_standings.specs.Explained.{HasOnlyOlderRows, IsExplainedAt}
 use Rattle.xa_standings.specs.Seen.{IsHistory.Does, IsHistory.Starts, KeepsRules, Seen, Seen.Answered, Seen.Did, Seen.Lost, Seen.Start, start_with}
 use Rattle.xa_standings.specs.Standings.{Comes, Explained, MayBeDone, MayBeFound, MayStand}
 use Rattle.xa_standings.proofs.RunSteps.{RunFrom, none_named, held_by, starts, stays, did_named, code_heard, page_heard, lost_so, lost_call}
@@ -77,7 +77,7 @@ pub record FromSome (o : Origin) (seen : Seen) (f : Branch → Standing) : Type 
   pub first : Origin
   pub run : RunFrom o first seen f
 
-pub from_some : (o : Origin) (seen : Seen) → IsOldLog o → KeepsRules o seen → (f : Branch → Standing)
+pub from_some : (o : Origin) (seen : Seen) → HasOnlyOlderRows o → KeepsRules o seen → (f : Branch → Standing)
     → ((b : Branch) → MayStand o seen b (f b)) → FromSome o seen f
 from_some o seen old keeps f may =
     let x = λ (b : Branch). from_found o seen b (f b) (may b) in
@@ -87,22 +87,22 @@ from_some o seen old keeps f may =
       run = comes o (record o { held = held_by (λ b. (x b).0) }) (λ b. (x b).0) s seen keeps f (λ b. (x b).2);
     }
 
-pub chosen : (o : Origin) (seen : Seen) → IsOldLog o → KeepsRules o seen → (f : Branch → Standing)
-    → ((b : Branch) → MayStand o seen b (f b)) → IsRunOf o seen f
+pub chosen : (o : Origin) (seen : Seen) → HasOnlyOlderRows o → KeepsRules o seen → (f : Branch → Standing)
+    → ((b : Branch) → MayStand o seen b (f b)) → IsExplainedAt o seen f
 chosen o seen old keeps f may = let r = (from_some o seen old keeps f may).run in record { whole = r.whole; there = r.there }
 
 -- ** behind earlier processes
 
 -- what is right for the last process alone is right behind the others
 pub behind_right : (past : Trace) (o : Origin) (tr : Trace) → AllRight past → Resumes past o → origin tr ≡ o → IsRun tr
-    → AllRight (behind (resumed past o) tr) × Faces (gone past) (behind (resumed past o) tr) tr
+    → AllRight (continued_by (resumed past o) tr) × Faces (gone past) (continued_by (resumed past o) tr) tr
 behind_right past o (From q) a r e run =
     (resumed_right past o a r, subst (λ z. Faces (gone past) (resumed past o) (From z)) (sym e) (faces_first past o a r))
 behind_right past o (Then tr e) a r q run =
     let x = behind_right past o tr a r q run.0 in
     let inv = always (gone past) (gone_right past a) in (
-      (x.0, right_same (gone past) inv (behind (resumed past o) tr) tr x.1 e run.1),
-      faces_after (gone past) inv (behind (resumed past o) tr) tr x.1.deals x.1 e run.1,
+      (x.0, right_same (gone past) inv (continued_by (resumed past o) tr) tr x.1 e run.1),
+      faces_after (gone past) inv (continued_by (resumed past o) tr) tr x.1.deals x.1 e run.1,
     )
 
 -- from the start just as it is
@@ -124,10 +124,10 @@ standing_same x y e b u s = λ i. if breaks_is x y e (line_of b) u i then broken
 
 -- so does one that the start has just as the past left it
 pub same_there : (past : Trace) (o : Origin) (tr : Trace) → AllRight past → Resumes past o → origin tr ≡ o → IsRun tr → (b : Branch)
-    → IsKnownAsLeft past o b → standing (behind (resumed past o) tr) b ≡ standing tr b
+    → IsKnownAsLeft past o b → standing (continued_by (resumed past o) tr) b ≡ standing tr b
 same_there past o (From q) a r e run b known = sym (ap (λ p. (held_of p b).standing) e ∙ known)
 same_there past o (Then tr e) a r q run b known =
-    standing_same (behind (resumed past o) tr) tr e b (behind_right past o tr a r q run.0).1.deals.up_is (same_there past o tr a r q run.0 b known)
+    standing_same (continued_by (resumed past o) tr) tr e b (behind_right past o tr a r q run.0).1.deals.up_is (same_there past o tr a r q run.0 b known)
 
 pub gone_on : (past : Trace) (o : Origin) (seen : Seen) → AllRight past → Resumes past o → OldOrigin o → KeepsRules o seen
     → (f : Branch → Standing) → ((b : Branch) → Comes seen b (held_of o b).standing (f b)) → GoesOn past o seen f
@@ -142,5 +142,5 @@ gone_on past o seen a r old keeps f may = record {
     run : RunFrom o o seen f
     run = from_start o seen old keeps f may
 
-    whole : AllRight (behind (resumed past o) run.whole.history) × Faces (gone past) (behind (resumed past o) run.whole.history) run.whole.history
+    whole : AllRight (continued_by (resumed past o) run.whole.history) × Faces (gone past) (continued_by (resumed past o) run.whole.history) run.whole.history
     whole = behind_right past o run.whole.history a r run.start run.whole.runs

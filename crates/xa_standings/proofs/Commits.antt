@@ -12,7 +12,7 @@ use Rattle.xa_model.proofs.Invariant.Rows.{rowed_kept}
 use Rattle.xa_model.specs.Facts.{adds_row, doubt, ever, had_row, standing, started}
 use Rattle.xa_model.specs.Protocol.{AllRight}
 use Rattle.xa_model.specs.Trace.{Branch, Happening, Trace, Trace.From, Trace.Then}
-use Rattle.xa_standings.specs.Across.{behind}
+use Rattle.xa_standings.specs.Across.{continued_by}
 use Rattle.xa_standings.specs.Sessions.{IsCommitting}
 
 -- ** standings
@@ -64,6 +64,6 @@ one_more_commits tr e b right has = record {
 
 -- ** all that happened behind it
 
-pub behind_commits : (past tr : Trace) (b : Branch) → AllRight (behind past tr) → HasCommit past b → HasCommit (behind past tr) b
+pub behind_commits : (past tr : Trace) (b : Branch) → AllRight (continued_by past tr) → HasCommit past b → HasCommit (continued_by past tr) b
 behind_commits past (From o) b right has = has
-behind_commits past (Then tr e) b right has = one_more_commits (behind past tr) e b right (behind_commits past tr b right.0 has)
+behind_commits past (Then tr e) b right has = one_more_commits (continued_by past tr) e b right (behind_commits past tr b right.0 has)

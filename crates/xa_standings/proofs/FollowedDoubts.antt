@@ -8,19 +8,19 @@ use Rattle.xa_base.specs.Xid.{Xid}
 use Rattle.xa_base.specs.declared.call.Call.{Call as Waiting}
 use Rattle.xa_base.specs.declared.state.Standing.{Standing}
 use Rattle.xa_model.specs.Trace.{Branch, Call, Code}
-use Rattle.xa_standings.specs.Entries.{branch_asked}
-use Rattle.xa_standings.specs.Monitor.{Leads, known}
-use Rattle.xa_standings.specs.Standings.{MayBeDone, Takes}
+use Rattle.xa_standings.specs.Entries.{branch_in_call}
+use Rattle.xa_standings.specs.Monitor.{LeadsExactly, known}
+use Rattle.xa_standings.specs.Standings.{ExplainsAsked, MayBeDone}
 use Rattle.xa_standings.specs.States.{AskedOrNot, LeadsInto, LeadsOnto}
 use Rattle.xa_standings.specs.declared.states.States.{States}
 use Rattle.xa_standings.proofs.CallBranches.{Asks, asked, one_leads, asked_here, takes_here, takes_away, same_lead}
 
 abbrev DoneOr : Option (Kind × Branch) → Branch → Standing → Standing → Type 0
-DoneOr asks q f g = (g ≡ f) ⊎ ((a : Code) × Takes asks a q f g)
+DoneOr asks q f g = (g ≡ f) ⊎ ((a : Code) × ExplainsAsked asks a q f g)
 
 done_leads : (k : Kind) (b : Branch) (x : Xid) (before after : Branch → States) (states : States)
     → LeadsInto (before b) (AskedOrNot (Some (k, x))) states → LeadsOnto (before b) (AskedOrNot (Some (k, x))) states
-    → ((q : Branch) → after q ≡ (if branch_eq b q then states else before q)) → Leads before (DoneOr (Some (k, b))) after
+    → ((q : Branch) → after q ≡ (if branch_eq b q then states else before q)) → LeadsExactly before (DoneOr (Some (k, b))) after
 done_leads k b x before after states into onto e =
     one_leads before after (DoneOr (Some (k, b))) b states e
     (λ f g h step. into f g h (here f g step))
@@ -39,30 +39,30 @@ done_leads k b x before after states into onto e =
     away q n f g (inl e) = e
     away q n f g (inr (a, step)) = takes_away k b q a n f g step
 
-pub doubt_leads : (call : Waiting Xid) (b : Branch) (before after : Branch → States) (states : States) → branch_asked call ≡ Some b
+pub doubt_leads : (call : Waiting Xid) (b : Branch) (before after : Branch → States) (states : States) → branch_in_call call ≡ Some b
     → LeadsInto (before b) (AskedOrNot (asks_of call)) states → LeadsOnto (before b) (AskedOrNot (asks_of call)) states
-    → ((q : Branch) → after q ≡ (if branch_eq b q then states else before q)) → Leads before (MayBeDone (known call)) after
+    → ((q : Branch) → after q ≡ (if branch_eq b q then states else before q)) → LeadsExactly before (MayBeDone (known call)) after
 doubt_leads call b before after states names into onto e = by (subst (Asks call) names (asked call))
   where
-    by : Asks call (Some b) → Leads before (MayBeDone (known call)) after
+    by : Asks call (Some b) → LeadsExactly before (MayBeDone (known call)) after
     by (OnBranch _ k x d ed ad ax) =
-        subst (λ z. Leads before (MayBeDone z) after) (sym ed)
-        (subst (λ z. Leads before (DoneOr z) after) (sym ad)
+        subst (λ z. LeadsExactly before (MayBeDone z) after) (sym ed)
+        (subst (λ z. LeadsExactly before (DoneOr z) after) (sym ad)
         (done_leads k b x before after states (subst (λ z. LeadsInto (before b) (AskedOrNot z) states) ax into)
         (subst (λ z. LeadsOnto (before b) (AskedOrNot z) states) ax onto) e))
 
-pub no_doubt_leads : (call : Waiting Xid) (before after : Branch → States) → branch_asked call ≡ None → ((q : Branch) → after q ≡ before q)
-    → Leads before (MayBeDone (known call)) after
+pub no_doubt_leads : (call : Waiting Xid) (before after : Branch → States) → branch_in_call call ≡ None → ((q : Branch) → after q ≡ before q)
+    → LeadsExactly before (MayBeDone (known call)) after
 no_doubt_leads call before after names e = by (subst (Asks call) names (asked call)) (known call) refl
   where
     only : (q : Branch) (f g : Standing) → DoneOr None q f g → g ≡ f
     only q f g (inl e) = e
     only q f g (inr (a, step)) = step
 
-    by : Asks call None → (o : Option Call) → known call ≡ o → Leads before (MayBeDone o) after
+    by : Asks call None → (o : Option Call) → known call ≡ o → LeadsExactly before (MayBeDone o) after
     by (OnNone none) None is = same_lead before after (MayBeDone None) e (λ q f g step. step) (λ q f. refl)
     by (OnNone none) (Some c) is =
-        subst (λ z. Leads before (DoneOr z) after) (sym (none c is)) (same_lead before after (DoneOr None) e only (λ q f. inl refl))
+        subst (λ z. LeadsExactly before (DoneOr z) after) (sym (none c is)) (same_lead before after (DoneOr None) e only (λ q f. inl refl))
 
-pub none_done : (before : Branch → States) → Leads before (MayBeDone None) before
+pub none_done : (before : Branch → States) → LeadsExactly before (MayBeDone None) before
 none_done before = same_lead before before (MayBeDone None) (λ q. refl) (λ q f g step. step) (λ q f. refl)

@@ -13,7 +13,7 @@ use Rattle.xa_standings.proofs.Pages.{is_listed, listed_if, listed_once, lists_i
 use Rattle.xa_standings.proofs.RowLemmas.BreakRows.{page_into, page_onto}
 use Rattle.xa_standings.proofs.RowLemmas.StateSets.{is_some, some_state}
 use Rattle.xa_standings.specs.Entries.{AreListable, IsListable, listed_by}
-use Rattle.xa_standings.specs.Monitor.{CanExplain, IsSomewhere, Leads}
+use Rattle.xa_standings.specs.Monitor.{CanExplain, IsSomewhere, LeadsExactly}
 use Rattle.xa_standings.specs.Rows.{page_row}
 use Rattle.xa_standings.specs.Standings.{Explained}
 use Rattle.xa_standings.specs.States.{LeadsInto, LeadsOnto, has}
@@ -59,7 +59,7 @@ page_can rm t states xs all c q some = by (is_listed xs q) refl
 
 pub page_leads : (l : Line) (c : Call) (before after : Branch → States) (xs : List Xid)
     → ((q : Branch) → after q ≡ listed_by xs q (before q)) → ((q : Branch) → CanExplain before l c (Page (map name_of xs)) q)
-    → Leads before (Explained l c (Page (map name_of xs))) after
+    → LeadsExactly before (Explained l c (Page (map name_of xs))) after
 page_leads l c before after xs e can = record {
   into = λ q f g h step. ap (λ z. has z (state_of g)) (e q ∙ listed_once xs q (before q)) ∙ into_by q (is_listed xs q) refl f g h step;
   onto = λ q t h. onto_by q (is_listed xs q) refl t (sym (ap (λ z. has z t) (e q ∙ listed_once xs q (before q))) ∙ h);
@@ -81,8 +81,8 @@ page_leads l c before after xs e can = record {
 
 pub page_narrows : (answer : Given Xid) (page xs : List Xid) → answer ≡ Page page → xs ≡ page → (before after : Branch → States)
     → ((q : Branch) → after q ≡ listed_by xs q (before q)) → (l : Line) (c : Call)
-    → ((b : Branch) → CanExplain before l c (map_answer name_of answer) b) → Leads before (Explained l c (map_answer name_of answer)) after
+    → ((b : Branch) → CanExplain before l c (map_answer name_of answer) b) → LeadsExactly before (Explained l c (map_answer name_of answer)) after
 page_narrows answer page xs is same before after e l c can =
     let whole : answer ≡ Page xs = is ∙ ap Page (sym same) in
-    subst (λ z. Leads before (Explained l c (map_answer name_of z)) after) (sym whole)
+    subst (λ z. LeadsExactly before (Explained l c (map_answer name_of z)) after) (sym whole)
     (page_leads l c before after xs e (λ b. subst (λ z. CanExplain before l c (map_answer name_of z) b) whole (can b)))

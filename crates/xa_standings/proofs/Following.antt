@@ -11,7 +11,7 @@ use Rattle.xa_model.specs.Trace.{Answer, Branch, Call, Happening, Line, Origin, 
 use Rattle.xa_standings.proofs.RowLemmas.BreakRows.{any_there, off_into, off_onto}
 use Rattle.xa_standings.proofs.RowLemmas.StateSets.{none_ended}
 use Rattle.xa_standings.specs.Entries.{off_line_at, states_before}
-use Rattle.xa_standings.specs.Monitor.{AllExplain, AreStatesBy, CanExplain, IsUnexplained, Leads}
+use Rattle.xa_standings.specs.Monitor.{AllExplain, AreStatesBy, CanExplain, IsUnexplained, LeadsExactly}
 use Rattle.xa_standings.specs.Rows.{break_row, found_states, unstarted_states}
 use Rattle.xa_standings.specs.Seen.{Seen, Seen.Answered, Seen.Did, Seen.Lost as Seen_Lost, Seen.Start}
 use Rattle.xa_standings.specs.Standings.{Explained, MayBeDone, MayBeFound, MayStand}
@@ -82,7 +82,7 @@ by_start i o same states e = record {
 pub by_did : (o : Origin) (seen : Seen) (states : Branch → States) (e : Happening) → AreStatesBy o seen states → AreStatesBy o (Did seen e) states
 by_did o seen states e f = record { into = f.into; onto = f.onto; some = f.some }
 
-pub by_answer : (o : Origin) (seen : Seen) (l : Line) (c : Call) (a : Answer) (before after : Branch → States) → Leads before (Explained l c a) after
+pub by_answer : (o : Origin) (seen : Seen) (l : Line) (c : Call) (a : Answer) (before after : Branch → States) → LeadsExactly before (Explained l c a) after
     → ((b : Branch) → CanExplain before l c a b) → AreStatesBy o seen before → AreStatesBy o (Answered seen l c a) after
 by_answer o seen l c a before after leads can f = record {
   into = λ b g may. leads.into b may.0 g (f.into b may.0 may.1) may.2;
@@ -122,7 +122,7 @@ no_standing o seen l c a states b never f g may =
     never (record { from = may.0; to = g; among = f.into b may.0 may.1; leads = may.2 })
 
 pub by_loss : (o : Origin) (seen : Seen) (l : Line) (c : Option Call) (before mid after : Branch → States)
-    → Leads before (MayBeDone c) mid → ((b : Branch) → after b ≡ off_line_at l b (mid b))
+    → LeadsExactly before (MayBeDone c) mid → ((b : Branch) → after b ≡ off_line_at l b (mid b))
     → AreStatesBy o seen before → AreStatesBy o (Seen_Lost seen l c) after
 by_loss o seen l c before mid after leads e f = record {
   into = λ b g may.

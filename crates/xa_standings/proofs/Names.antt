@@ -8,7 +8,7 @@ use Rattle.xa_base.specs.declared.call.Call.TheVariants as Calls
 use Rattle.xa_model.specs.Facts.{breaks, fits, has_row, issued, live, new_calls, next_call, page, page_after, recorded, resolving_calls, resolving_kind, taken}
 use Rattle.xa_model.specs.Protocol.{IsRun, Lists}
 use Rattle.xa_model.specs.Trace.{Branch, Call, Happening, Happening.Heard, Happening.Issued, Happening.Resolved, Happening.ResolvedOpen, Happening.Took, Kind.Commit, Kind.Forget, Kind.Rollback, Line, Name, Name.Foreign, Name.Ours, Origin, Trace, Trace.Then, line, line_eq}
-use Rattle.xa_standings.specs.Agreement.{call_at}
+use Rattle.xa_standings.specs.Agreement.{waiting_call_at}
 use Rattle.xa_standings.specs.Named.{AreOnBranches, IsNamedCall, IsNamedPage, MakesNamedCall}
 use Rattle.xa_standings.specs.Seen.{Alone, Alone.Ends, Alone.NoMore, Alone.PutsOff, Alone.Votes, IsHistory, IsHistory.Does, IsHistory.Hears, IsHistory.Loses, IsHistory.LosesAnswer, IsHistory.Starts, IsManagers, KeepsRules, Seen, Seen.Answered, Seen.Did, Seen.Lost, Seen.Start, break_of}
 
@@ -157,7 +157,7 @@ history_names o _ _ (LosesAnswer seen tr now l c a i alone) keeps on =
 
 -- each call that waits is on a branch that has an identifier
 pub waiting_named : (o : Origin) (seen : Seen) (tr : Trace) (l : Line) (n : ℕ) (c : Call) → IsHistory o seen tr → KeepsRules o seen → AreOnBranches seen
-    → call_at tr l n ≡ Some c → IsNamedCall c
+    → waiting_call_at tr l n ≡ Some c → IsNamedCall c
 waiting_named o seen tr l n c i keeps on has = (history_names o seen tr i keeps on).calls l (length (taken tr l) + n) c has
 
 -- so is the one that waits first

@@ -10,7 +10,7 @@ use Rattle.xa_base.specs.Xid.{Xid}
 use Rattle.xa_model.specs.Protocol.{Lists}
 use Rattle.xa_model.specs.Replies.History.{name_of}
 use Rattle.xa_model.specs.Trace.{Branch, Name, Name.Foreign, Name.Ours}
-use Rattle.xa_standings.specs.Entries.{HasKept, HasRoom, HaveRoom, listed, listed_by, states_at}
+use Rattle.xa_standings.specs.Entries.{HasKeptEntries, HasRoom, HasRoomForAll, listed, listed_by, states_at}
 use Rattle.xa_standings.specs.Rows.{page_row}
 use Rattle.xa_standings.specs.declared.states.States.{States}
 
@@ -20,7 +20,7 @@ drop_item xs i x low is = drop_more xs i x low ∙ ap (λ y. y ∷ drop (i + 1) 
 
 -- ** room
 
-room_kept : (m n : BTreeMap Branch States) (xs : List Xid) → HasKept m n → HaveRoom m xs → HaveRoom n xs
+room_kept : (m n : BTreeMap Branch States) (xs : List Xid) → HasKeptEntries m n → HasRoomForAll m xs → HasRoomForAll n xs
 room_kept m n [] kept room = tt
 room_kept m n (x ∷ xs) kept room = (by (name_of x) room.0, room_kept m n xs kept room.1)
   where
@@ -28,34 +28,34 @@ room_kept m n (x ∷ xs) kept room = (by (name_of x) room.0, room_kept m n xs ke
     by (Ours b) has = kept b has
     by (Foreign y) has = tt
 
-still_room : (m n : BTreeMap Branch States) (name : Name) → HasKept m n → HasRoom m name → HasRoom n name
+still_room : (m n : BTreeMap Branch States) (name : Name) → HasKeptEntries m n → HasRoom m name → HasRoom n name
 still_room m n (Ours b) kept has = kept b has
 still_room m n (Foreign y) kept has = tt
 
-pub room_first : (m : BTreeMap Branch States) (xs : List Xid) (i : ℕ) (x : Xid) → i < length xs → x ≡ get_or xs i x → HaveRoom m (drop i xs)
+pub room_first : (m : BTreeMap Branch States) (xs : List Xid) (i : ℕ) (x : Xid) → i < length xs → x ≡ get_or xs i x → HasRoomForAll m (drop i xs)
     → HasRoom m (name_of x)
-room_first m xs i x low is room = (subst (HaveRoom m) (drop_item xs i x low is) room).0
+room_first m xs i x low is room = (subst (HasRoomForAll m) (drop_item xs i x low is) room).0
 
 -- room for one more
-pub room_more : (xs : List Xid) (i : ℕ) (x : Xid) (mid now : BTreeMap Branch States) → i < length xs → x ≡ get_or xs i x → HasKept mid now
+pub room_more : (xs : List Xid) (i : ℕ) (x : Xid) (mid now : BTreeMap Branch States) → i < length xs → x ≡ get_or xs i x → HasKeptEntries mid now
     → HasRoom now (name_of x)
-    → ((m : BTreeMap Branch States) → HasKept mid m → HaveRoom m (drop i xs) → HaveRoom m xs)
-    → (m : BTreeMap Branch States) → HasKept now m → HaveRoom m (drop (i + 1) xs) → HaveRoom m xs
+    → ((m : BTreeMap Branch States) → HasKeptEntries mid m → HasRoomForAll m (drop i xs) → HasRoomForAll m xs)
+    → (m : BTreeMap Branch States) → HasKeptEntries now m → HasRoomForAll m (drop (i + 1) xs) → HasRoomForAll m xs
 room_more xs i x mid now low is kept room before m keep rest =
-    before m (λ q has. keep q (kept q has)) (subst (HaveRoom m) (sym (drop_item xs i x low is)) (still_room now m (name_of x) keep room, rest))
+    before m (λ q has. keep q (kept q has)) (subst (HasRoomForAll m) (sym (drop_item xs i x low is)) (still_room now m (name_of x) keep room, rest))
 
-pub room_all : (m : BTreeMap Branch States) (xs : List Xid) (i : ℕ) → length xs ≤ i → HaveRoom m (drop i xs)
-room_all m xs i past = subst (HaveRoom m) (sym (drop_all i xs past)) tt
+pub room_all : (m : BTreeMap Branch States) (xs : List Xid) (i : ℕ) → length xs ≤ i → HasRoomForAll m (drop i xs)
+room_all m xs i past = subst (HasRoomForAll m) (sym (drop_all i xs past)) tt
 
 -- ** states
 
 -- one more is listed
 pub listed_more : (k : ℕ) (xs : List Xid) (i : ℕ) (x : Xid) (mid now : BTreeMap Branch States) (all : Branch → States) → i < length xs → x ≡ get_or xs i x
-    → HasKept mid now → ((q : Branch) → states_at k now q ≡ listed (name_of x) q (states_at k mid q))
-    → HaveRoom mid (drop i xs) × ((q : Branch) → listed_by (drop i xs) q (states_at k mid q) ≡ all q)
-    → HaveRoom now (drop (i + 1) xs) × ((q : Branch) → listed_by (drop (i + 1) xs) q (states_at k now q) ≡ all q)
+    → HasKeptEntries mid now → ((q : Branch) → states_at k now q ≡ listed (name_of x) q (states_at k mid q))
+    → HasRoomForAll mid (drop i xs) × ((q : Branch) → listed_by (drop i xs) q (states_at k mid q) ≡ all q)
+    → HasRoomForAll now (drop (i + 1) xs) × ((q : Branch) → listed_by (drop (i + 1) xs) q (states_at k now q) ≡ all q)
 listed_more k xs i x mid now all low is kept at before = (
-  room_kept mid now (drop (i + 1) xs) kept (subst (HaveRoom mid) (drop_item xs i x low is) before.0).1,
+  room_kept mid now (drop (i + 1) xs) kept (subst (HasRoomForAll mid) (drop_item xs i x low is) before.0).1,
   λ q. ap (listed_by (drop (i + 1) xs) q) (at q) ∙ sym (ap (λ ys. listed_by ys q (states_at k mid q)) (drop_item xs i x low is)) ∙ before.1 q,
 )
 

@@ -26,9 +26,9 @@ use Rattle.xa_model.specs.Promises.Agreement.{IsUndone}
 use Rattle.xa_model.specs.Promises.Processes.{AllAreNamed, Resumes, gone, held_in, resumed}
 use Rattle.xa_model.specs.Protocol.{AllRight, IsRun, OldOrigin}
 use Rattle.xa_model.specs.Trace.{Branch, Fault, Happening.CompletedAlone, Happening.Crashed, Happening.Restarted, How, Line, Name.Ours, Origin, Trace, Trace.Then}
-use Rattle.xa_standings.specs.Across.{IsKnownAsLeft, behind}
+use Rattle.xa_standings.specs.Across.{IsKnownAsLeft, continued_by}
 use Rattle.xa_standings.specs.Agreement.{MayAllStand, StandAlike}
-use Rattle.xa_standings.specs.Explained.{IsExplained, IsOldLog}
+use Rattle.xa_standings.specs.Explained.{HasOnlyOlderRows, IsExplained}
 use Rattle.xa_standings.specs.Seen.{IsHistory, Seen, Seen.Lost}
 use Rattle.xa_standings.specs.Sessions.{Finds, FindsLog, IsCommitting, IsSession, Log, Log.Empty, Log.LeftBy, failed_in, nothing_yet}
 use Rattle.xa_standings.specs.Standings.{Comes}
@@ -130,7 +130,7 @@ module _ (log : Log) (from to : Branch → Standing) (Decided : Branch → Type 
     retries = λ b. retries_so b (fits b) refl;
   }
 
-  is_old : IsOldLog o → OldOrigin start
+  is_old : HasOnlyOlderRows o → OldOrigin start
   is_old old = record { rows_old = old.rows_old; record_old = old.record_old; held_old = λ b. by b (nat_lt b.gtrid.incarnation o.incarnation) refl }
     where
       by : (b : Branch) (t : Bool) → nat_lt b.gtrid.incarnation o.incarnation ≡ t
@@ -166,10 +166,10 @@ module _ (log : Log) (from to : Branch → Standing) (Decided : Branch → Type 
     last_start : origin last ≡ start
     last_start = origin_failed fails x.now ∙ x.start
 
-    both : AllRight (behind (resumed past start) last) × Faces (gone past) (behind (resumed past start) last) last
+    both : AllRight (continued_by (resumed past start) last) × Faces (gone past) (continued_by (resumed past start) last) last
     both = behind_right past start last r.right resumes last_start last_runs
 
-    stands_so : (b : Branch) → standing (behind (resumed past start) last) b ≡ standing last b
+    stands_so : (b : Branch) → standing (continued_by (resumed past start) last) b ≡ standing last b
     stands_so b = same_there past start last r.right resumes last_start last_runs b (known b)
 
     last_named : AllAreNamed last
@@ -182,7 +182,7 @@ module _ (log : Log) (from to : Branch → Standing) (Decided : Branch → Type 
     explained = record { history = x.told; is_history = told_history; runs = x.told_runs }
 
     -- what a start finds that finds what the session left
-    finds_it : (next : Origin) → Finds (LeftBy o seen fails) next → FindsLog (behind (resumed past start) last) next
+    finds_it : (next : Origin) → Finds (LeftBy o seen fails) next → FindsLog (continued_by (resumed past start) last) next
     finds_it next left = record {
       later = subst (λ n. n < next.incarnation) (sym both.1.deals.incarnation_is) own.later;
       rows = rows_again _ _ _ own.rows after.logs.rows;
@@ -195,20 +195,20 @@ module _ (log : Log) (from to : Branch → Standing) (Decided : Branch → Type 
         inv : Inv (gone past)
         inv = always (gone past) (gone_right past r.right)
 
-        crashed : Faces (gone past) (gone (behind (resumed past start) last)) (gone last)
-        crashed = faces_after (gone past) inv (behind (resumed past start) last) last both.1.deals both.1 (Crashed Part.Manager) tt
+        crashed : Faces (gone past) (gone (continued_by (resumed past start) last)) (gone last)
+        crashed = faces_after (gone past) inv (continued_by (resumed past start) last) last both.1.deals both.1 (Crashed Part.Manager) tt
 
-        after : Faces (gone past) (resumed (behind (resumed past start) last) next) (resumed last next)
-        after = faces_after (gone past) inv (gone (behind (resumed past start) last)) (gone last) crashed.deals crashed
+        after : Faces (gone past) (resumed (continued_by (resumed past start) last) next) (resumed last next)
+        after = faces_after (gone past) inv (gone (continued_by (resumed past start) last)) (gone last) crashed.deals crashed
             (Restarted next.incarnation (length next.rows) (length next.heuristic_rows)) (refl, own.later, own.rows.number, own.records.number)
 
     -- before the failure
-    now_there : (b : Branch) → standing (behind (resumed past start) x.now) b ≡ to b
+    now_there : (b : Branch) → standing (continued_by (resumed past start) x.now) b ≡ to b
     now_there b = same_there past start x.now r.right resumes x.start x.runs b (known b) ∙ x.there b
 
     now_alike : StandAlike to
     now_alike b c same e u =
-        are_alike (behind (resumed past start) x.now) (behind_right past start x.now r.right resumes x.start x.runs).0 b c same
+        are_alike (continued_by (resumed past start) x.now) (behind_right past start x.now r.right resumes x.start x.runs).0 b c same
         (now_there b ∙ e) (subst IsUndone (sym (now_there c)) u)
 
     -- what it found prepared, with a row, and what an earlier one did
@@ -227,7 +227,7 @@ module _ (log : Log) (from to : Branch → Standing) (Decided : Branch → Type 
 
     pub one_more : IsReached (LeftBy o seen fails) to (λ b. ((from b ≡ Prepared) × (lists_row o.rows b.gtrid ≡ true)) ⊎ Decided b)
     one_more = record {
-      whole = behind (resumed past start) last;
+      whole = continued_by (resumed past start) last;
       right = both.0;
       there = λ b. ap broken (stands_so b) ∙ (broken_failed fails x.now b ∙ ap broken (x.there b));
       named = λ b unfit. let n = last_named b unfit in

@@ -22,10 +22,10 @@ use Rattle.xa_model.specs.Facts.InDoubt.{is_in_doubt_at, name_of}
 use Rattle.xa_model.specs.Facts.Standings.{moved_by, standing_after}
 use Rattle.xa_model.specs.Protocol.{IsRun, Lists, SoundAnswer}
 use Rattle.xa_model.specs.Trace.{Answer, Branch, Call, Code, Happening, Happening.Begun, Happening.Claimed, Happening.Decided, Happening.Done, Happening.Heard, Happening.Issued, Happening.Nothing, Happening.Resolved, Happening.ResolvedOpen, Happening.Took, Line, Name, Name.Foreign, Name.Ours, Origin, Trace, Trace.Then, line_eq, line_of}
-use Rattle.xa_standings.specs.Explained.{IsExplained, IsOldLog}
+use Rattle.xa_standings.specs.Explained.{HasOnlyOlderRows, IsExplained}
 use Rattle.xa_standings.specs.Named.{IsNamedCall}
 use Rattle.xa_standings.specs.Seen.{Alone, Alone.NoMore, HasAnswer, IsHistory.Hears, IsHistory.Loses, IsHistory.LosesAnswer, IsHistory.Starts, IsManagers, Seen, Seen.Answered, Seen.Lost, Seen.Start, Waits, break_of, start_with}
-use Rattle.xa_standings.specs.Standings.{Explained, Explains, ExplainsIf, MayBeFound, Takes}
+use Rattle.xa_standings.specs.Standings.{Explained, Explains, ExplainsAsked, ExplainsIf, MayBeFound}
 use Rattle.xa_standings.proofs.Names.{AreNamed}
 use Rattle.xa_standings.proofs.Taken.{IsKept, IsOtherThan, TakenThere, alone_runs, first_still, heard_next, retries_kept, same_lines, taken_there}
 
@@ -60,7 +60,7 @@ found_there o f b (inr (g, lt, n)) false e = absurd (cc)
 pub held_by : (Branch → Standing) → ℕ → Xid → HeldBranch
 held_by f r x = held_there f (name_of x)
 
-pub starts : (o : Origin) → IsOldLog o → (f : Branch → Standing) → ((b : Branch) → MayBeFound o b (f b))
+pub starts : (o : Origin) → HasOnlyOlderRows o → (f : Branch → Standing) → ((b : Branch) → MayBeFound o b (f b))
     → RunFrom o (record o { held = held_by f }) Start f
 unfolding held_there held_by
 starts o old f may = record {
@@ -162,7 +162,7 @@ module _ (o first : Origin) (seen : Seen) (l : Line) (c : Call) (from to : Branc
 
   -- a code
   pub code_heard : (code : Code) (x : Option (Kind × Branch)) → asks_of c ≡ x → HasAnswer c (Ret code) → Waits tr l c
-      → ((b : Branch) → Takes x code b (from b) (to b)) → RunFrom o first (Answered seen l c (Ret code)) to
+      → ((b : Branch) → ExplainsAsked x code b (from b) (to b)) → RunFrom o first (Answered seen l c (Ret code)) to
   code_heard code (Some (k, d)) asks has w takes =
       heard_so (Ret code) t.now t.alone w t.sound t.there t.kept
     where
@@ -234,7 +234,7 @@ module _ (o first : Origin) (seen : Seen) (l : Line) (c : Call) (from to : Branc
 
   -- the call was done, or it was not, as the branch that it names tells
   pub lost_call : (x : Option (Kind × Branch)) → asks_of c ≡ x → next_call tr l ≡ Some c
-      → ((b : Branch) → (to b ≡ from b) ⊎ ((a : Code) × Takes x a b (from b) (to b))) → (f : Branch → Standing)
+      → ((b : Branch) → (to b ≡ from b) ⊎ ((a : Code) × ExplainsAsked x a b (from b) (to b))) → (f : Branch → Standing)
       → ((b : Branch) → f b ≡ (if line_eq l (line_of b) then broken (to b) else to b)) → RunFrom o first (Lost seen l (Some c)) f
   lost_call None asks waits done f final = lost_so (Some c) (λ b. unmoved b (done b)) f final
     where
@@ -243,7 +243,7 @@ module _ (o first : Origin) (seen : Seen) (l : Line) (c : Call) (from to : Branc
       unmoved b (inr (a, e)) = e
   lost_call (Some (k, d)) asks waits done f final = by_branch (done d)
     where
-      others : (b : Branch) → branch_eq d b ≡ false → (to b ≡ from b) ⊎ ((a : Code) × Takes (Some (k, d)) a b (from b) (to b)) → to b ≡ from b
+      others : (b : Branch) → branch_eq d b ≡ false → (to b ≡ from b) ⊎ ((a : Code) × ExplainsAsked (Some (k, d)) a b (from b) (to b)) → to b ≡ from b
       others b n (inl e) = e
       others b n (inr (a, x)) = subst (λ z. ExplainsIf z (from b) k a (to b)) n x
 
@@ -251,7 +251,7 @@ module _ (o first : Origin) (seen : Seen) (l : Line) (c : Call) (from to : Branc
       all_stay e b true q = subst (λ z. to z ≡ from z) (branch_eq-true d b q) e
       all_stay e b false q = others b q (done b)
 
-      by_branch : (to d ≡ from d) ⊎ ((a : Code) × Takes (Some (k, d)) a d (from d) (to d)) → RunFrom o first (Lost seen l (Some c)) f
+      by_branch : (to d ≡ from d) ⊎ ((a : Code) × ExplainsAsked (Some (k, d)) a d (from d) (to d)) → RunFrom o first (Lost seen l (Some c)) f
       by_branch (inl e) = lost_so (Some c) (λ b. all_stay e b (branch_eq d b) refl) f final
       by_branch (inr (a, x)) =
           lost_answer a k d asks waits (subst (λ z. ExplainsIf z (from d) k a (to d)) (branch_eq-refl d) x) (λ b n. others b n (done b)) f final

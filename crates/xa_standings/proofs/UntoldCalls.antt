@@ -16,10 +16,10 @@ use Rattle.xa_model.specs.Facts.Standings.{moved_by}
 use Rattle.xa_model.specs.Promises.Processes.{AllAreNamed}
 use Rattle.xa_model.specs.Protocol.{IsRun, SoundAnswer}
 use Rattle.xa_model.specs.Trace.{Answer, Branch, Call, Happening.CompletedAlone, Happening.Heard, Happening.Took, How, Line, Origin, Trace, Trace.Then, line_eq, line_of}
-use Rattle.xa_standings.specs.Agreement.{MayAllStand, MayAllStand.AsTold, MayAllStand.CutOff, MayAllStand.EndedAlone, MayAllStand.UnderWay, IsLineOf, WaitsAt, WasDone, call_at, is_one_of, times}
+use Rattle.xa_standings.specs.Agreement.{MayAllStand, MayAllStand.AsTold, MayAllStand.CutOff, MayAllStand.EndedAlone, MayAllStand.UnderWay, IsLineOf, WaitsAt, WasDone, waiting_call_at, is_line_among, times}
 use Rattle.xa_standings.specs.Named.{IsNamedCall}
 use Rattle.xa_standings.specs.Seen.{Alone, Alone.Ends, Alone.NoMore, IsHistory, Seen, break_of}
-use Rattle.xa_standings.specs.Standings.{ExplainsIf, Takes}
+use Rattle.xa_standings.specs.Standings.{ExplainsAsked, ExplainsIf}
 use Rattle.xa_standings.proofs.Books.{SameBooks, same_alone, same_step}
 use Rattle.xa_standings.proofs.RunSteps.{broken_named, taken_named}
 use Rattle.xa_standings.proofs.Names.{AreNamed}
@@ -29,7 +29,7 @@ use Rattle.xa_standings.proofs.Taken.{IsKept, IsOtherThan, TakenThere, alone_run
 
 -- what waits on a line waits on, where a call is taken on another
 taken_other : (tr : Trace) (l m : Line) (c : Call) (a : Answer) (n : ℕ) → line_eq l m ≡ false
-    → call_at (Then tr (Took l c a)) m n ≡ call_at tr m n
+    → waiting_call_at (Then tr (Took l c a)) m n ≡ waiting_call_at tr m n
 taken_other tr l m c a n apart =
     ap (λ xs. slice_get xs (length (taken tr m ++ (if line_eq l m then (c, a) ∷ [] else [])) + n)) (append-nil (issued tr m))
     ∙ ap (λ xs. slice_get (issued tr m) (length xs + n)) (ap (λ t. taken tr m ++ (if t then (c, a) ∷ [] else [])) apart ∙ append-nil (taken tr m))
@@ -39,7 +39,7 @@ one_longer xs x n = omega (arith, length-append xs (x ∷ []))
 
 -- and moves up by one, where one is taken on this
 pub taken_here : (tr : Trace) (l m : Line) (c : Call) (a : Answer) (n : ℕ) → line_eq l m ≡ true
-    → call_at (Then tr (Took l c a)) m n ≡ call_at tr m (suc n)
+    → waiting_call_at (Then tr (Took l c a)) m n ≡ waiting_call_at tr m (suc n)
 taken_here tr l m c a n same =
     ap (λ xs. slice_get xs (length (taken tr m ++ (if line_eq l m then (c, a) ∷ [] else [])) + n)) (append-nil (issued tr m))
     ∙ ap (slice_get (issued tr m)) (ap (λ t. length (taken tr m ++ (if t then (c, a) ∷ [] else [])) + n) same ∙ one_longer (taken tr m) (c, a) n)
@@ -49,27 +49,27 @@ abbrev pub one_if : Bool → ℕ → ℕ
 one_if t n = if t then suc n else n
 
 pub taken_calls : (tr : Trace) (l m : Line) (c : Call) (a : Answer) (n : ℕ)
-    → call_at (Then tr (Took l c a)) m n ≡ call_at tr m (one_if (line_eq l m) n)
+    → waiting_call_at (Then tr (Took l c a)) m n ≡ waiting_call_at tr m (one_if (line_eq l m) n)
 taken_calls tr l m c a n = by (line_eq l m) refl
   where
-    by : (t : Bool) → line_eq l m ≡ t → call_at (Then tr (Took l c a)) m n ≡ call_at tr m (one_if t n)
+    by : (t : Bool) → line_eq l m ≡ t → waiting_call_at (Then tr (Took l c a)) m n ≡ waiting_call_at tr m (one_if t n)
     by true e = taken_here tr l m c a n e
     by false e = taken_other tr l m c a n e
 
 -- that an answer is heard is nothing to it
-pub heard_calls : (tr : Trace) (l m : Line) (c : Call) (a : Answer) (n : ℕ) → call_at (Then tr (Heard l c a)) m n ≡ call_at tr m n
+pub heard_calls : (tr : Trace) (l m : Line) (c : Call) (a : Answer) (n : ℕ) → waiting_call_at (Then tr (Heard l c a)) m n ≡ waiting_call_at tr m n
 heard_calls tr l m c a n =
     ap (λ xs. slice_get xs (length (taken tr m ++ []) + n)) (append-nil (issued tr m))
     ∙ ap (λ xs. slice_get (issued tr m) (length xs + n)) (append-nil (taken tr m))
 
 -- nor is what resource managers do by themselves
-pub alone_calls : (tr now : Trace) (l : Line) (n : ℕ) → Alone tr now → call_at now l n ≡ call_at tr l n
+pub alone_calls : (tr now : Trace) (l : Line) (n : ℕ) → Alone tr now → waiting_call_at now l n ≡ waiting_call_at tr l n
 alone_calls tr now l n alone =
     let s = same_lines tr now alone in
     ap (λ xs. slice_get xs (length (taken now l) + n)) (s.calls l) ∙ ap (λ xs. slice_get (issued tr l) (length xs + n)) (s.taken_are l)
 
 -- nor is another line that breaks
-broken_other : (tr : Trace) (l m : Line) (n : ℕ) → line_eq l m ≡ false → call_at (Then tr (break_of l)) m n ≡ call_at tr m n
+broken_other : (tr : Trace) (l m : Line) (n : ℕ) → line_eq l m ≡ false → waiting_call_at (Then tr (break_of l)) m n ≡ waiting_call_at tr m n
 broken_other tr l m n apart =
     ap (λ t. slice_get (if t then [] else issued tr m ++ []) (length (if t then [] else taken tr m ++ []) + n)) apart
     ∙ (ap (λ xs. slice_get xs (length (taken tr m ++ []) + n)) (append-nil (issued tr m))
@@ -79,7 +79,7 @@ none_more : (n : ℕ) → n + 0 ≡ n
 none_more n = omega arith
 
 -- the call that waits first
-pub first_at : (tr : Trace) (l : Line) → next_call tr l ≡ call_at tr l 0
+pub first_at : (tr : Trace) (l : Line) → next_call tr l ≡ waiting_call_at tr l 0
 first_at tr l = ap (slice_get (issued tr l)) (sym (none_more (length (taken tr l))))
 
 -- ** what wasn't told yet
@@ -99,19 +99,19 @@ pub record LeavesThere (o : Origin) (seen : Seen) (Start : Origin → Type 0) (d
   pub now : Trace
   pub runs : IsRun now
   pub start : Start (origin now)
-  pub calls : (l : Line) (n : ℕ) → is_one_of cut l ≡ false → call_at now l n ≡ call_at told l (times done l + n)
+  pub calls : (l : Line) (n : ℕ) → is_line_among cut l ≡ false → waiting_call_at now l n ≡ waiting_call_at told l (times done l + n)
   pub there : (b : Branch) → standing now b ≡ f b
   pub same : SameBooks now told
-  pub named : AreNamed seen → ((l : Line) (n : ℕ) (c : Call) → IsLineOf o l → call_at told l n ≡ Some c → IsNamedCall c) → AllAreNamed now
+  pub named : AreNamed seen → ((l : Line) (n : ℕ) (c : Call) → IsLineOf o l → waiting_call_at told l n ≡ Some c → IsNamedCall c) → AllAreNamed now
 
 -- nothing was done yet
-pub as_told : (tr : Trace) (l : Line) (n : ℕ) → call_at tr l n ≡ call_at tr l (times [] l + n)
-as_told tr l n = ap (call_at tr l) (let same : n ≡ 0 + n = omega arith in same)
+pub as_told : (tr : Trace) (l : Line) (n : ℕ) → waiting_call_at tr l n ≡ waiting_call_at tr l (times [] l + n)
+as_told tr l n = ap (waiting_call_at tr l) (let same : n ≡ 0 + n = omega arith in same)
 
 module _ (o : Origin) (seen : Seen) (Start : Origin → Type 0) (done cut : List Line) (from to : Branch → Standing)
     (r : LeavesThere o seen Start done cut from) where
   -- the call that waits next on a line was done, and so answered
-  was_taken : (l : Line) (c : Call) (a : Answer) (now : Trace) → IsLineOf o l → is_one_of cut l ≡ false → WaitsAt o seen l (times done l) (Some c)
+  was_taken : (l : Line) (c : Call) (a : Answer) (now : Trace) → IsLineOf o l → is_line_among cut l ≡ false → WaitsAt o seen l (times done l) (Some c)
       → Alone r.now now → SoundAnswer now l c a → ((b : Branch) → standing (Then now (Took l c a)) b ≡ to b)
       → ((b : Branch) → IsOtherThan c b → IsKept r.now (Then now (Took l c a)) b) → LeavesThere o seen Start (l ∷ done) cut to
   was_taken l c a now has uncut waits alone sound there kept = record {
@@ -127,24 +127,24 @@ module _ (o : Origin) (seen : Seen) (Start : Origin → Type 0) (done cut : List
     named = λ n each. taken_named r.now (Then now (Took l c a)) c (each l (times done l) c has waited) kept (r.named n each);
   }
     where
-      waited : call_at r.told l (times done l) ≡ Some c
+      waited : waiting_call_at r.told l (times done l) ≡ Some c
       waited = waits r.told r.is_history r.told_runs
 
       next : next_call now l ≡ Some c
-      next = first_at now l ∙ (alone_calls r.now now l 0 alone ∙ (r.calls l 0 uncut ∙ (ap (call_at r.told l) (none_more (times done l)) ∙ waited)))
+      next = first_at now l ∙ (alone_calls r.now now l 0 alone ∙ (r.calls l 0 uncut ∙ (ap (waiting_call_at r.told l) (none_more (times done l)) ∙ waited)))
 
       one_more : (t : Bool) (m n : ℕ) → m + one_if t n ≡ one_if t m + n
       one_more true m n = omega arith
       one_more false m n = refl
 
-      calls_so : (m : Line) (n : ℕ) → is_one_of cut m ≡ false → call_at (Then now (Took l c a)) m n ≡ call_at r.told m (times (l ∷ done) m + n)
+      calls_so : (m : Line) (n : ℕ) → is_line_among cut m ≡ false → waiting_call_at (Then now (Took l c a)) m n ≡ waiting_call_at r.told m (times (l ∷ done) m + n)
       calls_so m n apart =
           taken_calls now l m c a n
           ∙ (alone_calls r.now now m (one_if (line_eq l m) n) alone
-          ∙ (r.calls m (one_if (line_eq l m) n) apart ∙ ap (call_at r.told m) (one_more (line_eq l m) (times done m) n)))
+          ∙ (r.calls m (one_if (line_eq l m) n) apart ∙ ap (waiting_call_at r.told m) (one_more (line_eq l m) (times done m) n)))
 
   -- any call
-  under_way : (l : Line) (c : Call) → IsLineOf o l → is_one_of cut l ≡ false → WaitsAt o seen l (times done l) (Some c) → WasDone c from to
+  under_way : (l : Line) (c : Call) → IsLineOf o l → is_line_among cut l ≡ false → WaitsAt o seen l (times done l) (Some c) → WasDone c from to
       → LeavesThere o seen Start (l ∷ done) cut to
   under_way l c has uncut waits was = by_asks (asks_of c) refl was.1
     where
@@ -154,7 +154,7 @@ module _ (o : Origin) (seen : Seen) (Start : Origin → Type 0) (done cut : List
       sound (Calls.Recover n s e) q = tt
       sound _ e = absurd (cc)
 
-      by_asks : (x : Option (Kind × Branch)) → asks_of c ≡ x → ((b : Branch) → Takes x was.0 b (from b) (to b)) → LeavesThere o seen Start (l ∷ done) cut to
+      by_asks : (x : Option (Kind × Branch)) → asks_of c ≡ x → ((b : Branch) → ExplainsAsked x was.0 b (from b) (to b)) → LeavesThere o seen Start (l ∷ done) cut to
       by_asks None asks takes =
           was_taken l c (Ret Codes.Success) r.now has uncut waits NoMore (sound c asks)
           (λ b. ap (λ x. moved_by x Codes.Success b (standing r.now b)) asks ∙ (r.there b ∙ sym (takes b)))
@@ -180,7 +180,7 @@ module _ (o : Origin) (seen : Seen) (Start : Origin → Type 0) (done cut : List
     runs = (r.runs, tt);
     start = r.start;
     calls = λ m n apart.
-        let parts = or_parts (line_eq l m) (is_one_of cut m) apart in
+        let parts = or_parts (line_eq l m) (is_line_among cut m) apart in
         broken_other r.now l m n parts.0 ∙ r.calls m n parts.1;
     there = λ b. ap (λ s. if line_eq l (line_of b) then broken s else s) (r.there b) ∙ sym (final b);
     same = same_step r.now r.told (break_of l) tt r.same;

@@ -9,9 +9,9 @@ use Rattle.xa_model.specs.Trace.{Branch, Origin, Trace, Trace.From, Trace.Then}
 use Rattle.xa_standings.specs.Seen.{IsHistory, Seen}
 
 -- a history, and then what happened in another since its start
-abbrev pub behind : Trace → Trace → Trace
-behind past (From o) = past
-behind past (Then tr e) = Then (behind past tr) e
+abbrev pub continued_by : Trace → Trace → Trace
+continued_by past (From o) = past
+continued_by past (Then tr e) = Then (continued_by past tr) e
 
 -- the start has the branch just as the past left it: it also knows how the branch ended, where it ended
 abbrev pub IsKnownAsLeft : (past : Trace) → Origin → Branch → Type 0
@@ -22,6 +22,6 @@ IsKnownAsLeft past o b = (held_of o b).standing ≡ standing (gone past) b
 pub record GoesOn (past : Trace) (o : Origin) (seen : Seen) (f : Branch → Standing) : Type 0 where
   pub history : Trace
   pub is_history : IsHistory o seen history
-  pub right : AllRight (behind (resumed past o) history)
-  pub states : (b : Branch) → state_of (standing (behind (resumed past o) history) b) ≡ state_of (f b)
-  pub there : (b : Branch) → IsKnownAsLeft past o b → standing (behind (resumed past o) history) b ≡ f b
+  pub right : AllRight (continued_by (resumed past o) history)
+  pub states : (b : Branch) → state_of (standing (continued_by (resumed past o) history) b) ≡ state_of (f b)
+  pub there : (b : Branch) → IsKnownAsLeft past o b → standing (continued_by (resumed past o) history) b ≡ f b

@@ -10,26 +10,26 @@ use Rattle.xa_model.specs.Promises.Agreement.{IsUndone}
 use Rattle.xa_model.specs.Protocol.{IsRun}
 use Rattle.xa_model.specs.Trace.{Branch, Call, Code, How, Line, Origin, Trace, line_eq, line_of}
 use Rattle.xa_standings.specs.Seen.{IsHistory, Seen}
-use Rattle.xa_standings.specs.Standings.{Comes, MayStand, Takes}
+use Rattle.xa_standings.specs.Standings.{Comes, ExplainsAsked, MayStand}
 
 -- ** what wasn't told yet
 
 -- the call that waits on a line behind so many others
-abbrev pub call_at : Trace → Line → ℕ → Option Call
-call_at tr l n = slice_get (issued tr l) (length (taken tr l) + n)
+abbrev pub waiting_call_at : Trace → Line → ℕ → Option Call
+waiting_call_at tr l n = slice_get (issued tr l) (length (taken tr l) + n)
 
 -- the call waits there on the line, or none does, by each right history of what was seen
 abbrev pub WaitsAt : Origin → Seen → Line → ℕ → Option Call → Type 0
-WaitsAt o seen l n c = (tr : Trace) → IsHistory o seen tr → IsRun tr → call_at tr l n ≡ c
+WaitsAt o seen l n c = (tr : Trace) → IsHistory o seen tr → IsRun tr → waiting_call_at tr l n ≡ c
 
 -- the line is one of the session
 abbrev pub IsLineOf : Origin → Line → Type 0
 IsLineOf o l = (l.thread < o.threads) × (l.rm < o.rms)
 
 -- it is one of these lines
-abbrev pub is_one_of : List Line → Line → Bool
-is_one_of [] l = false
-is_one_of (m ∷ ms) l = line_eq m l || is_one_of ms l
+abbrev pub is_line_among : List Line → Line → Bool
+is_line_among [] l = false
+is_line_among (m ∷ ms) l = line_eq m l || is_line_among ms l
 
 -- so many of these lines are the line
 abbrev pub times : List Line → Line → ℕ
@@ -38,7 +38,7 @@ times (m ∷ ms) l = if line_eq m l then suc (times ms l) else times ms l
 
 -- the call was done with some answer, and each branch came from the one standing to the other by that
 abbrev pub WasDone : Call → (from to : Branch → Standing) → Type 0
-WasDone c from to = (a : Code) × ((b : Branch) → Takes (asks_of c) a b (from b) (to b))
+WasDone c from to = (a : Code) × ((b : Branch) → ExplainsAsked (asks_of c) a b (from b) (to b))
 
 -- Where all branches may stand, if by what was told each may stand there, and after what wasn't told yet: of the calls that wait on a line
 -- the first ones were done, in turn and however many, each with any answer; lines were cut off, and what waits on them is lost; databases
@@ -47,7 +47,7 @@ pub data MayAllStand (o : Origin) (seen : Seen) (Told : Branch → Standing → 
   AsTold : (f : Branch → Standing) → ((b : Branch) → Told b (f b)) → MayAllStand o seen Told [] [] f
   UnderWay :
       (done cut : List Line) (from to : Branch → Standing) (l : Line) (c : Call) → MayAllStand o seen Told done cut from → IsLineOf o l
-      → is_one_of cut l ≡ false → WaitsAt o seen l (times done l) (Some c) → WasDone c from to → MayAllStand o seen Told (l ∷ done) cut to
+      → is_line_among cut l ≡ false → WaitsAt o seen l (times done l) (Some c) → WasDone c from to → MayAllStand o seen Told (l ∷ done) cut to
   CutOff :
       (done cut : List Line) (from to : Branch → Standing) (l : Line) → MayAllStand o seen Told done cut from
       → ((b : Branch) → to b ≡ (if line_eq l (line_of b) then broken (from b) else from b)) → MayAllStand o seen Told done (l ∷ cut) to

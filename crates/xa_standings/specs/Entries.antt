@@ -25,8 +25,8 @@ abbrev pub states_at : (incarnation : ℕ) → BTreeMap Branch States → Branch
 states_at i m b = unwrap_or (get branch_cmp m b) (states_before i b)
 
 -- the branch of this manager that a call names, if it names one
-abbrev pub branch_asked : Call Xid → Option Branch
-branch_asked call = option_and_then branch_of_xid (xid_in call)
+abbrev pub branch_in_call : Call Xid → Option Branch
+branch_in_call call = option_and_then branch_of_xid (xid_in call)
 
 -- ** a line that breaks
 
@@ -53,17 +53,17 @@ abbrev pub HasRoom : BTreeMap Branch States → Name → Type 0
 HasRoom m (Ours b) = HasEntry m b
 HasRoom m (Foreign x) = Unit
 
-abbrev pub HaveRoom : BTreeMap Branch States → List Xid → Type 0
-HaveRoom m [] = Unit
-HaveRoom m (x ∷ xs) = HasRoom m (name_of x) × HaveRoom m xs
+abbrev pub HasRoomForAll : BTreeMap Branch States → List Xid → Type 0
+HasRoomForAll m [] = Unit
+HasRoomForAll m (x ∷ xs) = HasRoom m (name_of x) × HasRoomForAll m xs
 
 -- no entry says only what was known before anything was heard
 abbrev pub HasNoRoom : (incarnation : ℕ) → BTreeMap Branch States → Type 0
 HasNoRoom i m = (b : Branch) → HasEntry m b → states_at i m b ≢ states_before i b
 
 -- what there was an entry for, there still is
-abbrev pub HasKept : (old new : BTreeMap Branch States) → Type 0
-HasKept old new = (q : Branch) → HasEntry old q → HasEntry new q
+abbrev pub HasKeptEntries : (old new : BTreeMap Branch States) → Type 0
+HasKeptEntries old new = (q : Branch) → HasEntry old q → HasEntry new q
 
 -- there is an entry for the branch that a call names, if it names one
 abbrev pub HasRoomIf : BTreeMap Branch States → Option Branch → Type 0
@@ -71,9 +71,9 @@ HasRoomIf m (Some b) = HasEntry m b
 HasRoomIf m None = Unit
 
 -- there is an entry for each branch that such an answer to the call is of
-abbrev pub HasRoomFor : BTreeMap Branch States → Call Xid → Answer Xid → Type 0
-HasRoomFor m call (Ret code) = HasRoomIf m (branch_asked call)
-HasRoomFor m call (Page xids) = HaveRoom m xids
+abbrev pub HasRoomForAnswer : BTreeMap Branch States → Call Xid → Answer Xid → Type 0
+HasRoomForAnswer m call (Ret code) = HasRoomIf m (branch_in_call call)
+HasRoomForAnswer m call (Page xids) = HasRoomForAll m xids
 
 -- the states of a branch once a page listed the name, and these
 abbrev pub listed : Name → Branch → States → States

@@ -7,7 +7,7 @@ use Rattle.xa_model.specs.Trace.{Branch, Gtrid, Origin, Trace}
 use Rattle.xa_standings.specs.Seen.{IsHistory, Seen}
 
 -- no row and no record of the start is of a transaction that may still be begun
-pub record IsOldLog (o : Origin) : Type 0 where
+pub record HasOnlyOlderRows (o : Origin) : Type 0 where
   pub rows_old : (g : Gtrid) → lists_row o.rows g ≡ true → g.incarnation < o.incarnation
   pub record_old : (b : Branch) → has_record o.heuristic_rows b ≡ true → b.gtrid.incarnation < o.incarnation
 
@@ -18,6 +18,6 @@ pub record IsExplained (o : Origin) (seen : Seen) : Type 0 where
   pub runs : IsRun history
 
 -- one that leaves each branch there
-pub record IsRunOf (o : Origin) (seen : Seen) (f : Branch → Standing) : Type 0 where
+pub record IsExplainedAt (o : Origin) (seen : Seen) (f : Branch → Standing) : Type 0 where
   pub whole : IsExplained o seen
   pub there : (b : Branch) → standing whole.history b ≡ f b

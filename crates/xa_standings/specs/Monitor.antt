@@ -40,8 +40,8 @@ abbrev pub Monitors : Origin → Seen → Monitor → Type 0
 Monitors o seen m = AreStatesBy o seen (states_of m)
 
 -- what the first has followed, the second has, and this answer more
-abbrev pub Hears : Line → Call → Answer → (old new : Monitor) → Type 0
-Hears l c a old new = (o : Origin) (seen : Seen) → Monitors o seen old → Monitors o (Answered seen l c a) new
+abbrev pub HearsAnswer : Line → Call → Answer → (old new : Monitor) → Type 0
+HearsAnswer l c a old new = (o : Origin) (seen : Seen) → Monitors o seen old → Monitors o (Answered seen l c a) new
 
 -- the same, and the loss of this line more, with the call that waited first on it
 abbrev pub Loses : Line → Option Call → (old new : Monitor) → Type 0
@@ -77,6 +77,6 @@ AllExplain states l c a = (b : Branch) → IsSomewhere states b → CanExplain s
 -- ** steps
 
 -- the steps of each branch lead its states exactly into those
-pub record Leads (before : Branch → States) (Step : Branch → Standing → Standing → Type 0) (after : Branch → States) : Type 0 where
+pub record LeadsExactly (before : Branch → States) (Step : Branch → Standing → Standing → Type 0) (after : Branch → States) : Type 0 where
   pub into : (b : Branch) → LeadsInto (before b) (Step b) (after b)
   pub onto : (b : Branch) → LeadsOnto (before b) (Step b) (after b)

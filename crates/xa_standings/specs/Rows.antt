@@ -38,11 +38,11 @@ abbrev pub is_some_state : States → Bool
 is_some_state s = s.s0 || (s.s1 || (s.s2 || (s.s3 || (s.s4 || is_some_end s.s5))))
 
 -- this one alone, if it is among them
-abbrev pub only : How → HeuristicEnds → HeuristicEnds
-only Hows.Com e = record no_end { heurcom = e.heurcom }
-only Hows.Rb e = record no_end { heurrb = e.heurrb }
-only Hows.Mix e = record no_end { heurmix = e.heurmix }
-only Hows.Haz e = record no_end { heurhaz = e.heurhaz }
+abbrev pub only_end : How → HeuristicEnds → HeuristicEnds
+only_end Hows.Com e = record no_end { heurcom = e.heurcom }
+only_end Hows.Rb e = record no_end { heurrb = e.heurrb }
+only_end Hows.Mix e = record no_end { heurmix = e.heurmix }
+only_end Hows.Haz e = record no_end { heurhaz = e.heurhaz }
 
 -- those that a call may find: a resource manager may have ended a prepared branch by itself
 abbrev pub found_by_call : States → States
@@ -67,44 +67,44 @@ after_join NotAnXid s = record none { s0 = s.s0 }
 after_join Protocol s = record s { s0 = false }
 after_join _ s = none
 
-abbrev pub after_end : (fail : Bool) → Code → States → States
-after_end false Success s = record none { s2 = s.s1 }
-after_end true (RolledBack Rb.Rollback) s = record none { s4 = s.s1 }
-after_end fail NotAnXid s = record none { s0 = s.s0 }
-after_end fail Protocol s = record s { s0 = false; s1 = false }
-after_end fail _ s = none
+abbrev pub states_after_end : (fail : Bool) → Code → States → States
+states_after_end false Success s = record none { s2 = s.s1 }
+states_after_end true (RolledBack Rb.Rollback) s = record none { s4 = s.s1 }
+states_after_end fail NotAnXid s = record none { s0 = s.s0 }
+states_after_end fail Protocol s = record s { s0 = false; s1 = false }
+states_after_end fail _ s = none
 
-abbrev pub after_prepare : Code → States → States
-after_prepare Success s = record none { s3 = s.s2 }
-after_prepare Codes.ReadOnly s = record none { s0 = s.s2 }
-after_prepare (RolledBack code) s = record none { s0 = s.s2 }
-after_prepare NotAnXid s = record none { s0 = s.s0 }
-after_prepare Protocol s = record s { s0 = false; s2 = false }
-after_prepare _ s = none
+abbrev pub states_after_prepare : Code → States → States
+states_after_prepare Success s = record none { s3 = s.s2 }
+states_after_prepare Codes.ReadOnly s = record none { s0 = s.s2 }
+states_after_prepare (RolledBack code) s = record none { s0 = s.s2 }
+states_after_prepare NotAnXid s = record none { s0 = s.s0 }
+states_after_prepare Protocol s = record s { s0 = false; s2 = false }
+states_after_prepare _ s = none
 
-abbrev pub after_commit : Code → States → States
-after_commit Success s = record none { s0 = s.s3 }
-after_commit Retry s = record none { s3 = s.s3 }
-after_commit (Heuristic how) s = record none { s5 = only how s.s5 }
-after_commit NotAnXid s = record none { s0 = s.s0 }
-after_commit Protocol s = record none { s1 = s.s1; s2 = s.s2; s4 = s.s4 }
-after_commit _ s = none
+abbrev pub states_after_commit : Code → States → States
+states_after_commit Success s = record none { s0 = s.s3 }
+states_after_commit Retry s = record none { s3 = s.s3 }
+states_after_commit (Heuristic how) s = record none { s5 = only_end how s.s5 }
+states_after_commit NotAnXid s = record none { s0 = s.s0 }
+states_after_commit Protocol s = record none { s1 = s.s1; s2 = s.s2; s4 = s.s4 }
+states_after_commit _ s = none
 
-abbrev pub after_one_phase : Code → States → States
-after_one_phase Success s = record none { s0 = s.s2 }
-after_one_phase (RolledBack code) s = record none { s0 = s.s2 }
-after_one_phase (Heuristic how) s = record none { s5 = only how s.s5 }
-after_one_phase NotAnXid s = record none { s0 = s.s0 }
-after_one_phase Protocol s = record none { s1 = s.s1; s3 = s.s3; s4 = s.s4 }
-after_one_phase _ s = none
+abbrev pub states_after_one_phase : Code → States → States
+states_after_one_phase Success s = record none { s0 = s.s2 }
+states_after_one_phase (RolledBack code) s = record none { s0 = s.s2 }
+states_after_one_phase (Heuristic how) s = record none { s5 = only_end how s.s5 }
+states_after_one_phase NotAnXid s = record none { s0 = s.s0 }
+states_after_one_phase Protocol s = record none { s1 = s.s1; s3 = s.s3; s4 = s.s4 }
+states_after_one_phase _ s = none
 
-abbrev pub after_rollback : Code → States → States
-after_rollback Success s = record none { s0 = s.s2 || s.s3 }
-after_rollback (RolledBack Rb.Rollback) s = record none { s0 = s.s4 }
-after_rollback (Heuristic how) s = record none { s5 = only how s.s5 }
-after_rollback NotAnXid s = record none { s0 = s.s0 }
-after_rollback Protocol s = record none { s1 = s.s1 }
-after_rollback _ s = none
+abbrev pub states_after_rollback : Code → States → States
+states_after_rollback Success s = record none { s0 = s.s2 || s.s3 }
+states_after_rollback (RolledBack Rb.Rollback) s = record none { s0 = s.s4 }
+states_after_rollback (Heuristic how) s = record none { s5 = only_end how s.s5 }
+states_after_rollback NotAnXid s = record none { s0 = s.s0 }
+states_after_rollback Protocol s = record none { s1 = s.s1 }
+states_after_rollback _ s = none
 
 abbrev pub after_forget : Code → States → States
 after_forget Success s = record none { s0 = is_some_end s.s5 }
@@ -115,11 +115,11 @@ after_forget _ s = none
 abbrev pub row : Kind → Code → States → States
 row Start a s = after_start a s
 row Join a s = after_join a s
-row (End fail) a s = after_end fail a s
-row Prepare a s = after_prepare a s
-row Commit a s = after_commit a s
-row OnePhase a s = after_one_phase a s
-row Rollback a s = after_rollback a s
+row (End fail) a s = states_after_end fail a s
+row Prepare a s = states_after_prepare a s
+row Commit a s = states_after_commit a s
+row OnePhase a s = states_after_one_phase a s
+row Rollback a s = states_after_rollback a s
 row Forget a s = after_forget a s
 
 abbrev pub row_if : {X : Type 0} → Option (Kind × X) → Code → States → States

@@ -13,7 +13,7 @@ use Rattle.xa_model.specs.Promises.Processes.{SameRecords, SameRows, gone, resum
 use Rattle.xa_model.specs.Protocol.{AllRight, IsRun, RightFault}
 use Rattle.xa_model.specs.Trace.{Branch, Fault, Fault.InDecide, Fault.InDone, Fault.InResolve, Happening.Failed, How, Line, Origin, Trace, Trace.From, Trace.Then}
 use Rattle.xa_standings.specs.Agreement.{MayAllStand}
-use Rattle.xa_standings.specs.Explained.{IsOldLog}
+use Rattle.xa_standings.specs.Explained.{HasOnlyOlderRows}
 use Rattle.xa_standings.specs.Named.{AreOnBranches}
 use Rattle.xa_standings.specs.Seen.{IsHistory, KeepsRules, Seen}
 use Rattle.xa_standings.specs.Standings.{Comes}
@@ -71,7 +71,7 @@ Finds (LeftBy o seen fails) next = (tr : Trace) → IsHistory o seen tr → IsRu
 -- A session: its start has what was found in the log; the manager kept its rules in what was seen, in which each call is on a branch that has
 -- an identifier; and where its log failed in a step, or the program was killed in one, that was right.
 pub record IsSession (o : Origin) (seen : Seen) (fails : Option Fault) : Type 0 where
-  pub old : IsOldLog o
+  pub old : HasOnlyOlderRows o
   pub keeps : KeepsRules o seen
   pub on_branches : AreOnBranches seen
   pub may_fail : MayFail o seen fails

@@ -29,18 +29,18 @@ ExplainsIf true from k a to = Explains from k a to
 ExplainsIf false from k a to = to ≡ from
 
 -- the same of a branch and what a call asks: nothing of any, or something of one
-abbrev pub Takes : Option (Kind × Branch) → Code → Branch → (from to : Standing) → Type 0
-Takes (Some (k, c)) a b from to = ExplainsIf (branch_eq c b) from k a to
-Takes None a b from to = to ≡ from
+abbrev pub ExplainsAsked : Option (Kind × Branch) → Code → Branch → (from to : Standing) → Type 0
+ExplainsAsked (Some (k, c)) a b from to = ExplainsIf (branch_eq c b) from k a to
+ExplainsAsked None a b from to = to ≡ from
 
 -- the same of any answer. What a page of a resource manager lists is in doubt there
 abbrev pub Explained : Line → Call → Answer → Branch → (from to : Standing) → Type 0
-Explained l c (Ret a) b from to = Takes (asks_of c) a b from to
+Explained l c (Ret a) b from to = ExplainsAsked (asks_of c) a b from to
 Explained l c (Page names) b from to = (to ≡ from) × (Lists names (Ours b) → (b.rm ≡ l.rm) × (is_in_doubt from ≡ true))
 
 -- a call that waited first on a line that was lost may have been done, or not; and then there may have been none
 abbrev pub MayBeDone : Option Call → Branch → (from to : Standing) → Type 0
-MayBeDone (Some c) b from to = (to ≡ from) ⊎ ((a : Code) × Takes (asks_of c) a b from to)
+MayBeDone (Some c) b from to = (to ≡ from) ⊎ ((a : Code) × ExplainsAsked (asks_of c) a b from to)
 MayBeDone None b from to = to ≡ from
 
 -- ** all answers

@@ -36,10 +36,10 @@ LeadsOnto before Step after =
     → (s : State) × (has before s ≡ true) × ((f : Standing) → state_of f ≡ s → (g : Standing) × Step f g × (state_of g ≡ t))
 
 -- from one standing to another by what a call asks that is answered so; one that asks nothing of a branch moves none
-abbrev pub Asked : {X : Type 0} → Option (Kind × X) → Code → Standing → Standing → Type 0
-Asked (Some (k, x)) a f g = Explains f k a g
-Asked None a f g = g ≡ f
+abbrev pub MovesAsAsked : {X : Type 0} → Option (Kind × X) → Code → Standing → Standing → Type 0
+MovesAsAsked (Some (k, x)) a f g = Explains f k a g
+MovesAsAsked None a f g = g ≡ f
 
 -- the same of a call that was done or wasn't, and whose answer isn't known
 abbrev pub AskedOrNot : {X : Type 0} → Option (Kind × X) → Standing → Standing → Type 0
-AskedOrNot asks f g = (g ≡ f) ⊎ ((a : Code) × Asked asks a f g)
+AskedOrNot asks f g = (g ≡ f) ⊎ ((a : Code) × MovesAsAsked asks a f g)

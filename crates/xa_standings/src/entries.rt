@@ -5,7 +5,7 @@ ghost use Rattle.xa_base.specs.Branch.{branch_eq};
 ghost use Rattle.xa_model.specs.Protocol.{Lists};
 ghost use Rattle.xa_model.specs.Replies.History.{name_of};
 ghost use Rattle.xa_model.specs.Trace.{Name.Ours, line};
-ghost use Rattle.xa_standings.specs.Entries.{AreListable, HasEntry, HasKept, HasNoRoom, HasRoom, HaveRoom, IsListable, listed, listed_by, off_line_at, states_at, states_before};
+ghost use Rattle.xa_standings.specs.Entries.{AreListable, HasEntry, HasKeptEntries, HasNoRoom, HasRoom, HasRoomForAll, IsListable, listed, listed_by, off_line_at, states_at, states_before};
 
 use crate::States;
 use std::collections::BTreeMap;
@@ -144,7 +144,7 @@ pub(crate) fn reserve(
     ensures same { (q : _) → states_at incarnation branches.new q
         ≡ states_at incarnation branches.old q }
     ensures room { OnOk result (HasEntry branches.new b) }
-    ensures kept { HasKept branches.old branches.new }
+    ensures kept { HasKeptEntries branches.old branches.new }
 {
     if branches.contains_key(&b) {
         return Ok(());
@@ -164,7 +164,7 @@ fn reserve_named(
     ensures same { (q : _) → states_at incarnation branches.new q
         ≡ states_at incarnation branches.old q }
     ensures room { OnOk result (HasRoom branches.new (name_of xid.now)) }
-    ensures kept { HasKept branches.old branches.new }
+    ensures kept { HasKeptEntries branches.old branches.new }
 {
     match xid.branch() {
         Some(b) => reserve(branches, incarnation, b),
@@ -180,7 +180,7 @@ pub(crate) fn reserve_all(
 ) -> Result<(), Memory>
     ensures same { (q : _) → states_at incarnation branches.new q
         ≡ states_at incarnation branches.old q }
-    ensures room { OnOk result (HaveRoom branches.new xids.now) }
+    ensures room { OnOk result (HasRoomForAll branches.new xids.now) }
 {
     for xid in xids {
         reserve_named(branches, incarnation, xid)?;
@@ -193,7 +193,7 @@ fn list(branches: &mut BTreeMap<Branch, States>, incarnation: u64, xid: &Xid)
     requires { HasRoom branches.old (name_of xid.now) }
     ensures at { (q : _) → states_at incarnation branches.new q
         ≡ listed (name_of xid.now) q (states_at incarnation branches.old q) }
-    ensures kept { HasKept branches.old branches.new }
+    ensures kept { HasKeptEntries branches.old branches.new }
 {
     let Some(b) = xid.branch() else {
         return;
@@ -205,7 +205,7 @@ fn list(branches: &mut BTreeMap<Branch, States>, incarnation: u64, xid: &Xid)
 
 /// A page lists these: their branches are in doubt.
 pub(crate) fn list_all(branches: &mut BTreeMap<Branch, States>, incarnation: u64, xids: &[Xid])
-    requires { HaveRoom branches.old xids.now }
+    requires { HasRoomForAll branches.old xids.now }
     ensures { (q : _) → states_at incarnation branches.new q
         ≡ listed_by xids.now q (states_at incarnation branches.old q) }
 {

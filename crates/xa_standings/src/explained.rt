@@ -8,7 +8,7 @@ ghost use Rattle.xa_standings.specs.Seen.{KeepsRules, Seen};
 ghost use Rattle.xa_standings.specs.Standings.{Comes, MayStand};
 ghost use Rattle.xa_standings.specs.Across.{GoesOn, IsKnownAsLeft};
 ghost use Rattle.xa_standings.specs.Agreement.{HaveCome, OwnStandAlike, StandAlike, StandSo};
-ghost use Rattle.xa_standings.specs.Explained.{IsExplained, IsOldLog, IsRunOf};
+ghost use Rattle.xa_standings.specs.Explained.{HasOnlyOlderRows, IsExplained, IsExplainedAt};
 ghost use Rattle.xa_standings.specs.Sessions.{AfterSessions, CommitStands, Finds, HaveOneHistory};
 ghost use Rattle.xa_standings.specs.Sessions.{Log, RowsDecide, WasFoundDecided};
 
@@ -26,16 +26,16 @@ ghost use Rattle.xa_standings.specs.Sessions.{Log, RowsDecide, WasFoundDecided};
 ///   one that is rolled back or lost;
 /// - `agree_across`: the same of all transactions, where the start has each branch just as the past left it.
 pub fn answers_are_explained()
-    ensures each { (o : Origin) (seen : Seen) → IsOldLog o → KeepsRules o seen →
-        (f : Branch → Standing) → ((b : Branch) → MayStand o seen b (f b)) → IsRunOf o seen f }
-    ensures some { (o : Origin) (seen : Seen) → IsOldLog o → KeepsRules o seen →
+    ensures each { (o : Origin) (seen : Seen) → HasOnlyOlderRows o → KeepsRules o seen →
+        (f : Branch → Standing) → ((b : Branch) → MayStand o seen b (f b)) → IsExplainedAt o seen f }
+    ensures some { (o : Origin) (seen : Seen) → HasOnlyOlderRows o → KeepsRules o seen →
         ((b : Branch) → (s : Standing) × MayStand o seen b s) → IsExplained o seen }
     ensures across { (past : Trace) (o : Origin) (seen : Seen) →
         AllRight past → Resumes past o → OldOrigin o → KeepsRules o seen →
         (f : Branch → Standing) → ((b : Branch) → Comes seen b (held_of o b).standing (f b)) →
         GoesOn past o seen f }
     // And where they all stand.
-    ensures agree { (o : Origin) (seen : Seen) → IsOldLog o → KeepsRules o seen →
+    ensures agree { (o : Origin) (seen : Seen) → HasOnlyOlderRows o → KeepsRules o seen →
         (f : Branch → Standing) → StandSo o seen f → OwnStandAlike o.incarnation f }
     ensures agree_across { (past : Trace) (o : Origin) (seen : Seen) →
         AllRight past → Resumes past o → OldOrigin o → KeepsRules o seen →

@@ -7,10 +7,10 @@ ghost use Rattle.xa_base.specs.StateTable.{asks_of};
 ghost use Rattle.xa_base.specs.declared.answer.Answer.TheVariants.{Ret};
 ghost use Rattle.xa_model.specs.Replies.History.{name_of};
 ghost use Rattle.xa_model.specs.Trace.{Branch as Named, Call as KnownCall, Happening, Line, Origin, line};
-ghost use Rattle.xa_standings.specs.Entries.{HasNoRoom, HasRoomFor, HasRoomIf, branch_asked};
-ghost use Rattle.xa_standings.specs.Explained.{IsExplained, IsOldLog};
+ghost use Rattle.xa_standings.specs.Entries.{HasNoRoom, HasRoomForAnswer, HasRoomIf, branch_in_call};
+ghost use Rattle.xa_standings.specs.Explained.{HasOnlyOlderRows, IsExplained};
 ghost use Rattle.xa_standings.specs.Seen.{KeepsRules, Seen};
-ghost use Rattle.xa_standings.specs.Standings.{Explained, MayBeDone, Takes};
+ghost use Rattle.xa_standings.specs.Standings.{Explained, ExplainsAsked, MayBeDone};
 
 use crate::States;
 use crate::entries::{
@@ -43,7 +43,7 @@ pub struct Monitor {
 }
 
 impl Monitor {
-    ghost use Rattle.xa_standings.specs.Monitor.{AllExplain, CanExplain, Hears, IsSomewhere, IsUnexplained, Leads, Loses, Monitors, SaysTheSame, known, known_if, states_of};
+    ghost use Rattle.xa_standings.specs.Monitor.{AllExplain, CanExplain, HearsAnswer, IsSomewhere, IsUnexplained, LeadsExactly, Loses, Monitors, SaysTheSame, known, known_if, states_of};
     ghost use Rattle.xa_standings.specs.declared.monitor.HearFault.TheVariants.{Unexplained};
 
     /// Nothing was heard yet in this incarnation of the manager: a branch of an older one is in `States::found()`, any
@@ -91,7 +91,7 @@ impl Monitor {
     /// Makes room for such an answer to the call, so that [`Monitor::follow`] asks for no memory. What is known of the
     /// branches stays. Where memory was refused, there is no room left.
     pub fn make_room(&mut self, call: &Call, answer: &Answer) -> Result<(), Memory>
-        ensures room { OnOk result (HasRoomFor self.new.branches call.now answer.now) }
+        ensures room { OnOk result (HasRoomForAnswer self.new.branches call.now answer.now) }
         ensures same { SaysTheSame self.old self.new }
         ensures dropped { OnErr result (HasNoRoom self.new.incarnation self.new.branches) }
     {
@@ -116,10 +116,10 @@ impl Monitor {
     ///
     /// If each branch explains the answer (`none` of [`Monitor::unexplained`]), the monitor has followed it.
     pub fn follow(&mut self, call: &Call, answer: &Answer)
-        requires { HasRoomFor self.old.branches call.now answer.now }
+        requires { HasRoomForAnswer self.old.branches call.now answer.now }
         ensures { (l : Line) (c : KnownCall) → known call.now ≡ Some c →
             AllExplain (states_of self.old) l c (map_answer name_of answer.now) →
-            Hears l c (map_answer name_of answer.now) self.old self.new }
+            HearsAnswer l c (map_answer name_of answer.now) self.old self.new }
     {
         self.narrow(call, answer);
     }
@@ -131,7 +131,7 @@ impl Monitor {
     /// - `same`: what isn't heard has changed no states.
     pub fn hear(&mut self, rm: u32, call: &Call, answer: &Answer) -> Result<(), HearFault>
         ensures ok { OnOk result ((t : ℕ) (c : KnownCall) → known call.now ≡ Some c →
-            Hears (line t rm) c (map_answer name_of answer.now) self.old self.new) }
+            HearsAnswer (line t rm) c (map_answer name_of answer.now) self.old self.new) }
         ensures unexplained { (b : Named) → result ≡ Err (Unexplained b) →
             (o : Origin) (seen : Seen) (t : ℕ) (c : KnownCall) →
             known call.now ≡ Some c → Monitors o seen self.old →
@@ -169,7 +169,7 @@ impl Monitor {
     /// - `explained`: if the manager kept its own rules, what was seen has a right history;
     /// - `did`: what the manager did needs no telling.
     pub fn what_was_seen_is_explained(&self)
-        ensures explained { (o : Origin) (seen : Seen) → IsOldLog o → KeepsRules o seen →
+        ensures explained { (o : Origin) (seen : Seen) → HasOnlyOlderRows o → KeepsRules o seen →
             Monitors o seen self.now → IsExplained o seen }
         ensures did { (o : Origin) (seen : Seen) (e : Happening) → Monitors o seen self.now →
             Monitors o (Seen.Did seen e) self.now }
@@ -192,7 +192,7 @@ impl Monitor {
 
     /// Makes room for such an answer to the call.
     fn reserve(&mut self, call: &Call, answer: &Answer) -> Result<(), Memory>
-        ensures room { OnOk result (HasRoomFor self.new.branches call.now answer.now) }
+        ensures room { OnOk result (HasRoomForAnswer self.new.branches call.now answer.now) }
         ensures same { SaysTheSame self.old self.new }
     {
         match answer {
@@ -203,7 +203,7 @@ impl Monitor {
 
     /// Makes room for the branch that a call is on.
     fn reserve_for(&mut self, call: &Call) -> Result<(), Memory>
-        ensures room { OnOk result (HasRoomIf self.new.branches (branch_asked call.now)) }
+        ensures room { OnOk result (HasRoomIf self.new.branches (branch_in_call call.now)) }
         ensures same { SaysTheSame self.old self.new }
     {
         match branch_of(call) {
@@ -214,10 +214,10 @@ impl Monitor {
 
     /// Leaves the states to which an answer leads that some state of each branch explains.
     fn narrow(&mut self, call: &Call, answer: &Answer)
-        requires { HasRoomFor self.old.branches call.now answer.now }
+        requires { HasRoomForAnswer self.old.branches call.now answer.now }
         ensures { (l : Line) (c : KnownCall) → known call.now ≡ Some c →
             ((b : Named) → CanExplain (states_of self.old) l c (map_answer name_of answer.now) b) →
-            Leads (states_of self.old) (Explained l c (map_answer name_of answer.now))
+            LeadsExactly (states_of self.old) (Explained l c (map_answer name_of answer.now))
             (states_of self.new) }
     {
         match answer {
@@ -228,9 +228,9 @@ impl Monitor {
 
     /// The call was answered by a code.
     fn hear_code(&mut self, call: &Call, code: Code)
-        requires { HasRoomIf self.old.branches (branch_asked call.now) }
+        requires { HasRoomIf self.old.branches (branch_in_call call.now) }
         ensures { (c : KnownCall) → known call.now ≡ Some c →
-            Leads (states_of self.old) (Takes (asks_of c) code) (states_of self.new) }
+            LeadsExactly (states_of self.old) (ExplainsAsked (asks_of c) code) (states_of self.new) }
     {
         if let Some(b) = branch_of(call) {
             let states = self.states(b).after(call, code);
@@ -240,7 +240,7 @@ impl Monitor {
 
     /// The call that waited first, if one did, was done or wasn't.
     fn doubt_first(&mut self, call: Option<&Call>) -> Result<(), Memory>
-        ensures ok { OnOk result (Leads (states_of self.old)
+        ensures ok { OnOk result (LeadsExactly (states_of self.old)
             (MayBeDone (known_if (option_copied call.entry))) (states_of self.new)) }
         ensures err { OnErr result (SaysTheSame self.old self.new) }
     {
@@ -253,7 +253,7 @@ impl Monitor {
     /// The call was done, and answered in any way, or it wasn't done.
     fn doubt(&mut self, call: &Call) -> Result<(), Memory>
         ensures ok { OnOk result
-            (Leads (states_of self.old) (MayBeDone (known call.now)) (states_of self.new)) }
+            (LeadsExactly (states_of self.old) (MayBeDone (known call.now)) (states_of self.new)) }
         ensures err { OnErr result (SaysTheSame self.old self.new) }
     {
         self.reserve_for(call)?;
@@ -267,7 +267,7 @@ impl Monitor {
 
 /// The branch of this manager that a call is on, if it is on one.
 fn branch_of(call: &Call) -> Option<Branch>
-    ensures { result ≡ branch_asked call.now }
+    ensures { result ≡ branch_in_call call.now }
 {
     call.xid()?.branch()
 }

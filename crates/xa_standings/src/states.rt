@@ -1,6 +1,6 @@
 //! The states in which a branch may be, by all that was answered.
 ghost use Rattle.std.specs.Prelude.{◌≡◌, false};
-ghost use Rattle.xa_standings.specs.Rows.{is_some_end, only};
+ghost use Rattle.xa_standings.specs.Rows.{is_some_end, only_end};
 
 use xa_base::{Call, Code, How, RbCode};
 
@@ -37,7 +37,7 @@ impl HeuristicEnds {
 
     /// This one alone, if it is among them.
     fn only(self, how: How) -> HeuristicEnds
-        ensures { result ≡ only how self }
+        ensures { result ≡ only_end how self }
     {
         match how {
             How::Com => HeuristicEnds {
@@ -82,8 +82,8 @@ impl States {
     ghost use Rattle.xa_base.specs.Standing.{is_in_doubt};
     ghost use Rattle.xa_base.specs.StateTable.{Kind, State, asks_of, broken, commit_kind, state_of};
     ghost use Rattle.xa_base.specs.declared.state.Standing.{Standing};
-    ghost use Rattle.xa_standings.specs.Rows.{after_commit, after_end, after_forget, after_join, after_one_phase, after_prepare, after_rollback, after_start, any_row, any_row_if, break_row, found_by_call, is_some_state, none, page_row, row_if};
-    ghost use Rattle.xa_standings.specs.States.{Asked, AskedOrNot, LeadsInto, LeadsOnto, has};
+    ghost use Rattle.xa_standings.specs.Rows.{after_forget, after_join, after_start, any_row, any_row_if, break_row, found_by_call, is_some_state, none, page_row, row_if, states_after_commit, states_after_end, states_after_one_phase, states_after_prepare, states_after_rollback};
+    ghost use Rattle.xa_standings.specs.States.{AskedOrNot, LeadsInto, LeadsOnto, MovesAsAsked, has};
 
     const NONE: States = States {
         s0: false,
@@ -134,8 +134,8 @@ impl States {
     /// - `into`: wherever the answer leads by the branch state table, from these states, is among them;
     /// - `onto`: to each of them the answer leads, from some of these states.
     pub fn after<X>(self, call: &Call<X>, code: Code) -> States
-        ensures into { LeadsInto self (Asked (asks_of call.now) code) result }
-        ensures onto { LeadsOnto self (Asked (asks_of call.now) code) result }
+        ensures into { LeadsInto self (MovesAsAsked (asks_of call.now) code) result }
+        ensures onto { LeadsOnto self (MovesAsAsked (asks_of call.now) code) result }
     {
         self.by_row(call, code)
     }
@@ -338,7 +338,7 @@ impl States {
 
     /// The same behind xa_end, with TMFAIL or TMSUCCESS.
     fn after_end(self, fail: bool, code: Code) -> States
-        ensures { result ≡ after_end fail code self }
+        ensures { result ≡ states_after_end fail code self }
     {
         match (fail, code) {
             (false, Code::Success) => States {
@@ -361,7 +361,7 @@ impl States {
 
     /// The same behind xa_prepare.
     fn after_prepare(self, code: Code) -> States
-        ensures { result ≡ after_prepare code self }
+        ensures { result ≡ states_after_prepare code self }
     {
         match code {
             Code::Success => States {
@@ -384,7 +384,7 @@ impl States {
 
     /// The same behind xa_commit, without TMONEPHASE.
     fn after_commit(self, code: Code) -> States
-        ensures { result ≡ after_commit code self }
+        ensures { result ≡ states_after_commit code self }
     {
         match code {
             Code::Success => States {
@@ -409,7 +409,7 @@ impl States {
 
     /// The same behind xa_commit with TMONEPHASE.
     fn after_one_phase(self, code: Code) -> States
-        ensures { result ≡ after_one_phase code self }
+        ensures { result ≡ states_after_one_phase code self }
     {
         match code {
             Code::Success | Code::RolledBack(_) => States {
@@ -430,7 +430,7 @@ impl States {
 
     /// The same behind xa_rollback.
     fn after_rollback(self, code: Code) -> States
-        ensures { result ≡ after_rollback code self }
+        ensures { result ≡ states_after_rollback code self }
     {
         match code {
             Code::Success => States {
@@ -482,7 +482,7 @@ impl States {
 
     /// S5 with this code alone, if it is among them.
     fn only_ended(self, how: How) -> States
-        ensures { result ≡ record none { s5 = only how self.s5 } }
+        ensures { result ≡ record none { s5 = only_end how self.s5 } }
     {
         States {
             s5: self.s5.only(how),

@@ -65,8 +65,8 @@ pub record SystemView (R L : Type 0) : Type 0 where
   pub handed : L
   pub log : Slot L
 
-abbrev pub view_of : {R L : Type 0} → Inside R L → SystemView R L
-view_of a = record {
+abbrev pub system_view_of : {R L : Type 0} → Inside R L → SystemView R L
+system_view_of a = record {
   start = a.parts.start.value.items;
   first = a.first.value;
   begun = log_in a.parts.began.value;

@@ -31,12 +31,12 @@ pub struct System<R: ResourceManager + Drop, L: DecisionLog + Drop> {
 
 impl<R: ResourceManager + Drop, L: DecisionLog + Drop> Model for System<R, L> {
     ghost use Rattle.xa_system.specs.Parts.{sees};
-    ghost use Rattle.xa_system.specs.SystemView.{SystemView, view_of, IsSound};
+    ghost use Rattle.xa_system.specs.SystemView.{SystemView, system_view_of, IsSound};
     ghost use Rattle.xa_tm.specs.Slots.{slot_moment};
 
     ghost Value = { SystemView R L };
 
-    ghost view = { view_of };
+    ghost view = { system_view_of };
 
     ghost invariant = { IsSound
         (sees R.look (slot_moment L.moment)) L.moment };

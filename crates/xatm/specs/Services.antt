@@ -10,7 +10,7 @@ use Rattle.xa_log.specs.declared.decision_log.DecisionLog as DecisionLog
 use Rattle.xa_model.specs.Trace.{Origin}
 use Rattle.xa_serve.specs.Following.{StandsAtStart}
 use Rattle.xa_serve.specs.Logging.{HoldsItsBook}
-use Rattle.xa_standings.specs.Explained.{IsOldLog}
+use Rattle.xa_standings.specs.Explained.{HasOnlyOlderRows}
 use Rattle.xa_tm.specs.Begins.{BeginsWith}
 use Rattle.xa_tm.specs.Calls.{log_in}
 use Rattle.xa_tm.specs.Started.{IsStartedOver}
@@ -22,7 +22,7 @@ module _ {L : Type 0} (moment : L → Moment) (name : List ℕ) (threads rms : �
   -- A coordinator that started for so many threads and resource managers, over the log that was handed in.
   pub record Starts (first : Coordinator L) : Type 0 where
     pub stands : StandsAtStart threads rms first.session
-    pub old : (o : Origin) → BeginsWith threads rms first.session.manager o → IsOldLog o
+    pub old : (o : Origin) → BeginsWith threads rms first.session.manager o → HasOnlyOlderRows o
     pub over : IsStartedOver moment threads rms handed first.session.manager
     pub holds : (near : Bool) → Honestly handed (moment (log_in first.session.manager)) (HoldsItsBook moment near first.session.manager)
 

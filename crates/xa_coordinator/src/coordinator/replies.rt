@@ -1,7 +1,7 @@
 //! What the results of a session's calls are replied.
 
 ghost use Rattle.std.specs.Prelude.{◌≡◌};
-ghost use Rattle.xa_coordinator.specs.Replies.{reply_of};
+ghost use Rattle.xa_coordinator.specs.Replies.{response_of};
 ghost use Rattle.xa_requests.specs.declared.response.Response.TheVariants as responses;
 
 use xa_base::{Gtrid, Refusal};
@@ -9,7 +9,7 @@ use xa_requests::Response;
 
 /// The reply to a step that is taken, or its refusal.
 pub(super) fn reply_of(taken: Result<(), Refusal>, reply: Response) -> Response
-    ensures { result ≡ reply_of (λ _. reply) taken }
+    ensures { result ≡ response_of (λ _. reply) taken }
 {
     match taken {
         Ok(()) => reply,
@@ -19,7 +19,7 @@ pub(super) fn reply_of(taken: Result<(), Refusal>, reply: Response) -> Response
 
 /// The reply to a begin.
 pub(super) fn begun_reply(begun: Result<Gtrid, Refusal>) -> Response
-    ensures { result ≡ reply_of responses.Begun begun }
+    ensures { result ≡ response_of responses.Begun begun }
 {
     match begun {
         Ok(gtrid) => Response::Begun(gtrid),
@@ -29,7 +29,7 @@ pub(super) fn begun_reply(begun: Result<Gtrid, Refusal>) -> Response
 
 /// The reply to a recovery.
 pub(super) fn resolved_reply(resolved: Result<usize, Refusal>) -> Response
-    ensures { result ≡ reply_of responses.Resolved resolved }
+    ensures { result ≡ response_of responses.Resolved resolved }
 {
     match resolved {
         Ok(count) => Response::Resolved(count),

@@ -11,7 +11,7 @@ use Rattle.xa_base.specs.declared.code.RbCode.TheVariants as Rb
 use Rattle.xa_base.specs.declared.state.Standing.TheVariants.{Completed}
 use Rattle.xa_base.specs.declared.vote.Vote.{Vote}
 use Rattle.xa_base.specs.declared.vote.Vote.TheVariants.{Yes, ReadOnly, No}
-use Rattle.xa_standings.specs.Rows.{only, row}
+use Rattle.xa_standings.specs.Rows.{only_end, row}
 use Rattle.xa_standings.specs.States.{has, has_end}
 use Rattle.xa_standings.specs.declared.states.States.{States}
 use Rattle.xa_standings.proofs.RowLemmas.StateSets.{there, none_ended, none_there, only_that, no_other, some_end, which_end}
@@ -68,11 +68,11 @@ abbrev pub came : {k : Kind} {a : Code} {m : States} {t : State} (s : State) (v 
     → answer k s v n ≡ a → state_of (moved (there s) k a) ≡ t → CameFrom k a m t
 came s v n h e w = record { state = s; was = h; vote = v; retries = n; answers = e; moves = w }
 
-ended_so : (k : Kind) (how t : How) (m : States) → has_end (only how m.s5) t ≡ true
+ended_so : (k : Kind) (how t : How) (m : States) → has_end (only_end how m.s5) t ≡ true
     → answer k (S5 how) Yes 0 ≡ Heuristic how → state_of (moved (Completed how) k (Heuristic how)) ≡ S5 how → CameFrom k (Heuristic how) m (S5 t)
 ended_so k how t m h e w =
     let same : t ≡ how = no_other how t m.s5 h in
-    came (S5 how) Yes 0 (sym (only_that how m.s5) ∙ (ap (λ x. has_end (only how m.s5) x) (sym same) ∙ h)) e (w ∙ ap S5 (sym same))
+    came (S5 how) Yes 0 (sym (only_that how m.s5) ∙ (ap (λ x. has_end (only_end how m.s5) x) (sym same) ∙ h)) e (w ∙ ap S5 (sym same))
 
 rolled_back : (m : States) → (m.s2 ≡ true) ⊎ (m.s3 ≡ true) → CameFrom Rollback Success m S0
 rolled_back m (inl h) = came S2 Yes 0 h refl refl

@@ -12,7 +12,7 @@ use Rattle.xa_base.specs.declared.code.RbCode.TheVariants as Rb
 use Rattle.xa_base.specs.declared.state.Standing.{Standing}
 use Rattle.xa_base.specs.declared.vote.Vote.{Vote}
 use Rattle.xa_base.specs.declared.vote.Vote.TheVariants.{Yes, ReadOnly, No}
-use Rattle.xa_standings.specs.Rows.{any_row, any_row_if, found_by_call, is_some_end, only, row}
+use Rattle.xa_standings.specs.Rows.{any_row, any_row_if, found_by_call, is_some_end, only_end, row}
 use Rattle.xa_standings.specs.States.{AskedOrNot, LeadsInto, LeadsOnto, has, has_end}
 use Rattle.xa_standings.specs.declared.states.States.{States}
 use Rattle.xa_standings.proofs.RowLemmas.StateSets.{there, only_that, some_end, found_same}
@@ -97,7 +97,7 @@ or_led k t m b a h led = by_part (or_cases (has m t) b h)
     by_part (inr e) = inr (a, led e)
 
 kept_end : (k : Kind) (how : How) (m : States) → has_end (found_by_call m).s5 how ≡ true
-    → has_end (only how (found_by_call m).s5) how ≡ true
+    → has_end (only_end how (found_by_call m).s5) how ≡ true
 kept_end k how m h = only_that how (found_by_call m).s5 ∙ h
 
 rolled_back_any : (m : States) → (m.s0 ≡ true) ⊎ ((m.s2 || (m.s3 || m.s4)) ≡ true) → HereOrLed Rollback S0 m

@@ -10,7 +10,7 @@ use Rattle.xa_base.specs.declared.state.Standing.TheVariants.{Prepared, Complete
 use Rattle.xa_base.specs.declared.vote.Vote.{Vote}
 use Rattle.xa_standings.specs.Rows.{found_by_call, row, row_if}
 use Rattle.xa_standings.specs.Standings.{Explains}
-use Rattle.xa_standings.specs.States.{Asked, LeadsInto, LeadsOnto, has}
+use Rattle.xa_standings.specs.States.{LeadsInto, LeadsOnto, MovesAsAsked, has}
 use Rattle.xa_standings.specs.declared.states.States.{States}
 use Rattle.xa_standings.proofs.RowLemmas.StateSets.{there, moves_by_state, found_same, found_ended, found_how}
 use Rattle.xa_standings.proofs.RowLemmas.AnswerRows.{into_row, CameFrom, onto_row}
@@ -49,7 +49,7 @@ asked_into k a s f g h x =
     (ap (λ z. has (row k (answer k c.state c.vote c.retries) (found_by_call s)) z) c.leads
     ∙ into_row k c.state c.vote c.retries (found_by_call s) c.was)
 
-pub asked_onto : {X : Type 0} (x : X) (k : Kind) (a : Code) (s : States) → LeadsOnto s (Asked (Some (k, x)) a) (row k a (found_by_call s))
+pub asked_onto : {X : Type 0} (x : X) (k : Kind) (a : Code) (s : States) → LeadsOnto s (MovesAsAsked (Some (k, x)) a) (row k a (found_by_call s))
 asked_onto x k a s t h = by_found (found_how s c.state c.was)
   where
     c : CameFrom k a (found_by_call s) t
@@ -90,10 +90,10 @@ asked_onto x k a s t h = by_found (found_how s c.state c.was)
       ),
     )
 
-pub into_if : {X : Type 0} (asks : Option (Kind × X)) (a : Code) (s after : States) → after ≡ row_if asks a s → LeadsInto s (Asked asks a) after
+pub into_if : {X : Type 0} (asks : Option (Kind × X)) (a : Code) (s after : States) → after ≡ row_if asks a s → LeadsInto s (MovesAsAsked asks a) after
 into_if (Some (k, x)) a s after e f g h y = ap (λ z. has z (state_of g)) e ∙ asked_into k a s f g h y
 into_if None a s after e f g h y = ap (λ z. has z (state_of g)) e ∙ (ap (λ z. has s (state_of z)) y ∙ h)
 
-pub onto_if : {X : Type 0} (asks : Option (Kind × X)) (a : Code) (s after : States) → after ≡ row_if asks a s → LeadsOnto s (Asked asks a) after
+pub onto_if : {X : Type 0} (asks : Option (Kind × X)) (a : Code) (s after : States) → after ≡ row_if asks a s → LeadsOnto s (MovesAsAsked asks a) after
 onto_if (Some (k, x)) a s after e t h = asked_onto x k a s t (sym (ap (λ z. has z t) e) ∙ h)
 onto_if None a s after e t h = (t, sym (ap (λ z. has z t) e) ∙ h, λ f p. (f, refl, p))

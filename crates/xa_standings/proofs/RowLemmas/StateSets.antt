@@ -9,7 +9,7 @@ use Rattle.xa_base.specs.declared.code.How.{How}
 use Rattle.xa_base.specs.declared.code.How.TheVariants as Hows
 use Rattle.xa_base.specs.declared.state.Standing.{Standing}
 use Rattle.xa_base.specs.declared.state.Standing.TheVariants.{Unstarted, Active, Idle, Prepared, RollbackOnly, Completed, Committed, RolledBack as RolledBackThere, Lost, ReadOnly as ReadOnlyThere, Forgotten}
-use Rattle.xa_standings.specs.Rows.{found_by_call, is_some_end, is_some_state, no_end, none, only}
+use Rattle.xa_standings.specs.Rows.{found_by_call, is_some_end, is_some_state, no_end, none, only_end}
 use Rattle.xa_standings.specs.States.{has, has_end}
 use Rattle.xa_standings.specs.declared.states.HeuristicEnds.{HeuristicEnds}
 use Rattle.xa_standings.specs.declared.states.States.{States}
@@ -56,14 +56,14 @@ pub none_there : (t : State) → has none t ≡ true → ⊥
 none_there (S5 how) e = none_ended how e
 none_there _ e = let no : ⊥ = cc in no
 
-pub only_that : (how : How) (e : HeuristicEnds) → has_end (only how e) how ≡ has_end e how
+pub only_that : (how : How) (e : HeuristicEnds) → has_end (only_end how e) how ≡ has_end e how
 only_that Hows.Com e = refl
 only_that Hows.Rb e = refl
 only_that Hows.Mix e = refl
 only_that Hows.Haz e = refl
 
 -- no other one
-pub no_other : (how t : How) (e : HeuristicEnds) → has_end (only how e) t ≡ true → t ≡ how
+pub no_other : (how t : How) (e : HeuristicEnds) → has_end (only_end how e) t ≡ true → t ≡ how
 no_other Hows.Com Hows.Com e h = refl
 no_other Hows.Rb Hows.Rb e h = refl
 no_other Hows.Mix Hows.Mix e h = refl

@@ -26,7 +26,7 @@ use Rattle.xa_model.specs.Facts.Distinct.{EachOnce}
 use Rattle.xa_tm.specs.Book.{Waiting, Doubt, Doubt.Adds, Doubt.Drops, row_among, row_with, row_without}
 use Rattle.xa_tm.specs.LedgerBook.{notes_at, decided_row, doubt_of_change, as_book, gtrids_of, row_at}
 use Rattle.xa_tm.specs.Swaps.{each_once, keeps_row, lacks_row, rows_agree_with, records_agree_with, change_agrees_with, end_agrees_with, is_how, kept_row, row_agrees, row_agrees_with, same_how}
-use Rattle.xa_tm.specs.BookAndLog.{IsChangeOf, MayHold, SameRows, changed_by, rows_of, with_rows}
+use Rattle.xa_tm.specs.BookAndLog.{IsChangeOf, MayHold, SameRowsAndRecords, changed_by, rows_of, with_rows}
 use Rattle.xa_tm.specs.declared.change.Change.{Change}
 use Rattle.xa_tm.specs.declared.change.Change.TheVariants.{AddRows, DropRows, AddRecord}
 use Rattle.xa_tm.specs.declared.ledger.Ledger.{Ledger}
@@ -80,7 +80,7 @@ module _ (k n : Ledger) (c : Content) (reads : Reads n c) where
       (ends : before.heuristics ≡ c.heuristics) (same_end : (changed_by d before).heuristics ≡ before.heuristics)
       (was : (q : Gtrid) → get before.decisions q ≡ row_at k.rows q)
       (at : (q : Gtrid) → get c.decisions q ≡ row_with d q (row_at k.rows q)) where
-    made_so : SameRows c (changed_by d before)
+    made_so : SameRowsAndRecords c (changed_by d before)
     made_so = record {
       decisions = same_map gtrids_total exact_gtrids _ _ (λ q.
           at q ∙ ap (row_with d q) (sym (was q)) ∙ sym (changed_at d before (of_same (row_at k.rows) (λ g. get before.decisions g) d was of) q));
@@ -100,7 +100,7 @@ module _ (k n : Ledger) (c : Content) (reads : Reads n c) where
         records = λ q. ap (λ m. get m q) ends ∙ recs q;
         record_number = ap len ends ∙ reads.ends ∙ records;
       },
-      inr (subst (λ x. IsChangeOf (row_at k.rows) x × SameRows c (changed_by x before)) (sym is) (of, made_so)),
+      inr (subst (λ x. IsChangeOf (row_at k.rows) x × SameRowsAndRecords c (changed_by x before)) (sym is) (of, made_so)),
     )
 
   -- rows are there that the change adds
@@ -252,7 +252,7 @@ module _ (k n : Ledger) (c : Content) (reads : Reads n c) where
           records = λ q. gone branches_total exact_branches c.heuristics b how q ∙ by q (eq_by_cmp branch_cmp q b) refl none;
           record_number = one_less branches_total exact_branches c.heuristics b how has ∙ fewer (reads.ends ∙ nat_is n.records (k.records + 1) a.record_);
         },
-        inr (subst (λ d. IsChangeOf (row_at k.rows) d × SameRows c (changed_by d before)) (sym (ap doubt_of_change is)) (
+        inr (subst (λ d. IsChangeOf (row_at k.rows) d × SameRowsAndRecords c (changed_by d before)) (sym (ap doubt_of_change is)) (
           tt,
           record {
             decisions =

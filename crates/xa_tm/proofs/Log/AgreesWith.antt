@@ -25,7 +25,7 @@ use Rattle.xa_log.proofs.TakenTogether.{same_heuristics}
 use Rattle.xa_tm.specs.Book.{Waiting, Doubt.Adds, Doubt.Drops, row_among, row_without}
 use Rattle.xa_tm.specs.LedgerBook.{decided_row, doubt_of_change, as_book, gtrids_of, notes_at, row_at, waiting_of}
 use Rattle.xa_tm.specs.Swaps.{ReadsOf, decided_agrees, dropped_agrees, keeps_row, lacks_row, agrees, change_agrees_with, end_agrees, end_agrees_with, ends_agree, how_eq, is_how, kept_row, names_just, records_agree_with, row_agrees, row_agrees_with, rows_agree, rows_agree_with, same_how, same_row}
-use Rattle.xa_tm.specs.BookAndLog.{HoldsBook, IsChangeOf, MayHold, SameRows, changed_by, with_rows}
+use Rattle.xa_tm.specs.BookAndLog.{HoldsBook, IsChangeOf, MayHold, SameRowsAndRecords, changed_by, with_rows}
 use Rattle.xa_tm.specs.declared.change.Change.{Change}
 use Rattle.xa_tm.specs.declared.change.Change.TheVariants.{AddRecord, AddRows, DropRows, Nothing}
 use Rattle.xa_tm.specs.declared.ledger.Ledger.{Ledger}
@@ -126,7 +126,7 @@ module _ (k n : Ledger) (c : Content) (reads : Reads n c) where
   as_before h = whole k n false (λ q. row_same q (h.rows q)) (λ q. end_same q (h.records q)) _ _
       (and_from _ _ (counted n.row_count k.row_count (sym reads.rows ∙ h.row_number)) (counted n.records k.records (sym reads.ends ∙ h.record_number))) refl
 
-  held_as : (d : Content) → SameRows c d → HoldsBook (as_book k) d → HoldsBook (as_book k) c
+  held_as : (d : Content) → SameRowsAndRecords c d → HoldsBook (as_book k) d → HoldsBook (as_book k) c
   held_as d s h = record {
     rows = λ g. ap (λ m. get m g) s.decisions ∙ h.rows g;
     row_number = ap len s.decisions ∙ h.row_number;
@@ -151,7 +151,7 @@ module _ (k n : Ledger) (c : Content) (reads : Reads n c) where
 
   -- rows were added, where there were none
   added : (v : Vec Decision) (b : Content) → k.doubt ≡ AddRows v → HoldsBook (as_book k) b → IsChangeOf (row_at k.rows) (Adds (map decided_row v.items))
-      → SameRows c (with_rows (map decided_row v.items) b) → Changed (AddRows v)
+      → SameRowsAndRecords c (with_rows (map decided_row v.items) b) → Changed (AddRows v)
   added v b doubt h of s = record {
     row = row;
     end = λ q. end_same q (ap (λ m. get m q) (s.heuristics ∙ added_heuristics xs b) ∙ h.records q);
@@ -178,7 +178,7 @@ module _ (k n : Ledger) (c : Content) (reads : Reads n c) where
 
   -- rows were taken away, which were there
   dropped : (g : Gtrid) (v : Vec Gtrid) (b : Content) → k.doubt ≡ DropRows g v → HoldsBook (as_book k) b → IsChangeOf (row_at k.rows) (Drops (g ∷ v.items))
-      → SameRows c (without_decisions (g ∷ v.items) b) → Changed (DropRows g v)
+      → SameRowsAndRecords c (without_decisions (g ∷ v.items) b) → Changed (DropRows g v)
   dropped g v b doubt h of s = record {
     row = row;
     end = λ q. end_same q (ap (λ m. get m q) (s.heuristics ∙ same_heuristics gs b) ∙ h.records q);
@@ -242,20 +242,20 @@ module _ (k n : Ledger) (c : Content) (reads : Reads n c) where
 
   -- each change
   made_agrees : (d : Change) → k.doubt ≡ d → (b : Content) → HoldsBook (as_book k) b → IsChangeOf (row_at k.rows) (doubt_of_change d)
-      → SameRows c (changed_by (doubt_of_change d) b) → (agrees false k n || agrees true k n) ≡ true
+      → SameRowsAndRecords c (changed_by (doubt_of_change d) b) → (agrees false k n || agrees true k n) ≡ true
   made_agrees Nothing is b h of s = or_left _ _ (as_before (held_as b s h))
   made_agrees (AddRows v) is b h of s = or_right _ _ (with_change (AddRows v) is (added v b is h of s))
   made_agrees (DropRows g v) is b h of s = or_right _ _ (with_change (DropRows g v) is (dropped g v b is h of s))
   made_agrees (AddRecord b how) is d h of s = by (contains_key d.heuristics b) refl s
     where
-      by : (t : Bool) → contains_key d.heuristics b ≡ t → SameRows c (if t then d else with_heuristic b how d) → (agrees false k n || agrees true k n) ≡ true
+      by : (t : Bool) → contains_key d.heuristics b ≡ t → SameRowsAndRecords c (if t then d else with_heuristic b how d) → (agrees false k n || agrees true k n) ≡ true
       by true has s = or_left _ _ (as_before (held_as d s h))
       by false lacks s = or_right _ _ (with_change (AddRecord b how) is (noted b how d is h lacks s.decisions s.heuristics))
 
   pub may_agree : MayHold (as_book k) c → (agrees false k n || agrees true k n) ≡ true
   may_agree may = by may.2
     where
-      by : SameRows c may.0 ⊎ (IsChangeOf (row_at k.rows) (doubt_of_change k.doubt) × SameRows c (changed_by (doubt_of_change k.doubt) may.0)) → (agrees false k n || agrees true k n) ≡ true
+      by : SameRowsAndRecords c may.0 ⊎ (IsChangeOf (row_at k.rows) (doubt_of_change k.doubt) × SameRowsAndRecords c (changed_by (doubt_of_change k.doubt) may.0)) → (agrees false k n || agrees true k n) ≡ true
       by (inl s) = or_left _ _ (as_before (held_as may.0 s may.1))
       by (inr s) = made_agrees k.doubt refl may.0 may.1 s.0 s.1
 

@@ -21,7 +21,7 @@ use Rattle.xa_model.specs.Promises.Processes.{SameRecords, gone, resumed, row_co
 use Rattle.xa_model.specs.Promises.Processes as processes
 use Rattle.xa_model.specs.Trace.{Happening.Restarted, Origin, Recorded, Row, Trace}
 use Rattle.xa_tm.specs.Book.{Book, Waiting, after, book_of, doubt_of, recorded_with, row_in, row_with, waiting_row}
-use Rattle.xa_tm.specs.BookAndLog.{FoundIn, IsTied, IsTiedDown, IsTiedUp, SameRows, rows_of}
+use Rattle.xa_tm.specs.BookAndLog.{FoundIn, IsTied, IsTiedDown, IsTiedUp, SameRowsAndRecords, rows_of}
 use Rattle.xa_tm.proofs.History.RecordsAfter.{has_record_is, how_changed}
 use Rattle.xa_tm.proofs.History.OneMore.{lists_is, row_changed}
 use Rattle.xa_tm.proofs.Log.Restart.{tied_restart}
@@ -188,7 +188,7 @@ module _ (past : Trace) (o : Origin) (c : Content) (new : IsNewTo (log past) (do
   row_number : length o.rows ≡ length (log (resumed past o))
   row_number = by (length o.rows == length (log past)) refl left.2
     where
-      by : (t : Bool) → (length o.rows == length (log past)) ≡ t → SameRows c left.0 ⊎ SameRows c (after_change (doubt past) left.0)
+      by : (t : Bool) → (length o.rows == length (log past)) ≡ t → SameRowsAndRecords c left.0 ⊎ SameRowsAndRecords c (after_change (doubt past) left.0)
           → length o.rows ≡ length (if t then log past else rows_changed (doubt past) (log past))
       by true e s = eqb-true _ _ e
       by false e (inl s) = absurd (true≢false (sym (eq-eqb _ _ (sym over.rows.row_number ∙ ap len s.decisions ∙ left.1.row_number)) ∙ e))
@@ -198,7 +198,7 @@ module _ (past : Trace) (o : Origin) (c : Content) (new : IsNewTo (log past) (do
   record_number : length o.heuristic_rows ≡ length (heuristic_rows (resumed past o))
   record_number = by (length o.heuristic_rows == length (heuristic_rows past)) refl left.2
     where
-      by : (t : Bool) → (length o.heuristic_rows == length (heuristic_rows past)) ≡ t → SameRows c left.0 ⊎ SameRows c (after_change (doubt past) left.0)
+      by : (t : Bool) → (length o.heuristic_rows == length (heuristic_rows past)) ≡ t → SameRowsAndRecords c left.0 ⊎ SameRowsAndRecords c (after_change (doubt past) left.0)
           → length o.heuristic_rows ≡ length (if t then heuristic_rows past else heuristics_changed (doubt past) (heuristic_rows past))
       by true e s = eqb-true _ _ e
       by false e (inl s) = absurd (true≢false (sym (eq-eqb _ _ (sym over.rows.record_number ∙ ap len s.heuristics ∙ left.1.record_number)) ∙ e))

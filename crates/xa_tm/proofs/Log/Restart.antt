@@ -19,7 +19,7 @@ use Rattle.xa_tm.specs.Book.{Book, Waiting, Doubt, Doubt.Adds, Doubt.Drops, Doub
 use Rattle.xa_tm.specs.LedgerBook.{come_up_with, without_doubt, notes_of}
 use Rattle.xa_tm.specs.News.{found_ended}
 use Rattle.xa_tm.specs.declared.notes.BranchNotes.{BranchNotes}
-use Rattle.xa_tm.specs.BookAndLog.{FoundIn, IsChangeOf, HoldsBook, changed_by, SameRows, IsTiedUp, IsTiedDown, TiedBy, IsTied}
+use Rattle.xa_tm.specs.BookAndLog.{FoundIn, IsChangeOf, HoldsBook, changed_by, SameRowsAndRecords, IsTiedUp, IsTiedDown, TiedBy, IsTied}
 use Rattle.xa_tm.proofs.History.OneMore.{book_is}
 use Rattle.xa_tm.proofs.Several.Contents.{added_heuristics, changed_at, of_same, still_at}
 
@@ -142,7 +142,7 @@ tied_restart near k i d h old new down found makes tied = go old found makes (su
         b : Content
         b = t.holds.0
 
-        by : SameRows c b ⊎ (IsChangeOf k.row k.doubt × SameRows c (changed_by k.doubt b)) → HoldsBook n (with_bump c)
+        by : SameRowsAndRecords c b ⊎ (IsChangeOf k.row k.doubt × SameRowsAndRecords c (changed_by k.doubt b)) → HoldsBook n (with_bump c)
         by (inl s) = record {
           rows = λ g. ap (λ x. get x g) s.decisions
               ∙ stays b k.row k.rows t.holds.1.rows t.holds.1.row_number d (f.rows ∙ ap len s.decisions ∙ t.holds.1.row_number) g _;
@@ -178,10 +178,10 @@ tied_no_restart near k old new down may tied = go may (subst (λ u. TiedBy u nea
     stays_in_doubt : n.doubt ≡ k.doubt
     stays_in_doubt = ap (λ (u : Bool). if u then NoDoubt else k.doubt) down
 
-    hold : (c before : Content) → SameRows c before ⊎ (IsChangeOf k.row k.doubt × SameRows c (changed_by k.doubt before))
-        → SameRows c before ⊎ (IsChangeOf k.row n.doubt × SameRows c (changed_by n.doubt before))
+    hold : (c before : Content) → SameRowsAndRecords c before ⊎ (IsChangeOf k.row k.doubt × SameRowsAndRecords c (changed_by k.doubt before))
+        → SameRowsAndRecords c before ⊎ (IsChangeOf k.row n.doubt × SameRowsAndRecords c (changed_by n.doubt before))
     hold c before (inl s) = inl s
-    hold c before (inr s) = inr (subst (λ x. IsChangeOf k.row x × SameRows c (changed_by x before)) (sym stays_in_doubt) s)
+    hold c before (inr s) = inr (subst (λ x. IsChangeOf k.row x × SameRowsAndRecords c (changed_by x before)) (sym stays_in_doubt) s)
 
     as_it_was : (c : Content) → IsTiedDown near k c → IsTiedDown near n c
     as_it_was c t = record {
@@ -196,11 +196,11 @@ tied_no_restart near k old new down may tied = go may (subst (λ u. TiedBy u nea
       };
     }
 
-    hold_bumped : (c before : Content) → SameRows c before ⊎ (IsChangeOf k.row k.doubt × SameRows c (changed_by k.doubt before))
-        → SameRows (with_bump c) before ⊎ (IsChangeOf k.row n.doubt × SameRows (with_bump c) (changed_by n.doubt before))
+    hold_bumped : (c before : Content) → SameRowsAndRecords c before ⊎ (IsChangeOf k.row k.doubt × SameRowsAndRecords c (changed_by k.doubt before))
+        → SameRowsAndRecords (with_bump c) before ⊎ (IsChangeOf k.row n.doubt × SameRowsAndRecords (with_bump c) (changed_by n.doubt before))
     hold_bumped c before (inl s) = inl (record { decisions = s.decisions; heuristics = s.heuristics })
     hold_bumped c before (inr s) =
-        inr (subst (λ x. IsChangeOf k.row x × SameRows (with_bump c) (changed_by x before)) (sym stays_in_doubt)
+        inr (subst (λ x. IsChangeOf k.row x × SameRowsAndRecords (with_bump c) (changed_by x before)) (sym stays_in_doubt)
         (s.0, record { decisions = s.1.decisions; heuristics = s.1.heuristics }))
 
     raised : (c : Content) → IsTiedDown near k c → IsTiedDown near n (with_bump c)

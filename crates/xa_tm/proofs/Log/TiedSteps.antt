@@ -20,7 +20,7 @@ use Rattle.xa_log.proofs.TakenTogether.{same_heuristics}
 use Rattle.xa_tm.specs.Book.{Book, Waiting, doubt_of, Doubt.Adds, Doubt.Drops, Doubt.Records, after, row_among, row_with, row_without, recorded_with, records_with, rows_for}
 use Rattle.xa_tm.specs.Outcomes.{is_commit}
 use Rattle.xa_tm.specs.Release.{book_without}
-use Rattle.xa_tm.specs.BookAndLog.{HoldsBook, IsChangeOf, changed_by, SameRows, IsReached, IsTiedUp, IsTiedDown, TiedBy, IsTied, MakesOf}
+use Rattle.xa_tm.specs.BookAndLog.{HoldsBook, IsChangeOf, changed_by, SameRowsAndRecords, IsReached, IsTiedUp, IsTiedDown, TiedBy, IsTied, MakesOf}
 use Rattle.xa_tm.specs.News.{recording}
 use Rattle.xa_tm.proofs.Several.Contents.{added_heuristics, of_same}
 use Rattle.xa_tm.proofs.Log.Ties.{tied_same, tied_made, holds_changed, holds_record}
@@ -89,11 +89,11 @@ tied_fall near k l log down inc failed row rows recs number doubt tied = subst (
           most = let a : c.incarnation ≤ k.incarnation + k.failed_restarts = omega arith in a;
         }
 
-    may : (c before : Content) → SameRows c before ⊎ (IsChangeOf k.row k.doubt × SameRows c (changed_by k.doubt before))
-        → SameRows c before ⊎ (IsChangeOf l.row l.doubt × SameRows c (changed_by l.doubt before))
+    may : (c before : Content) → SameRowsAndRecords c before ⊎ (IsChangeOf k.row k.doubt × SameRowsAndRecords c (changed_by k.doubt before))
+        → SameRowsAndRecords c before ⊎ (IsChangeOf l.row l.doubt × SameRowsAndRecords c (changed_by l.doubt before))
     may c before (inl s) = inl s
     may c before (inr s) =
-        inr (subst (λ d. IsChangeOf l.row d × SameRows c (changed_by d before)) (sym doubt) (of_same k.row l.row k.doubt row s.0, s.1))
+        inr (subst (λ d. IsChangeOf l.row d × SameRowsAndRecords c (changed_by d before)) (sym doubt) (of_same k.row l.row k.doubt row s.0, s.1))
 
     fallen : (d c : Content) → d ≡ c → IsTiedUp k d → IsTiedDown near l c
     fallen d c is t =

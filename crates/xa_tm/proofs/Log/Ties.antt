@@ -16,7 +16,7 @@ use Rattle.xa_log.specs.Content.{Content}
 use Rattle.xa_log.specs.Contract.{Makes, MayMake}
 use Rattle.xa_log.proofs.TakenTogether.{same_incarnation}
 use Rattle.xa_tm.specs.Book.{Book, Doubt, Doubt.Adds, Doubt.Drops, Doubt.Records, Doubt.NoDoubt, book_after, failed_restarts_after, row_with, recorded_with, records_with}
-use Rattle.xa_tm.specs.BookAndLog.{HoldsBook, IsChangeOf, changed_by, rows_of, SameRows, MayHold, IsReached, IsTiedUp, IsTiedDown, TiedBy, IsTied}
+use Rattle.xa_tm.specs.BookAndLog.{HoldsBook, IsChangeOf, changed_by, rows_of, SameRowsAndRecords, MayHold, IsReached, IsTiedUp, IsTiedDown, TiedBy, IsTied}
 use Rattle.xa_tm.proofs.Maps.Transactions.{branch_tie}
 use Rattle.xa_tm.proofs.Several.Contents.{added_incarnation, changed_at, changed_len, of_same}
 
@@ -44,10 +44,10 @@ holds_same k l c s h = record {
 may_hold_same : (k l : Book) (c : Content) → SameOfLog k l → MayHold k c → MayHold l c
 may_hold_same k l c s h = (h.0, holds_same k l h.0 s h.1, by h.2)
   where
-    by : SameRows c h.0 ⊎ (IsChangeOf k.row k.doubt × SameRows c (changed_by k.doubt h.0))
-        → SameRows c h.0 ⊎ (IsChangeOf l.row l.doubt × SameRows c (changed_by l.doubt h.0))
+    by : SameRowsAndRecords c h.0 ⊎ (IsChangeOf k.row k.doubt × SameRowsAndRecords c (changed_by k.doubt h.0))
+        → SameRowsAndRecords c h.0 ⊎ (IsChangeOf l.row l.doubt × SameRowsAndRecords c (changed_by l.doubt h.0))
     by (inl same) = inl same
-    by (inr made) = inr (subst (λ d. IsChangeOf l.row d × SameRows c (changed_by d h.0)) (sym s.doubt) (of_same k.row l.row k.doubt s.row made.0, made.1))
+    by (inr made) = inr (subst (λ d. IsChangeOf l.row d × SameRowsAndRecords c (changed_by d h.0)) (sym s.doubt) (of_same k.row l.row k.doubt s.row made.0, made.1))
 
 down_same : (near : Bool) (k l : Book) (c : Content) → SameOfLog k l → IsTiedDown near k c → IsTiedDown near l c
 down_same near k l c s t = record {
@@ -119,7 +119,7 @@ tied_fault near k asked f old new up of same may tied = go old (up_content near 
       holds = (
         d,
         held_still d t.holds,
-        inr (subst (λ x. IsChangeOf k.row x × SameRows (changed_by asked d) (changed_by x d)) (sym fresh)
+        inr (subst (λ x. IsChangeOf k.row x × SameRowsAndRecords (changed_by asked d) (changed_by x d)) (sym fresh)
             (of, record { decisions = refl; heuristics = refl })),
       );
       incarnation = λ h. reached (changed_by asked d) (made_incarnation asked d ∙ t.incarnation);

@@ -1,5 +1,5 @@
 use Rattle.std.proofs.Common.{◌∙◌, ap, refl}
-use Rattle.xa_coordinator.specs.Replies.{reply_of}
+use Rattle.xa_coordinator.specs.Replies.{response_of}
 use Rattle.xa_requests.specs.declared.response.Response.TheVariants as responses
 use Rattle.xa_coordinator.proofs.coordinator.Coordinator.issue.Goals as goal
 
@@ -9,6 +9,6 @@ returns-clause-performs g c =
     record {
       result = call.result;
       does = call.ensures.issues;
-      told = c.reply_of.ensures ∙ ap (λ k. reply_of (λ _. responses.Issued k) call.result) c.copy.ensures;
+      told = c.reply_of.ensures ∙ ap (λ k. response_of (λ _. responses.Issued k) call.result) c.copy.ensures;
       rest = refl;
     }

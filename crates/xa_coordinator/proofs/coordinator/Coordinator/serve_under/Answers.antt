@@ -2,7 +2,7 @@ use Rattle.std.proofs.Common.{◌∙◌, ap, subst}
 use Rattle.std.specs.Io.Buffered.{reader_remaining}
 use Rattle.std.specs.Io.KnownBytes.{Appends}
 use Rattle.xa_coordinator.proofs.ServingLemmas.{broken_off, greeted, no_more, not_greeted, on_err, one_more, the_last}
-use Rattle.xa_coordinator.specs.Lines.{alone}
+use Rattle.xa_coordinator.specs.Lines.{lone_reply}
 use Rattle.xa_coordinator.specs.NamedLines.{BreaksSessionUnder, line_written}
 use Rattle.xa_coordinator.specs.Replies.{greeting_of}
 use Rattle.xa_coordinator.specs.ServingLines.{ServesLine}
@@ -19,7 +19,7 @@ returns-in_err-write_reply-clause-broken g c =
     let s = c.args.self.now in
     on_err c.from_residual.result (BreaksSessionUnder moment name (greeting_of s) unread written all s s)
     (not_greeted moment name (greeting_of s) unread written all s
-    (subst (λ r. AppendsBeginning written all (line_written name r)) (c.alone-greeting.ensures ∙ ap alone c.greeting.ensures)
+    (subst (λ r. AppendsBeginning written all (line_written name r)) (c.alone-greeting.ensures ∙ ap lone_reply c.greeting.ensures)
     c.in_err-write_reply.ensures.err))
 
 pub loop-init : goal.loop-init
@@ -33,7 +33,7 @@ loop-init g c =
     record {
       ready = c.requires;
       some = greeted moment name (greeting_of s) unread written all s
-          (subst (λ r. Appends written all (line_written name r)) (c.alone-greeting.ensures ∙ ap alone c.greeting.ensures)
+          (subst (λ r. Appends written all (line_written name r)) (c.alone-greeting.ensures ∙ ap lone_reply c.greeting.ensures)
           c.in_ok-write_reply.ensures.ok);
     }
 

@@ -19,7 +19,7 @@ use Rattle.xa_serve.proofs.Hearings.{answer_heard, has_answer, hearable}
 use Rattle.xa_serve.proofs.Lines.{all_with, may_tell, waiting_known}
 use Rattle.xa_serve.proofs.Sessions.{book_kept, failed, has_few, kept_stays, room_for_one, sized_after, sized_by_failure, stays_same, step_leaves}
 use Rattle.xa_serve.proofs.Telling.{answered_follows}
-use Rattle.xa_serve.specs.Hearing.{with_answer}
+use Rattle.xa_serve.specs.Hearing.{with_answer_heard}
 use Rattle.xa_serve.specs.declared.session.answers.Unfit.TheVariants.{Refused}
 use Rattle.xa_serve.specs.Logging.{KeepsLog}
 use Rattle.xa_serve.proofs.Logging.{heard_keeps, unheard_keeps}
@@ -230,14 +230,14 @@ returns-in-Ok-hear-clause-hears g c =
             follows = record {
               leads =
                   answered_follows s _ t r call d c.args.answer may first is (c.requires.heard t r may.has) (c.in-Ok-hear.ensures.ok d knows)
-                  (ap (with_line s.lines t r) (c.answer_first.ensures ∙ ap (λ (l : Traffic). with_answer l c.args.answer) c.line_mut.ensures.value));
+                  (ap (with_line s.lines t r) (c.answer_first.ensures ∙ ap (λ (l : Traffic). with_answer_heard l c.args.answer) c.line_mut.ensures.value));
               counted = refl;
               states =
                   heard_in_room (states_of s.monitor) (states_of c.make_room.new.self) (states_of c.follow.new.self) c.make_room.ensures.same (line t r) d
                   (map_answer name_of c.args.answer) (c.unexplained.ensures.none c.in_default-unexplained.is t d knows) (c.follow.ensures (line t r) d knows);
             };
           };
-      lines = ap (with_line s.lines t r) (c.answer_first.ensures ∙ ap (λ (l : Traffic). with_answer l c.args.answer) c.line_mut.ensures.value);
+      lines = ap (with_line s.lines t r) (c.answer_first.ensures ∙ ap (λ (l : Traffic). with_answer_heard l c.args.answer) c.line_mut.ensures.value);
       only = λ none. tt;
       fails = λ n e. absurd cc;
       stays = tt;

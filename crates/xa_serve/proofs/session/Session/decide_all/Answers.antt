@@ -15,7 +15,7 @@ use Rattle.xa_serve.proofs.Headroom.{sound}
 use Rattle.xa_serve.proofs.Logging.{all_decided, asked_keeps, decisions_change}
 use Rattle.xa_serve.specs.Logging.{KeepsLog}
 use Rattle.xa_serve.proofs.StepLemmas.{concluded_asks, concluded_happens, concluded_obeys}
-use Rattle.xa_serve.specs.Session.{decide_refusal as session_refusal}
+use Rattle.xa_serve.specs.Session.{decide_all_refusal as session_refusal}
 use Rattle.xa_serve.proofs.session.Session.decide_all.Goals as goal
 
 pub returns-clause-ready : goal.returns-clause-ready

@@ -15,7 +15,7 @@ use Rattle.std.proofs.Common.{refl, subst}
 use Rattle.xa_serve.proofs.Logging.{all_done, asked_keeps, removals_change}
 use Rattle.xa_tm.specs.Book.{Doubt.Drops}
 use Rattle.xa_serve.proofs.StepLemmas.{concluded_asks, concluded_happens, concluded_obeys}
-use Rattle.xa_serve.specs.Session.{done_refusal as session_refusal}
+use Rattle.xa_serve.specs.Session.{done_all_refusal as session_refusal}
 use Rattle.xa_serve.proofs.session.Session.done_all.Goals as goal
 
 pub returns-clause-ready : goal.returns-clause-ready

@@ -3,13 +3,13 @@ use Rattle.xa_base.specs.Answer.{map_answer}
 use Rattle.xa_model.specs.Replies.History.{name_of}
 use Rattle.xa_standings.proofs.FollowedPages.{page_narrows}
 use Rattle.xa_standings.specs.Entries.{states_at}
-use Rattle.xa_standings.specs.Monitor.{Leads, states_of}
+use Rattle.xa_standings.specs.Monitor.{LeadsExactly, states_of}
 use Rattle.xa_standings.specs.Standings.{Explained}
 use Rattle.xa_standings.proofs.monitor.Monitor.narrow.Goals as goal
 
 pub returns-in-Ret : goal.returns-in-Ret
 returns-in-Ret c = λ l d is can.
-    subst (λ a. Leads (states_of c.args.self.now) (Explained l d (map_answer name_of a)) (states_of c.hear_code.new.self)) (sym c.in-Ret.is)
+    subst (λ a. LeadsExactly (states_of c.args.self.now) (Explained l d (map_answer name_of a)) (states_of c.hear_code.new.self)) (sym c.in-Ret.is)
     (c.hear_code.ensures d is)
 
 pub returns-in-Page : goal.returns-in-Page
