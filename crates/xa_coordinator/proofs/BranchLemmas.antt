@@ -19,7 +19,6 @@ use Rattle.xa_line.specs.Histories.{known}
 use Rattle.xa_model.proofs.ProcessLemmas.Leaving.{branch_fits}
 use Rattle.xa_model.specs.Facts.{fits}
 use Rattle.xa_model.specs.Facts.InDoubt.{name_by}
-use Rattle.xa_model.specs.Protocol.{Lists}
 use Rattle.xa_model.specs.Replies.History.{name_of}
 use Rattle.xa_model.specs.Replies.Steps.{ours_of}
 use Rattle.xa_model.specs.Trace.{Branch, Call as KnownCall, Happening.Decided, Happening.Done, Kind.End, Kind.Forget, Kind.Prepare, Kind.Rollback, Name, Name.Ours, line}
@@ -35,7 +34,7 @@ use Rattle.xa_standings.specs.Named.{AreOnBranches, IsNamedCall, IsNamedPage}
 use Rattle.xa_standings.specs.Seen.{Seen, Seen.Lost}
 use Rattle.xa_coordinator.specs.Branches.{CallsAreOnBranches}
 use Rattle.xa_coordinator.specs.Lines.{asked_in}
-use Rattle.xa_coordinator.specs.Telling.{HaveTold, Tells, TellsBy, TellsLost, is_log_fault}
+use Rattle.xa_coordinator.specs.Telling.{Tells, TellsBy, TellsLost, is_log_fault}
 
 -- ** identifiers
 

@@ -1,13 +1,10 @@
 -- What is left where the log failed.
-use Rattle.std.proofs.Common.{◌≡◌, ◌∙◌, ◌⊎◌, inl, inr, Bool, true, List, [], ◌∷◌, Option, Some, None, refl, sym, ap, subst}
-use Rattle.std.specs.FinMap.{get}
+use Rattle.std.proofs.Common.{◌≡◌, ◌∙◌, ◌⊎◌, inl, inr, Bool, true, [], ◌∷◌, Option, Some, None, refl, sym, ap, subst}
 use Rattle.std.specs.Prelude.{if◌then◌else◌, Result, Ok, Err, IfErr}
-use Rattle.xa_base.specs.declared.branch.Gtrid.{Gtrid}
 use Rattle.xa_base.specs.declared.refusal.Refusal.{Refusal}
 use Rattle.xa_base.specs.declared.refusal.Refusal.TheVariants.{LogFault, Memory}
 use Rattle.xa_base.specs.declared.step.Step.TheVariants as Steps
 use Rattle.xa_coordinator.specs.Faults.{FaultsLeaveAllOrNone}
-use Rattle.xa_coordinator.specs.Performing.{Performs}
 use Rattle.xa_coordinator.specs.Replies.{response_of}
 use Rattle.xa_coordinator.specs.declared.coordinator.Coordinator.{Coordinator}
 use Rattle.xa_log.specs.Content.{Content}
@@ -17,12 +14,12 @@ use Rattle.xa_requests.specs.declared.request.Request.TheVariants as requests
 use Rattle.xa_requests.specs.declared.response.Response.{Response}
 use Rattle.xa_requests.specs.declared.response.Response.TheVariants as responses
 use Rattle.xa_serve.proofs.Logging.{left_tied, logs_have_all_or_none}
-use Rattle.xa_serve.specs.Logging.{HasAllOrNone, HoldsItsBook, KeepsLog, LeavesContent}
+use Rattle.xa_serve.specs.Logging.{HasAllOrNone, HoldsItsBook, LeavesContent}
 use Rattle.xa_serve.specs.Session.{decide_all_refusal, done_all_refusal, refusal_at}
 use Rattle.xa_tm.proofs.Log.Ties.{up_content}
 use Rattle.xa_tm.specs.Book.{Book, Doubt, Doubt.Adds, Doubt.Drops, book_after, rows_for}
 use Rattle.xa_tm.specs.BookAndLog.{IsTied}
-use Rattle.xa_tm.specs.Calls.{FailsBy, book_in, log_in, written_by}
+use Rattle.xa_tm.specs.Calls.{FailsBy, book_in, written_by}
 use Rattle.xa_tm.specs.InTurn.{rows_added}
 
 fault_is_told : (n : Refusal) → (let r : Response = responses.Refused LogFault in r) ≡ responses.Refused n → n ≡ LogFault

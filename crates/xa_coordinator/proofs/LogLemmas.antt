@@ -1,6 +1,6 @@
 -- What becomes of the log.
-use Rattle.std.proofs.Common.{◌≡◌, ◌⊎◌, inl, inr, ℕ, ◌+◌, zero, suc, List, [], ◌∷◌, Option, Some, None, refl, sym, ap, subst}
-use Rattle.std.specs.Prelude.{Result, Ok, Err, OnErr}
+use Rattle.std.proofs.Common.{◌≡◌, ◌⊎◌, inl, inr, ℕ, ◌+◌, zero, suc, List, [], ◌∷◌, Option, Some, None, ap}
+use Rattle.std.specs.Prelude.{Result, Ok, Err}
 use Rattle.xa_base.specs.declared.branch.Gtrid.{Gtrid}
 use Rattle.xa_base.specs.declared.refusal.Refusal.{Refusal}
 use Rattle.xa_coordinator.proofs.UnchangedLemmas.{line_stays}
@@ -13,9 +13,8 @@ use Rattle.xa_log.specs.Contract.{Moment}
 use Rattle.xa_requests.specs.declared.request.Request.{Request}
 use Rattle.xa_requests.specs.declared.response.Response.{Response}
 use Rattle.xa_serve.proofs.Logging.{both_keep, kept_as, quiet_keeps, same_book, same_lost, same_released}
-use Rattle.xa_serve.specs.Following.{StaysAs}
 use Rattle.xa_serve.specs.Logging.{KeepsLog}
-use Rattle.xa_tm.specs.Calls.{book_in, log_in}
+use Rattle.xa_tm.specs.Calls.{book_in}
 
 module _ {L : Type 0} (moment : L → Moment) where
   abbrev pub Keeps : (old new : Coordinator L) → Type 0

@@ -1,5 +1,5 @@
 -- What is left where the log failed.
-use Rattle.std.specs.Prelude.{◌≡◌, Bool, true, List, [], ◌∷◌}
+use Rattle.std.specs.Prelude.{◌≡◌, Bool, true, [], ◌∷◌}
 use Rattle.xa_base.specs.declared.refusal.Refusal.TheVariants.{LogFault}
 use Rattle.xa_coordinator.specs.Performing.{Performs}
 use Rattle.xa_coordinator.specs.declared.coordinator.Coordinator.{Coordinator}

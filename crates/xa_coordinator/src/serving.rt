@@ -6,7 +6,7 @@ ghost use Rattle.std.specs.Io.KnownBytes.{Keeps};
 ghost use Rattle.xa_coordinator.specs.Replies.{greeting_of};
 ghost use Rattle.xa_coordinator.specs.Lines.{asked_in, requests_in};
 ghost use Rattle.xa_coordinator.specs.NamedLines.{BreaksSessionUnder, ServesUnder, line_read};
-ghost use Rattle.xa_coordinator.specs.Serving.{BreaksSession, RepliesBy, RepliesInTurn, RepliesToLine, Serves, ends_line, is_bye};
+ghost use Rattle.xa_coordinator.specs.Serving.{BreaksSession, RepliesBy, RepliesToLine, Serves, ends_line, is_bye};
 ghost use Rattle.xa_coordinator.specs.ServingLines.{BreaksOff, ServesLine};
 ghost use Rattle.xa_serve.specs.Session.{IsReady};
 

@@ -1,5 +1,5 @@
 //! Lines, and those of histories.
-ghost use Rattle.std.specs.Prelude.{◌≡◌, ◌++◌, ℕ, length, List, map, slice_get, Some, true, false};
+ghost use Rattle.std.specs.Prelude.{◌≡◌, ◌++◌, ℕ, length, slice_get, Some, true, false};
 ghost use Rattle.std.specs.Option.{option_map};
 ghost use Rattle.xa_model.specs.Facts as facts;
 ghost use Rattle.xa_model.specs.Replies.History.{step_of};
@@ -9,7 +9,6 @@ ghost use Rattle.xa_base.specs.declared.refusal.Refusal.TheVariants.{Closed, Ful
 ghost use Rattle.xa_model.specs.Replies.Rules.{applies};
 ghost use Rattle.xa_model.specs.Trace.{Happening, Line, Origin, Trace, Trace.From, Trace.Then, line};
 ghost use Rattle.xa_base.specs.Xid.{Xid};
-ghost use Rattle.xa_base.specs.declared.answer.Answer.{Answer};
 ghost use Rattle.xa_base.specs.declared.call.Call.{Call};
 ghost use Rattle.xa_base.specs.declared.step.Step.TheVariants.{Issue};
 ghost use Rattle.xa_line.specs.Histories.{AreKnownAs, HasGrown, LineStands, known, known_answered};

@@ -56,7 +56,7 @@ fn is_bare(format: i32, gtrid: &[u8], bqual: &[u8]) -> bool
 }
 
 impl ManagerName {
-    ghost use Rattle.xa_names.specs.Names.{is_bare, renamed, with_name, without_name};
+    ghost use Rattle.xa_names.specs.Names.{is_bare, renamed, with_name};
 
     /// No name. No memory is taken.
     pub fn none() -> ManagerName

@@ -1,15 +1,13 @@
 -- The identifiers in what a line asks for are identifiers.
-use Rattle.std.proofs.Common.{◌≡◌, ◌∙◌, ℕ, zero, suc, ◌<◌, ◌-◌, ◌==◌, Bool, true, false, ℤ, List, [], ◌∷◌, ◌++◌, length, take, Option, Some, None, IfSome, refl, sym, ap, subst, arith, w32, w64, if◌then◌else◌}
+use Rattle.std.proofs.Common.{◌≡◌, ◌∙◌, ℕ, ◌<◌, ◌-◌, ◌==◌, Bool, true, false, ℤ, List, [], ◌∷◌, ◌++◌, length, take, Option, Some, None, IfSome, refl, sym, subst, arith, w32, w64, if◌then◌else◌}
 use Rattle.std.proofs.lemmas.List.Elements.{All-cons, All-nil}
-use Rattle.std.specs.Int.{byte_at, bytes_high_first, to_be_bytes}
+use Rattle.std.specs.Int.{to_be_bytes}
 use Rattle.std.specs.Prelude.{All, FitsSigned, codes, pos, option_and_then, slice_get}
 use Rattle.std.specs.Str.{bytes_eq}
-use Rattle.hex.specs.Hex.{IsBytes}
 use Rattle.xa_base.proofs.CallLemmas.{with_is_made}
 use Rattle.xa_base.specs.Branch.{xid_of_branch}
 use Rattle.xa_base.specs.Call.{call_with, xid_in}
 use Rattle.xa_base.specs.Xid.{Xid, IsXid}
-use Rattle.xa_base.specs.declared.answer.Answer.TheVariants.{Page, Ret}
 use Rattle.xa_base.specs.declared.branch.Branch.{Branch}
 use Rattle.xa_base.specs.declared.branch.Gtrid.{Gtrid}
 use Rattle.xa_base.specs.declared.call.Call.{Call}

@@ -1,7 +1,6 @@
 //! A session: the manager over its log, the lines, and the monitor of the branches. A file for each family of requests.
 
 ghost use Rattle.xa_tm.specs.Calls.{book_in};
-ghost use Rattle.xa_serve.specs.Sizes.{HasItsLines};
 
 pub(crate) mod answers;
 mod calls;

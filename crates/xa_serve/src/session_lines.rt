@@ -32,7 +32,6 @@ impl SessionLines {
     ghost use Rattle.xa_line.specs.Grid.{HasLine, IsWhole, grid_has_line, line_at, new_grid, place};
     ghost use Rattle.xa_base.specs.Opening.{has_opened};
     ghost use Rattle.xa_line.specs.Traffic.{calls_issued, no_traffic};
-    ghost use Rattle.xa_serve.specs.Lending.{LendsSessionLine};
 
     /// The lines of so many threads to so many resource managers, all of them new.
     pub(crate) fn new(alloc: Global, threads: u32, rms: u32) -> Result<SessionLines, Memory>

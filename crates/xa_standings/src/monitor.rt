@@ -43,7 +43,7 @@ pub struct Monitor {
 }
 
 impl Monitor {
-    ghost use Rattle.xa_standings.specs.Monitor.{AllExplain, CanExplain, HearsAnswer, IsSomewhere, IsUnexplained, LeadsExactly, Loses, Monitors, SaysTheSame, known, known_if, states_of};
+    ghost use Rattle.xa_standings.specs.Monitor.{AllExplain, CanExplain, HearsAnswer, IsUnexplained, LeadsExactly, Loses, Monitors, SaysTheSame, known, known_if, states_of};
     ghost use Rattle.xa_standings.specs.declared.monitor.HearFault.TheVariants.{Unexplained};
 
     /// Nothing was heard yet in this incarnation of the manager: a branch of an older one is in `States::found()`, any

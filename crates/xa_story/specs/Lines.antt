@@ -1,5 +1,5 @@
 -- The text of a line of a story.
-use Rattle.std.specs.Prelude.{ℕ, ◌-◌, ◌^◌, ◌==◌, if◌then◌else◌, false, List, [], ◌++◌, length, codes, Option, Some, None}
+use Rattle.std.specs.Prelude.{ℕ, ◌-◌, ◌^◌, ◌==◌, if◌then◌else◌, false, List, [], ◌++◌, length, codes, Option, Some}
 use Rattle.std.specs.Fmt.{digits, format_spec, padded, padded_integral}
 use Rattle.std.specs.String.{string_bytes}
 use Rattle.xa_story.specs.Parties.{sides_text}
