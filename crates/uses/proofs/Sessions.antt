@@ -4,16 +4,16 @@ use Rattle.std.specs.FinMap.{len-empty}
 use Rattle.xa_base.specs.declared.branch.Gtrid.{Gtrid}
 use Rattle.xa_base.specs.HeldBranch.{new_branch}
 use Rattle.xa_base.specs.Scan.{Scan.NotOpen}
-use Rattle.xa_coordinator.proofs.LogLemmas.{replies_keep}
-use Rattle.xa_coordinator.proofs.SessionChains.{none_there, raised_from}
-use Rattle.xa_coordinator.proofs.VoteLemmas.{split_replies}
-use Rattle.xa_coordinator.specs.Replies.{greeting_of}
-use Rattle.xa_coordinator.specs.Serving.{HaveReplies, RepliesTo, Serves, replies_given, replies_text, requests_done, told_in}
-use Rattle.xa_coordinator.specs.Sessions.{IsEmptyLog, StartsOver}
-use Rattle.xa_coordinator.specs.Tracking.{ServedDatabasesAgree}
-use Rattle.xa_coordinator.specs.Votes.{AreVotes, IsLogged, VotedCommitsAreLogged}
-use Rattle.xa_coordinator.specs.Rows.{is_gtrid_among}
-use Rattle.xa_coordinator.specs.declared.coordinator.Coordinator.{Coordinator}
+use Rattle.xa_server.proofs.LogLemmas.{replies_keep}
+use Rattle.xa_server.proofs.SessionChains.{none_there, raised_from}
+use Rattle.xa_server.proofs.VoteLemmas.{split_replies}
+use Rattle.xa_server.specs.Replies.{greeting_of}
+use Rattle.xa_server.specs.Serving.{HaveReplies, RepliesTo, Serves, replies_given, replies_text, requests_done, told_in}
+use Rattle.xa_server.specs.Sessions.{IsEmptyLog, StartsOver}
+use Rattle.xa_server.specs.Tracking.{ServedDatabasesAgree}
+use Rattle.xa_server.specs.Votes.{AreVotes, IsLogged, VotedCommitsAreLogged}
+use Rattle.xa_server.specs.Rows.{is_gtrid_among}
+use Rattle.xa_server.specs.declared.server.Server.{Server}
 use Rattle.xa_log.specs.Content.{nothing}
 use Rattle.xa_log.specs.Contract.{Honestly, Moment}
 use Rattle.xa_model.specs.Trace.{Origin}
@@ -24,7 +24,7 @@ use Rattle.xa_tm.specs.Calls.{book_in, log_in}
 use Rattle.uses.specs.Sessions.{EndDecided, IsServed, IsServedOver, LogsCommits}
 
 -- a start that has the rows and records of the log, and at whose resource managers nothing is
-abbrev pub start_of : {L : Type 0} → (threads rms : ℕ) → Coordinator L → Origin
+abbrev pub start_of : {L : Type 0} → (threads rms : ℕ) → Server L → Origin
 start_of threads rms first = record {
   threads = threads;
   rms = rms;
@@ -36,12 +36,12 @@ start_of threads rms first = record {
   scans = λ r. NotOpen;
 }
 
-pub begins_so : {L : Type 0} (threads rms : ℕ) (first : Coordinator L) → BeginsWith threads rms first.session.manager (start_of threads rms first)
+pub begins_so : {L : Type 0} (threads rms : ℕ) (first : Server L) → BeginsWith threads rms first.session.manager (start_of threads rms first)
 begins_so threads rms first = record { threads_are = refl; rms_are = refl; incarnation = refl; rows = refl; records = refl }
 
 -- what is left of a text that was known is known
 pub known_left : {L : Type 0} (text : List ℕ) (left : Option (List ℕ)) (moment : L → Moment) (greeting : Response) (written all : Option (List ℕ))
-    (old new : Coordinator L) → Serves moment greeting (Some text) left written all old new
+    (old new : Server L) → Serves moment greeting (Some text) left written all old new
     → (unread : List ℕ) × Serves moment greeting (Some text) (Some unread) written all old new
 known_left text None moment greeting written all old new serves = absurd serves.consumed
 known_left text (Some unread) moment greeting written all old new serves = (unread, serves)
@@ -49,7 +49,7 @@ known_left text (Some unread) moment greeting written all old new serves = (unre
 none_logged : IsEmptyLog nothing
 none_logged = record { no_rows = len-empty _ _; no_records = len-empty _ _ }
 
-pub is_served : {L : Type 0} (moment : L → Moment) (threads rms : ℕ) (handed : L) (old new : Coordinator L) (text unread before written : List ℕ)
+pub is_served : {L : Type 0} (moment : L → Moment) (threads rms : ℕ) (handed : L) (old new : Server L) (text unread before written : List ℕ)
     → StartsOver moment threads rms handed old → (moment handed).is_in_order → (moment (log_in old.session.manager)).is_honest
     → (moment handed).content ≡ Some nothing → before ≡ []
     → Serves moment (greeting_of old) (Some text) (Some unread) (Some before) (Some written) old new → ServedDatabasesAgree moment
@@ -84,7 +84,7 @@ is_served moment threads rms handed old new text unread before written starts or
     }
 
 -- the same of a reader that had the whole text
-pub is_served_whole : {L : Type 0} (moment : L → Moment) (threads rms : ℕ) (handed : L) (old new : Coordinator L) (text : List ℕ)
+pub is_served_whole : {L : Type 0} (moment : L → Moment) (threads rms : ℕ) (handed : L) (old new : Server L) (text : List ℕ)
     (whole left : Option (List ℕ)) (before written : List ℕ)
     → StartsOver moment threads rms handed old → (moment handed).is_in_order → (moment (log_in old.session.manager)).is_honest
     → (moment handed).content ≡ Some nothing → before ≡ [] → whole ≡ Some text
@@ -108,7 +108,7 @@ votes_fit (l ∷ ls) (r ∷ rs) (g ∷ gs) are =
     all
 
 -- behind a decision to commit, the log has the rows
-module _ {L : Type 0} (moment : L → Moment) (law : VotedCommitsAreLogged moment) (threads rms : ℕ) (handed : L) (old new : Coordinator L)
+module _ {L : Type 0} (moment : L → Moment) (law : VotedCommitsAreLogged moment) (threads rms : ℕ) (handed : L) (old new : Server L)
     (lines : List (List ℕ)) (replies : List Response) (starts : StartsOver moment threads rms handed old) (have : HaveReplies moment lines replies old new)
     (order : (moment handed).is_in_order) (honest : (moment (log_in new.session.manager)).is_honest) where
   pub rows_logged : (gs : List Gtrid) (g : Gtrid) → EndDecided lines replies gs → is_gtrid_among gs g ≡ true → IsLogged (moment (log_in new.session.manager)).content g

@@ -5,27 +5,27 @@ use Rattle.xa_base.specs.StateTable.{broken}
 use Rattle.xa_base.specs.declared.state.Standing.{Standing}
 use Rattle.xa_base.specs.declared.state.Standing.TheVariants.{Committed, Completed, Forgotten, Prepared, Unstarted}
 use Rattle.xa_base.specs.declared.branch.Gtrid.{Gtrid}
-use Rattle.xa_coordinator.proofs.LogLemmas.{replies_keep}
-use Rattle.xa_coordinator.proofs.TurnLemmas.{nothing_is_left}
-use Rattle.xa_coordinator.specs.Lines.{text_lines}
-use Rattle.xa_coordinator.specs.Replies.{greeting_of}
-use Rattle.xa_coordinator.specs.Serving.{HaveReplies, replies_given, requests_done}
-use Rattle.xa_coordinator.specs.Sessions.{AreServed, AreServed.NoneYet, AreServed.OneMore, CommitStandsInLog, IsEmptyLog, IsHandedOn, IsSession, IsSessionLeft.AfterLine, ServedCommitsStand, ServedLogsDecide, ServedSessionsAgree, ServedSessionsAreSeen, StartsOver, WasFoundDecidedInLog}
-use Rattle.xa_coordinator.specs.Telling.{HaveTold, is_log_fault}
-use Rattle.xa_coordinator.specs.Votes.{VotedCommitsAreLogged}
-use Rattle.xa_coordinator.specs.Rows.{is_gtrid_among}
-use Rattle.xa_coordinator.specs.declared.coordinator.Coordinator.{Coordinator}
+use Rattle.xa_server.proofs.LogLemmas.{replies_keep}
+use Rattle.xa_server.proofs.TurnLemmas.{nothing_is_left}
+use Rattle.xa_server.specs.Lines.{text_lines}
+use Rattle.xa_server.specs.Replies.{greeting_of}
+use Rattle.xa_server.specs.Serving.{HaveReplies, replies_given, requests_done}
+use Rattle.xa_server.specs.Sessions.{AreServed, AreServed.NoneYet, AreServed.OneMore, CommitStandsInLog, IsEmptyLog, IsHandedOn, IsSession, IsSessionLeft.AfterLine, ServedCommitsStand, ServedLogsDecide, ServedSessionsAgree, ServedSessionsAreSeen, StartsOver, WasFoundDecidedInLog}
+use Rattle.xa_server.specs.Telling.{HaveTold, is_log_fault}
+use Rattle.xa_server.specs.Votes.{VotedCommitsAreLogged}
+use Rattle.xa_server.specs.Rows.{is_gtrid_among}
+use Rattle.xa_server.specs.declared.server.Server.{Server}
 use Rattle.xa_log.specs.Content.{Content, with_bump}
 use Rattle.xa_log.specs.Contract.{Honestly, Moment}
 use Rattle.xa_model.specs.Promises.Agreement.{IsUndone}
 use Rattle.xa_model.specs.Trace.{Branch, Line}
 use Rattle.xa_requests.specs.declared.response.Response.{Response}
-use Rattle.xa_serve.proofs.Logging.{later_sessions_are_newer}
-use Rattle.xa_serve.specs.Logging.{HoldsItsBook, KeepsLog}
-use Rattle.xa_standings.specs.Agreement.{MayAllStand, MayAllStand.AsTold}
-use Rattle.xa_standings.specs.Seen.{Seen, Seen.Start}
-use Rattle.xa_standings.specs.Sessions.{IsCommitting}
-use Rattle.xa_standings.specs.Standings.{Comes}
+use Rattle.xa_session.proofs.Logging.{later_sessions_are_newer}
+use Rattle.xa_session.specs.Logging.{HoldsItsBook, KeepsLog}
+use Rattle.xa_monitor.specs.Agreement.{MayAllStand, MayAllStand.AsTold}
+use Rattle.xa_monitor.specs.Seen.{Seen, Seen.Start}
+use Rattle.xa_monitor.specs.Sessions.{IsCommitting}
+use Rattle.xa_monitor.specs.Standings.{Comes}
 use Rattle.xa_tm.specs.Calls.{book_in, log_in}
 use Rattle.uses.proofs.Results.{there_is}
 use Rattle.uses.specs.Sessions.{AreServedTo, AreServedTwice, EndDecided, EndedAlone, EndsCommitted, IsReplied, IsServedOver, IsServedTwice}
@@ -64,7 +64,7 @@ ends_committed f c b stands = record {
 
 module _ {L : Type 0} (moment : L → Moment) (agree : ServedSessionsAgree moment) (are_seen : ServedSessionsAreSeen moment) (threads rms : ℕ) where
   -- what lines and replies tell of a session over a log
-  seen_in : (handed : L) (first last : Coordinator L) (lines : List (List ℕ)) (replies : List Response) → StartsOver moment threads rms handed first
+  seen_in : (handed : L) (first last : Server L) (lines : List (List ℕ)) (replies : List Response) → StartsOver moment threads rms handed first
       → HaveReplies moment lines replies first last → list_any is_log_fault replies ≡ false
       → (more : Seen) × HaveTold threads lines replies Start more × IsSession moment handed (start_of threads rms first) more last
   seen_in handed first last lines replies starts have none =
@@ -103,7 +103,7 @@ module _ {L : Type 0} (moment : L → Moment) (agree : ServedSessionsAgree momen
       )
 
   module _ (decide : ServedLogsDecide moment) (stand : ServedCommitsStand moment) (law : VotedCommitsAreLogged moment) (handed : L)
-      (order : (moment handed).is_in_order) (empty : IsSomeAnd (moment handed).content IsEmptyLog) (a b x y : Coordinator L)
+      (order : (moment handed).is_in_order) (empty : IsSomeAnd (moment handed).content IsEmptyLog) (a b x y : Server L)
       (one_lines two_lines : List (List ℕ)) (one_replies two_replies : List Response) (one : StartsOver moment threads rms handed a)
       (two : StartsOver moment threads rms (log_in b.session.manager) x) (one_have : HaveReplies moment one_lines one_replies a b)
       (two_have : HaveReplies moment two_lines two_replies x y) (one_well : list_any is_log_fault one_replies ≡ false)

@@ -8,14 +8,14 @@ use Rattle.xa_base.specs.declared.branch.Gtrid.{Gtrid}
 use Rattle.xa_base.specs.declared.state.Standing.{Standing}
 use Rattle.xa_base.specs.declared.state.Standing.TheVariants.{Committed, Completed, Forgotten, Prepared, Unstarted}
 use Rattle.xa_base.specs.declared.step.Outcome.TheVariants as Outcomes
-use Rattle.xa_coordinator.specs.Lines.{asked_in, text_lines}
-use Rattle.xa_coordinator.specs.Rows.{is_gtrid_among}
-use Rattle.xa_coordinator.specs.Replies.{greeting_of}
-use Rattle.xa_coordinator.specs.Serving.{AreTurns, EndsAtLastOr, Serves, Turn, replies_given, replies_text, requests_done, told_in}
-use Rattle.xa_coordinator.specs.Sessions.{AreServed, LogDecides, StartsOver}
-use Rattle.xa_coordinator.specs.Telling.{HaveTold, is_log_fault}
-use Rattle.xa_coordinator.specs.Votes.{AreVotes, IsLogged}
-use Rattle.xa_coordinator.specs.declared.coordinator.Coordinator.{Coordinator}
+use Rattle.xa_server.specs.Lines.{asked_in, text_lines}
+use Rattle.xa_server.specs.Rows.{is_gtrid_among}
+use Rattle.xa_server.specs.Replies.{greeting_of}
+use Rattle.xa_server.specs.Serving.{AreTurns, EndsAtLastOr, Serves, Turn, replies_given, replies_text, requests_done, told_in}
+use Rattle.xa_server.specs.Sessions.{AreServed, LogDecides, StartsOver}
+use Rattle.xa_server.specs.Telling.{HaveTold, is_log_fault}
+use Rattle.xa_server.specs.Votes.{AreVotes, IsLogged}
+use Rattle.xa_server.specs.declared.server.Server.{Server}
 use Rattle.xa_log.specs.Content.{Content}
 use Rattle.xa_log.specs.Contract.{Moment}
 use Rattle.xa_model.specs.Promises.Agreement.{IsUndone}
@@ -23,10 +23,10 @@ use Rattle.xa_model.specs.Trace.{Branch, Line, Origin}
 use Rattle.xa_requests.specs.declared.request.Request.TheVariants as requests
 use Rattle.xa_requests.specs.declared.response.Response.{Response}
 use Rattle.xa_requests.specs.declared.response.Response.TheVariants as responses
-use Rattle.xa_standings.specs.Agreement.{MayAllStand, OwnStandAlike, StandAlike, StandSo}
-use Rattle.xa_standings.specs.Explained.{IsExplained}
-use Rattle.xa_standings.specs.Seen.{Seen, Seen.Start}
-use Rattle.xa_standings.specs.Standings.{Comes}
+use Rattle.xa_monitor.specs.Agreement.{MayAllStand, OwnStandAlike, StandAlike, StandSo}
+use Rattle.xa_monitor.specs.Explained.{IsExplained}
+use Rattle.xa_monitor.specs.Seen.{Seen, Seen.Start}
+use Rattle.xa_monitor.specs.Standings.{Comes}
 use Rattle.xa_tm.specs.Calls.{log_in}
 
 -- The driver was told the first line of a session, and a line for each line of what was read of its text: up to `quit`, or all. What
@@ -81,8 +81,8 @@ pub record LogsCommits (log : Option Content) (text written : List ℕ) : Type 0
 -- A driver of so many threads and resource managers that writes this text was served by a coordinator that started over a log, and this was
 -- written; this log is left.
 pub record IsServedOver {L : Type 0} (moment : L → Moment) (threads rms : ℕ) (handed : L) (text written : List ℕ) (left : L) : Type 0 where
-  pub first : Coordinator L
-  pub last : Coordinator L
+  pub first : Server L
+  pub last : Server L
   pub unread : List ℕ
   pub starts : StartsOver moment threads rms handed first
   pub serves : Serves moment (greeting_of first) (Some text) (Some unread) (Some []) (Some written) first last
@@ -90,7 +90,7 @@ pub record IsServedOver {L : Type 0} (moment : L → Moment) (threads rms : ℕ)
 
 -- sessions that agree left this log, and the branches so
 abbrev pub AreServedTo : {L : Type 0} → (L → Moment) → L → (Branch → Standing) → Type 0
-AreServedTo {L} moment left f = (last : Coordinator L) × (left ≡ log_in last.session.manager) × AreServed moment (Some last) f
+AreServedTo {L} moment left f = (last : Server L) × (left ≡ log_in last.session.manager) × AreServed moment (Some last) f
 
 -- The driver was told the first line of a session, and a line for each line of what was read of its text: up to `quit`, or all.
 pub record IsReplied (text written : List ℕ) : Type 0 where

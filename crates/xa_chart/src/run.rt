@@ -5,7 +5,7 @@ ghost use Rattle.xa_chart.specs.Pictures.{shown_party};
 
 use std::alloc::Global;
 use xa_base::Event;
-use xa_story::{Line, Party, Scene};
+use xa_story::{Party, Scene, StoryLine};
 
 /// A run that is drawn: its events, the line that the story has of each, and the scene after them.
 #[derive(Clone, Copy)]
@@ -14,7 +14,7 @@ pub struct Run<'a, 'b> {
     pub threads: u32,
     pub rms: u32,
     pub scene: &'a Scene<'b>,
-    pub lines: &'a [Line],
+    pub lines: &'a [StoryLine],
     pub events: &'a [Event],
 }
 

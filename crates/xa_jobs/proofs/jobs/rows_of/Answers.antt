@@ -4,7 +4,7 @@ use Rattle.std.proofs.lemmas.List.Elements.{All-push}
 use Rattle.std.proofs.lemmas.Result.{err_from_is_err_and}
 use Rattle.toml.specs.View.{items_view, view}
 use Rattle.xa_jobs.specs.JobFiles.{job_at, jobs_from, rows_in}
-use Rattle.xa_files.specs.Refusals.{document_fault_of}
+use Rattle.xa_files.specs.Misfits.{document_fault_of}
 use Rattle.xa_files.proofs.DocumentLemmas.{fails_on}
 use Rattle.xa_jobs.proofs.JobLemmas.{job_goes_on, job_stops, jobs_end}
 use Rattle.xa_jobs.proofs.jobs.rows_of.Goals as goal

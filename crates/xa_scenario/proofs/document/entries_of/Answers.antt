@@ -4,7 +4,7 @@ use Rattle.std.proofs.lemmas.List.{map_push}
 use Rattle.toml.specs.View.{view, items_view}
 use Rattle.xa_scenario.specs.Scenarios.{entries_from, entry_at, names_after}
 use Rattle.xa_scenario.proofs.EntryLemmas.{goes_on, stops, ends, names_after-some, names_after-none}
-use Rattle.xa_files.specs.Refusals.{document_fault_of}
+use Rattle.xa_files.specs.Misfits.{document_fault_of}
 use Rattle.xa_files.proofs.DocumentLemmas.{fails_on}
 use Rattle.xa_scenario.proofs.document.entries_of.Goals as goal
 use Rattle.xa_scenario.proofs.document.entries_of.Goals.{in-Some+in_ok-push-2, in_default}
