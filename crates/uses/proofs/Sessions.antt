@@ -111,7 +111,8 @@ votes_fit (l ∷ ls) (r ∷ rs) (g ∷ gs) are =
 module _ {L : Type 0} (moment : L → Moment) (law : VotedCommitsAreLogged moment) (threads rms : ℕ) (handed : L) (old new : Server L)
     (lines : List (List ℕ)) (replies : List Response) (starts : StartsOver moment threads rms handed old) (have : HaveReplies moment lines replies old new)
     (order : (moment handed).is_in_order) (honest : (moment (log_in new.session.manager)).is_honest) where
-  pub rows_logged : (gs : List Gtrid) (g : Gtrid) → EndDecided lines replies gs → is_gtrid_among gs g ≡ true → IsLogged (moment (log_in new.session.manager)).content g
+  pub rows_logged : (gs : List Gtrid) (g : Gtrid) → EndDecided lines replies gs → is_gtrid_among gs g ≡ true
+      → IsLogged (moment (log_in new.session.manager)).content g
   rows_logged gs g end among =
       let all : HaveReplies moment (end.before ++ (end.votes ++ end.line ∷ [])) (end.first ++ (end.heard ++ responses.Decided ∷ [])) old new =
       subst (λ ls. HaveReplies moment ls (end.first ++ (end.heard ++ responses.Decided ∷ [])) old new) end.lines_are

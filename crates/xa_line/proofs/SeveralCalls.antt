@@ -22,7 +22,8 @@ issued_so (Err n) e p = absurd (cc)
 -- what a line that didn't refuse the call has
 pub line_took : (at read : Traffic) (call copied : Call Xid) (result : Result (Unit {0}) Refusal) (new : Traffic)
     → read ≡ at → copied ≡ call → result_err result ≡ refusal read copied
-    → OnOk result (new ≡ record read { calls = with_one_more read.calls copied }) → barred (calls_issued at) call ≡ None → nat_le 64 (length at.calls.waiting) ≡ false
+    → OnOk result (new ≡ record read { calls = with_one_more read.calls copied }) → barred (calls_issued at) call ≡ None
+    → nat_le 64 (length at.calls.waiting) ≡ false
     → new ≡ record at { calls = with_one_more at.calls call }
 line_took at read call copied result new same copy reason accepted_so bar room =
     let none : refusal at call ≡ None = λ i. option_or (bar i) (if room i then Some Refusals.Full else None) in

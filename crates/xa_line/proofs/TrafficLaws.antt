@@ -49,7 +49,8 @@ module _ (tr : Trace) (l : Line) (t : Traffic) (stands : LineStands tr l t) wher
   next_call_waits = seen_behind known (calls_taken t) t.calls.waiting (facts.issued tr l) (length (facts.taken tr l)) stands.all_issued as_many_taken
 
   pub next_answer_waits : option_map known_answered (slice_get t.answers.waiting 0) ≡ option_map Some (facts.next_answer tr l)
-  next_answer_waits = seen_behind known_answered (answers_heard t) t.answers.waiting (facts.taken tr l) (length (facts.heard tr l)) stands.all_answered as_many_heard
+  next_answer_waits = seen_behind known_answered (answers_heard t) t.answers.waiting (facts.taken tr l) (length (facts.heard tr l)) stands.all_answered
+      as_many_heard
 
   pub as_many_calls : length t.calls.waiting ≡ waiting tr l
   as_many_calls =
@@ -85,6 +86,7 @@ line_goes_on tr e l old new calls answers hearings stands b i ik a ak h hk each 
   all_issued = rw b (ap (map known) i ∙ seen_more known (calls_issued old) calls (facts.issued tr l) (facts.new_calls tr e l) stands.all_issued ik);
   all_answered =
       rw b (ap (map known_answered) a ∙ seen_more known_answered (answered old) answers (facts.taken tr l) (facts.new_taken e l) stands.all_answered ak);
-  all_heard = rw b (ap (map known_answered) h ∙ seen_more known_answered (answers_heard old) hearings (facts.heard tr l) (facts.new_heard e l) stands.all_heard hk);
+  all_heard = rw b (ap (map known_answered) h
+      ∙ seen_more known_answered (answers_heard old) hearings (facts.heard tr l) (facts.new_heard e l) stands.all_heard hk);
   each_answered = each;
 }

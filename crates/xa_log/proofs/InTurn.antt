@@ -52,7 +52,8 @@ module _ {Log : Type 0} (moment : Log → Moment) (start : Log) where
             some_is (moment old).content (content_after_all calls c) _ (run.made c at_first (changes.honest clean) is) (changes.ok (run.order at_first) clean)
             ∙ ap Some (sym (after_push calls call c) ∙ ap (λ all. content_after_all all c) (sym next));
         told = λ c at_first clean is.
-            let one = some_is (moment old).content (content_after_all calls c) _ (run.made c at_first (changes.honest clean) is) (told (run.order at_first) clean) in
+            let one = some_is (moment old).content (content_after_all calls c) _ (run.made c at_first (changes.honest clean) is)
+            (told (run.order at_first) clean) in
             subst (λ all. AreTold c all more) (sym next)
             (subst (AreTold c (calls ++ call ∷ [])) (sym listed)
             (told_push calls answers call answer c (run.told c at_first (changes.honest clean) is) one));

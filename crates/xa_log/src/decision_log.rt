@@ -126,7 +126,8 @@ pub trait DecisionLog {
     /// Completion). The first record of a branch stays.
     fn note_heuristic(&mut self, b: Branch, how: How) -> Result<(), LogFault>
         requires { FitsRow b.gtrid }
-        ensures changes { Changes (with_heuristic_record b how) (moment self.old) (moment self.new) result }
+        ensures changes { Changes (with_heuristic_record b how) (moment self.old) (moment self.new)
+            result }
         ensures cause { says LogCall.NoteHeuristic (with_heuristic_record b how)
             self.old self.new (fault_of result) };
 

@@ -150,14 +150,16 @@ incarnation_so (Some f) now told s = s.incarnation_is
 found_rows : (n d : Trace) → log n ≡ log d → doubt n ≡ doubt d → (o : Origin) → log (resumed n o) ≡ log (resumed d o)
 found_rows n d l x o = λ i. if length o.rows == length (l i) then l i else rows_changed (x i) (l i)
 
-found_records : (n d : Trace) → heuristic_rows n ≡ heuristic_rows d → doubt n ≡ doubt d → (o : Origin) → heuristic_rows (resumed n o) ≡ heuristic_rows (resumed d o)
+found_records : (n d : Trace) → heuristic_rows n ≡ heuristic_rows d → doubt n ≡ doubt d → (o : Origin)
+    → heuristic_rows (resumed n o) ≡ heuristic_rows (resumed d o)
 found_records n d l x o = λ i. if length o.heuristic_rows == length (l i) then l i else heuristics_changed (x i) (l i)
 
 pub finds_same : (fails : Option Fault) (now told : Trace) → AsksIf fails → SameBooks now told → (o : Origin)
     → FindsLog (failed_in fails told) o → FindsLog (failed_in fails now) o
 finds_same fails now told asks s o finds = record {
   later = subst (λ n. n < o.incarnation) (sym (incarnation_so fails now told s)) finds.later;
-  rows = subst (SameRows o.rows) (sym (found_rows (failed_in fails now) (failed_in fails told) (log_so fails now told s) (doubt_so fails now told asks s) o)) finds.rows;
+  rows = subst (SameRows o.rows) (sym (found_rows (failed_in fails now) (failed_in fails told) (log_so fails now told s) (doubt_so fails now told asks s) o))
+      finds.rows;
   records = subst (SameRecords o.heuristic_rows)
       (sym (found_records (failed_in fails now) (failed_in fails told) (records_so fails now told s) (doubt_so fails now told asks s) o)) finds.records;
 }

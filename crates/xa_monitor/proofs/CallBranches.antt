@@ -63,10 +63,12 @@ one_leads before after Step b states e into onto only stays = record {
     onto_by q true p = subst (λ z. LeadsOnto (before z) (Step z) states) (branch_eq-true b q p) onto
     onto_by q false p = λ t h. (t, h, λ f w. (f, stays q p f, w))
 
-pub asked_here : {X : Type 0} (k : Kind) (b : Branch) (x : X) (a : Code) (f g : Standing) → ExplainsAsked (Some (k, b)) a b f g → MovesAsAsked (Some (k, x)) a f g
+pub asked_here : {X : Type 0} (k : Kind) (b : Branch) (x : X) (a : Code) (f g : Standing) → ExplainsAsked (Some (k, b)) a b f g
+    → MovesAsAsked (Some (k, x)) a f g
 asked_here k b x a f g step = subst (λ t. ExplainsIf t f k a g) (branch_eq-refl b) step
 
-pub takes_here : {X : Type 0} (k : Kind) (b : Branch) (x : X) (a : Code) (f g : Standing) → MovesAsAsked (Some (k, x)) a f g → ExplainsAsked (Some (k, b)) a b f g
+pub takes_here : {X : Type 0} (k : Kind) (b : Branch) (x : X) (a : Code) (f g : Standing) → MovesAsAsked (Some (k, x)) a f g
+    → ExplainsAsked (Some (k, b)) a b f g
 takes_here k b x a f g step = subst (λ t. ExplainsIf t f k a g) (sym (branch_eq-refl b)) step
 
 pub takes_away : (k : Kind) (b q : Branch) (a : Code) → branch_eq b q ≡ false → (f g : Standing) → ExplainsAsked (Some (k, b)) a q f g → g ≡ f

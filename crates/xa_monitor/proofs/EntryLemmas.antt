@@ -195,10 +195,12 @@ none_as_before T before f law (e ∷ es) kept r q has =
     by : (b t : Bool) → r.0 ≡ b → is_at (branch_cmp q) e.0 ≡ t → (r.0 ≡ true → r.1 ≢ before e.0) → Apart r.3 → Apart (cond b ((e.0, r.1) ∷ r.3) r.3)
     by false t eb et apart rest = rest
     by true true eb et apart rest =
-        subst (λ u. IsSome (cond u (Some r.1) (lookup (is_at (branch_cmp q)) r.3)) → unwrap_or (cond u (Some r.1) (lookup (is_at (branch_cmp q)) r.3)) (before q)
+        subst (λ u. IsSome (cond u (Some r.1) (lookup (is_at (branch_cmp q)) r.3))
+        → unwrap_or (cond u (Some r.1) (lookup (is_at (branch_cmp q)) r.3)) (before q)
         ≢ before q) (sym et) (λ some same. apart eb (same ∙ ap before (tied_branch q e.0 et)))
     by true false eb et apart rest =
-        subst (λ u. IsSome (cond u (Some r.1) (lookup (is_at (branch_cmp q)) r.3)) → unwrap_or (cond u (Some r.1) (lookup (is_at (branch_cmp q)) r.3)) (before q)
+        subst (λ u. IsSome (cond u (Some r.1) (lookup (is_at (branch_cmp q)) r.3))
+        → unwrap_or (cond u (Some r.1) (lookup (is_at (branch_cmp q)) r.3)) (before q)
         ≢ before q) (sym et) rest
 
 pub nothing_left : {F : Type 0} (T : F → Branch → States → Bool → States → F → Type 0) (i : ℕ) (f : F)

@@ -47,7 +47,8 @@ no_code_leads call a before after names e c is = by (subst (Asks call) names (as
   where
     by : Asks call None → LeadsExactly before (ExplainsAsked (asks_of c) a) after
     by (OnNone none) =
-        subst (λ z. LeadsExactly before (ExplainsAsked z a) after) (sym (none c is)) (same_lead before after (ExplainsAsked None a) e (λ q f g step. step) (λ q f. refl))
+        subst (λ z. LeadsExactly before (ExplainsAsked z a) after) (sym (none c is))
+        (same_lead before after (ExplainsAsked None a) e (λ q f g step. step) (λ q f. refl))
 
 -- whether some state explains it
 pub code_stuck : (call : Waiting Xid) (b : Branch) (a : Code) (states : Branch → States) (after : States) → branch_in_call call ≡ Some b

@@ -68,7 +68,8 @@ module _ (tr : Trace) (right : AllRight tr) where
       by : (had_row tr b.gtrid ≡ true) ⊎ (handed_over tr b.gtrid ≡ true) → has_row tr b.gtrid ≡ true
       by (inl had) = there had (has_row tr b.gtrid) refl
       by (inr handed) =
-          absurd (let one : Committed ≡ Prepared = sym committed ∙ (ap (standing tr) (inv.handed_one b c handed (sym same) b_started c_started) ∙ prepared) in cc)
+          absurd (let one : Committed ≡ Prepared =
+          sym committed ∙ (ap (standing tr) (inv.handed_one b c handed (sym same) b_started c_started) ∙ prepared) in cc)
 
   -- and so it is as long as the branch itself is prepared
   own_row_stays : (b : Branch) → had_row tr b.gtrid ≡ true → standing tr b ≡ Prepared → has_row tr b.gtrid ≡ true

@@ -137,7 +137,8 @@ module _ (o : Origin) (seen : Seen) (Start : Origin → Type 0) (done cut : List
       one_more true m n = omega arith
       one_more false m n = refl
 
-      calls_so : (m : Line) (n : ℕ) → is_line_among cut m ≡ false → waiting_call_at (Then now (Took l c a)) m n ≡ waiting_call_at r.told m (times (l ∷ done) m + n)
+      calls_so : (m : Line) (n : ℕ) → is_line_among cut m ≡ false
+          → waiting_call_at (Then now (Took l c a)) m n ≡ waiting_call_at r.told m (times (l ∷ done) m + n)
       calls_so m n apart =
           taken_calls now l m c a n
           ∙ (alone_calls r.now now m (one_if (line_eq l m) n) alone
@@ -154,7 +155,8 @@ module _ (o : Origin) (seen : Seen) (Start : Origin → Type 0) (done cut : List
       sound (Calls.Recover n s e) q = tt
       sound _ e = absurd (cc)
 
-      by_asks : (x : Option (Kind × Branch)) → asks_of c ≡ x → ((b : Branch) → ExplainsAsked x was.0 b (from b) (to b)) → LeavesThere o seen Start (l ∷ done) cut to
+      by_asks : (x : Option (Kind × Branch)) → asks_of c ≡ x → ((b : Branch) → ExplainsAsked x was.0 b (from b) (to b))
+          → LeavesThere o seen Start (l ∷ done) cut to
       by_asks None asks takes =
           was_taken l c (Ret Codes.Success) r.now has uncut waits NoMore (sound c asks)
           (λ b. ap (λ x. moved_by x Codes.Success b (standing r.now b)) asks ∙ (r.there b ∙ sym (takes b)))

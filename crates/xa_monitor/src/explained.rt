@@ -27,7 +27,8 @@ ghost use Rattle.xa_monitor.specs.Sessions.{Log, RowsDecide, WasFoundDecided};
 /// - `agree_across`: the same of all transactions, where the start has each branch just as the past left it.
 pub fn answers_are_explained()
     ensures each { (o : Origin) (seen : Seen) → HasOnlyOlderRows o → KeepsRules o seen →
-        (f : Branch → Standing) → ((b : Branch) → MayStand o seen b (f b)) → IsExplainedAt o seen f }
+        (f : Branch → Standing) → ((b : Branch) → MayStand o seen b (f b)) →
+        IsExplainedAt o seen f }
     ensures some { (o : Origin) (seen : Seen) → HasOnlyOlderRows o → KeepsRules o seen →
         ((b : Branch) → (s : Standing) × MayStand o seen b s) → IsExplained o seen }
     ensures across { (past : Trace) (o : Origin) (seen : Seen) →

@@ -230,7 +230,8 @@ impl Monitor {
     fn hear_code(&mut self, call: &Call, code: Code)
         requires { HasRoomIf self.old.branches (branch_in_call call.now) }
         ensures { (c : KnownCall) → known call.now ≡ Some c →
-            LeadsExactly (states_of self.old) (ExplainsAsked (asks_of c) code) (states_of self.new) }
+            LeadsExactly (states_of self.old) (ExplainsAsked (asks_of c) code)
+            (states_of self.new) }
     {
         if let Some(b) = branch_of(call) {
             let states = self.states(b).after(call, code);

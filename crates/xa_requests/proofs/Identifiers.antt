@@ -64,7 +64,8 @@ branch_is : (b : Branch) → IsXid (xid_of_branch b)
 branch_is b = record {
   in_range = record {
     format = seven_fits;
-    gtrid = append_bytes (to_be_bytes w64 b.gtrid.incarnation) (to_be_bytes w64 b.gtrid.sequence) (number_bytes 8 b.gtrid.incarnation) (number_bytes 8 b.gtrid.sequence);
+    gtrid = append_bytes (to_be_bytes w64 b.gtrid.incarnation) (to_be_bytes w64 b.gtrid.sequence) (number_bytes 8 b.gtrid.incarnation)
+        (number_bytes 8 b.gtrid.sequence);
     bqual = append_bytes (to_be_bytes w32 b.thread) (to_be_bytes w32 b.rm) (number_bytes 4 b.thread) (number_bytes 4 b.rm);
   };
   faultless = refl;
@@ -89,7 +90,8 @@ unfolding each_named
 each_is [] = All-nil IsXid
 each_is (word ∷ words) =
     if_then IsXid (All IsXid) (xid_named word) _ (named_is word)
-    (λ x is. if_then (All IsXid) (All IsXid) (each_named xid_named words) (λ others. Some (x ∷ others)) (each_is words) (λ others are. All-cons IsXid x others is are))
+    (λ x is. if_then (All IsXid) (All IsXid) (each_named xid_named words) (λ others. Some (x ∷ others)) (each_is words)
+        (λ others are. All-cons IsXid x others is are))
 
 -- ** calls
 

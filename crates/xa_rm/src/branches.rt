@@ -47,13 +47,15 @@ fn apply_held(
     call: &Call,
 ) -> Result<Code, Memory>
     requires { contains xid_cmp index.old xid.now ≡ is_in_doubt held.old.standing }
-    ensures answer { IfOk result (λ code. (kind : Kind) (x : Xid) → asks_of call.now ≡ Some (kind, x) →
+    ensures answer { IfOk result (λ code. (kind : Kind) (x : Xid) →
+        asks_of call.now ≡ Some (kind, x) →
         code ≡ answer_of (held_branch held.old) kind) }
     ensures held { OnOk result ((kind : Kind) (x : Xid) → asks_of call.now ≡ Some (kind, x) →
         held_branch held.new ≡ called thread kind (held_branch held.old)) }
     ensures index { ListsIf index.old index.new xid.now (is_in_doubt held.new.standing) }
     ensures err { OnErr result (held.new ≡ held.old) }
-    ensures goes_in_doubt { OnErr result ((kind : Kind) (x : Xid) → asks_of call.now ≡ Some (kind, x) →
+    ensures goes_in_doubt { OnErr result ((kind : Kind) (x : Xid) →
+        asks_of call.now ≡ Some (kind, x) →
         is_in_doubt (called thread kind (held_branch held.old)).standing
         ≢ is_in_doubt held.old.standing) }
 {

@@ -50,7 +50,8 @@ three P a b d old one two new first second third fourth fifth sixth wanted = rec
 }
 
 -- what else the events have
-pub performs_also : {P Q : List Event → Type 0} {old new : List Event} → ((events : List Event) → P events → Q events) → PerformsSteps P old new → PerformsSteps Q old new
+pub performs_also : {P Q : List Event → Type 0} {old new : List Event} → ((events : List Event) → P events → Q events) → PerformsSteps P old new
+    → PerformsSteps Q old new
 performs_also more h = record { events = h.events; wanted = more h.events h.wanted; answered = h.answered; leads = h.leads }
 
 names_none_after : (thread rm : ℕ) (moved : Bool) (rest : List Event) → (IsDrain thread rm rest → gtrids_begun rest ≡ [])
@@ -125,7 +126,8 @@ play_turn first all gtrids seen began grown entries i d start trace new within s
     play_goes_on first all gtrids began grown (get_or entries i d) (drop (i + 1) entries) start trace new more at_gtrids at_entries
 
 -- one event
-pub one : (P : List Event → Type 0) (a : Event) (old new : List Event) → IsAnswered old a.reply → new ≡ events_after old a → P (a ∷ []) → PerformsSteps P old new
+pub one : (P : List Event → Type 0) (a : Event) (old new : List Event) → IsAnswered old a.reply → new ≡ events_after old a → P (a ∷ [])
+    → PerformsSteps P old new
 one P a old new answered added wanted = record {
   events = a ∷ [];
   wanted = wanted;

@@ -115,7 +115,8 @@ pub fn play<R: ResourceManager + Drop, L: DecisionLog + Drop>(
     gtrids: &mut Vec<Gtrid>,
     entries: &[Entry],
 ) -> Result<(), AllocError>
-    ensures performs { OnOk result (PerformsSteps (λ steps. IsPlay gtrids.old.items entries.now steps
+    ensures performs { OnOk result
+        (PerformsSteps (λ steps. IsPlay gtrids.old.items entries.now steps
         × (gtrids.new.items ≡ gtrids.old.items ++ gtrids_begun steps))
         system.old.events system.new.events) }
     ensures start { origin_in R.look system.new ≡ origin_in R.look system.old }

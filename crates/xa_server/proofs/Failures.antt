@@ -200,7 +200,8 @@ module _ {L : Type 0} (moment : L → Moment) (now left : Server L) (t r : ℕ) 
 
       fit_by : (o : Option Unfit) → unfit now.session t r (Ret code) ≡ o → o ≡ None
       fit_by None e = refl
-      fit_by (Some u) e = absurd (no_line_fault (line_refusal now.session t r) _ (never_the_log now.session (Steps.Crash (Parts.Line t r))) (no_call_fault (slice_get (line_at now.session.lines t r).calls.waiting 0) (Ret code))
+      fit_by (Some u) e = absurd (no_line_fault (line_refusal now.session t r) _ (never_the_log now.session (Steps.Crash (Parts.Line t r)))
+          (no_call_fault (slice_get (line_at now.session.lines t r).calls.waiting 0) (Ret code))
           (e ∙ ap (λ x. let y : Option Unfit = Some x in y) (told u (does.refused u e).0)))
 
       fit_so : unfit now.session t r (Ret code) ≡ None

@@ -78,7 +78,8 @@ pub faults_leave_all_or_none : {L : Type 0} (moment : L → Moment) → FaultsLe
 faults_leave_all_or_none moment near (requests.Decide gs o) old new c asks did order honest up holds leaves =
     let m = old.session in
     let kept = did.keeps.holds near order honest holds in
-    fault_leaves moment near old did.mid new c (rows_added o (book_in m.manager) gs) (InDecide (written_by o (book_in m.manager) gs)) (decide_all_refusal m o gs)
+    fault_leaves moment near old did.mid new c (rows_added o (book_in m.manager) gs) (InDecide (written_by o (book_in m.manager) gs))
+    (decide_all_refusal m o gs)
     responses.Decided did.does.result decided_is_no_refusal did.does.told did.does.does.rules.refused did.does.does.asks.fails did.releases up kept leaves
 faults_leave_all_or_none moment near (requests.Settle g) old new c asks did order honest up holds leaves =
     let m = old.session in

@@ -43,7 +43,8 @@ map_none f (Some a) e = absurd (cc)
 pub known_issue : {L : Type 0} (s : Session L) (t r : ℕ) (call : Asking.Call Xid) → issue_refusal s t r call ≡ None → (c : Call) × (known call ≡ Some c)
 known_issue s t r call none =
     let asked = map_call name_of call in
-    let rules : refusal_in (book_in s.manager) (Steps.Issue t r asked) ≡ None = (or_none _ _ (or_none _ _ (or_none _ _ (sym (issue_rule s t r call) ∙ none)).1).1).0 in
+    let rules : refusal_in (book_in s.manager) (Steps.Issue t r asked) ≡ None =
+    (or_none _ _ (or_none _ _ (or_none _ _ (sym (issue_rule s t r call) ∙ none)).1).1).0 in
     known_call (view_in (book_in s.manager)) t r asked (none_of_call (book_in s.manager) t r asked rules)
 
 -- ** a call that waits first, and is answered

@@ -78,7 +78,8 @@ known_then : (call : Asking.Call Xid) (n : Option Call) → Some (known call) �
 known_then call None e = absurd (cc)
 known_then call (Some c) e = (c, cc)
 
-module _ {L : Type 0} (explained : SessionsAreExplained L) (o : Origin) (seen : Seen) (s : Session L) (is_old : HasOnlyOlderRows o) (keeps : KeepsTrack o seen s)
+module _ {L : Type 0} (explained : SessionsAreExplained L) (o : Origin) (seen : Seen) (s : Session L) (is_old : HasOnlyOlderRows o)
+    (keeps : KeepsTrack o seen s)
   where
     known_waits : (t r : ℕ) (call : Asking.Call Xid) → grid_has_line s.lines t r ≡ true → slice_get (line_at s.lines t r).calls.waiting 0 ≡ Some call
         → (c : Call) × (known call ≡ Some c)

@@ -104,7 +104,8 @@ texts : (name : List ℕ) (greeting : Response) (written mid all : Option (List 
     → Appends written all (text_written name (told_in greeting (ts ++ us)))
 texts name greeting written mid all ts us first second =
     subst (Appends written all)
-    (sym (text_of_both name (told_in greeting ts) (map told_of us)) ∙ ap (λ more. text_written name (lone_reply greeting ∷ more)) (sym (map-append told_of ts us)))
+    (sym (text_of_both name (told_in greeting ts) (map told_of us))
+    ∙ ap (λ more. text_written name (lone_reply greeting ∷ more)) (sym (map-append told_of ts us)))
     (both_written written mid all (text_written name (told_in greeting ts)) (text_written name (map told_of us)) first second)
 
 -- what was written whole, in two parts
@@ -239,7 +240,8 @@ module _ {L : Type 0} (moment : L → Moment) (name : List ℕ) (greeting : Resp
           consumed = both_consumed unread part loses.left some.read loses.read some.consumed loses.reads.consumed;
           whole = whole_or_end some.read loses.read loses.left some.whole loses.reads.whole;
         };
-        lines = turns_both (text_lines some.read) (text_lines loses.read) (text_lines (some.read ++ loses.read)) some.turns (loses.turn ∷ []) some.lines loses.lines
+        lines = turns_both (text_lines some.read) (text_lines loses.read) (text_lines (some.read ++ loses.read)) some.turns (loses.turn ∷ []) some.lines
+            loses.lines
             (some.whole loses.read);
         replied = both_done moment name some.turns (loses.turn ∷ []) a b c some.replied loses.replied;
         writes = record {

@@ -241,12 +241,14 @@ module _ {L : Type 0} (laws : Laws L) (o : Origin) (moment : L → Moment) where
   performed (requests.Begin t) reply seen old new keeps does none = stands seen old new keeps (Begins t) (response_of responses.Begun)
       (λ reply. Tells old.session.lines.threads (requests.Begin t) reply seen) reply does none
       (λ result does none. begun laws o seen old.session new.session keeps old.session.lines.threads t result does)
-  performed (requests.Issue t r call) reply seen old new keeps does none = stands seen old new keeps (Issues t r call) (response_of (λ _. responses.Issued call))
+  performed (requests.Issue t r call) reply seen old new keeps does none =
+      stands seen old new keeps (Issues t r call) (response_of (λ _. responses.Issued call))
       (λ reply. Tells old.session.lines.threads (requests.Issue t r call) reply seen) reply does none
       (λ result does none. issued laws o seen old.session new.session keeps old.session.lines.threads t r call result does)
   performed (requests.Answer t r name answer) reply seen old new keeps does none =
       heard seen old new keeps old.session.lines.threads t r name answer reply does none
-  performed (requests.Decide gs outcome) reply seen old new keeps does none = stands seen old new keeps (Decides gs outcome) (response_of (λ _. responses.Decided))
+  performed (requests.Decide gs outcome) reply seen old new keeps does none =
+      stands seen old new keeps (Decides gs outcome) (response_of (λ _. responses.Decided))
       (λ reply. Tells old.session.lines.threads (requests.Decide gs outcome) reply seen) reply does none
       (λ result does none. decided laws o seen old.session new.session keeps old.session.lines.threads gs outcome result does none)
   performed (requests.Claim g) reply seen old new keeps does none = stands seen old new keeps (Claims g) (response_of (λ _. responses.Claimed))

@@ -140,7 +140,8 @@ impl<L: DecisionLog + Drop> Server<L> {
         ensures ok { IfOk result (ServesLine L.moment name.now
             (reader_remaining R.remaining input.old) (reader_remaining R.remaining input.new)
             (W.contents output.old) (W.contents output.new) self.old self.new) }
-        ensures err { OnErr result (BreaksOff L.moment name.now (reader_remaining R.remaining input.old)
+        ensures err { OnErr result
+            (BreaksOff L.moment name.now (reader_remaining R.remaining input.old)
             (W.contents output.old) (W.contents output.new) self.old self.new) }
     {
         flush_before_waiting(input, output)?;

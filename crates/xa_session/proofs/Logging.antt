@@ -277,7 +277,8 @@ settle_open k g none =
       not_rolled_back = (or_parts (k.transaction g).rolled_back (k.transaction g).handed_over taken.1).0;
     }
 
-pub settlement_changes : (k : Book) (g : Gtrid) → IsSound k → refusal_in k (Steps.Settle g) ≡ None → (k.up ≡ true) × IsChangeOf k.row (Adds (rows_for k (g ∷ [])))
+pub settlement_changes : (k : Book) (g : Gtrid) → IsSound k → refusal_in k (Steps.Settle g) ≡ None
+    → (k.up ≡ true) × IsChangeOf k.row (Adds (rows_for k (g ∷ [])))
 settlement_changes k g sound none =
     let is = settle_open k g none in
     (is.up, (sound.no_row g is.begun is.uncommitted, refl, tt))

@@ -77,7 +77,8 @@ module _ (past : Trace) (k : Book) (stands : BookStands past k) (run : IsRun pas
       at : MayHoldRows past c
       at = may_hold_rows past c (whole_holds stands.0 (book_of past) k c stands.1 has.holds)
 
-      by : SameRowsAndRecords c at.0 ⊎ SameRowsAndRecords c (after_change (doubt past) at.0) → SameRowsAndRecords before at.0 ⊎ SameRowsAndRecords before (after_change (doubt past) at.0)
+      by : SameRowsAndRecords c at.0 ⊎ SameRowsAndRecords c (after_change (doubt past) at.0)
+          → SameRowsAndRecords before at.0 ⊎ SameRowsAndRecords before (after_change (doubt past) at.0)
       by (inl same) = inl (record { decisions = same.decisions; heuristics = same.heuristics })
       by (inr same) = inr (record { decisions = same.decisions; heuristics = same.heuristics })
 

@@ -17,7 +17,8 @@ use Rattle.xa_session.proofs.Headroom.{releases_keep_headroom}
 use Rattle.xa_session.proofs.Logging.{kept_as, quiet_keeps, same_released}
 use Rattle.xa_session.specs.Logging.{KeepsLog}
 
-module _ {L : Type 0} (s : Session L) (m : Manager L) (sized : HasItsLines (book_in m) s.lines) (g : Gtrid) (done : Bool) (over : done ≡ true → IsOver (book_in s.manager) g)
+module _ {L : Type 0} (s : Session L) (m : Manager L) (sized : HasItsLines (book_in m) s.lines) (g : Gtrid) (done : Bool)
+    (over : done ≡ true → IsOver (book_in s.manager) g)
     (released : done ≡ true → book_in m ≡ book_without g (book_in s.manager)) (same : done ≡ false → m ≡ s.manager) where
   -- what is so of the book, and stays so without a transaction that is over, is so of the new one
   stays : (P : Book → Type 0) → (IsOver (book_in s.manager) g → P (book_in s.manager) → P (book_without g (book_in s.manager))) → P (book_in s.manager)

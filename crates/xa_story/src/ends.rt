@@ -54,7 +54,8 @@ fn end_line(alloc: Global, names: &Names, line: &(Xid, Fate)) -> Result<String, 
 
 /// The lines of branches.
 pub fn fates_text(alloc: Global, names: &Names, fates: &[(Xid, Fate)]) -> Result<String, Memory>
-    ensures { IfOk result (λ text. string_bytes text ≡ flat_map (branch_end_line names.now) fates.now) }
+    ensures { IfOk result (λ text. string_bytes text
+        ≡ flat_map (branch_end_line names.now) fates.now) }
 {
     let mut text = String::new(alloc);
     for line in fates {

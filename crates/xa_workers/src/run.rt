@@ -133,7 +133,8 @@ fn run_all<
         |scope| -> Result<Work<J, L>, WorkFault>
             requires seat { hands.seat.board ≡ crew.now.board.now.table }
             requires few { vec_len run_rows.written ≤ JOB_LIMIT }
-            requires kept { HasRowsOf L.DecisionLog crew.now.jobs.now crew.now.incarnation run_rows }
+            requires kept { HasRowsOf L.DecisionLog crew.now.jobs.now crew.now.incarnation
+                run_rows }
             ensures first { IfOk result (λ work. work.run_rows.first ≡ run_rows.first) }
             ensures kept { IfOk result (λ work.
                 HasRowsOf L.DecisionLog crew.entry.now.jobs.now

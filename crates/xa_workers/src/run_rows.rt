@@ -154,8 +154,10 @@ fn write_asked<J: Run, G: Gate, L: DecisionLog>(
     ensures len { vec_len run_rows.new.written ≡ vec_len run_rows.old.written }
     ensures kept { OnOk result (HasRowsOf L.DecisionLog crew.now.jobs.now
         crew.now.incarnation run_rows.new) }
-    ensures log { result ≡ Err WorkFault.Log → HasFailed L.moment run_rows.old.log run_rows.new.log }
-    ensures other { result ≢ Err WorkFault.Log → FailsNot L.moment run_rows.old.log run_rows.new.log }
+    ensures log { result ≡ Err WorkFault.Log →
+        HasFailed L.moment run_rows.old.log run_rows.new.log }
+    ensures other { result ≢ Err WorkFault.Log →
+        FailsNot L.moment run_rows.old.log run_rows.new.log }
 {
     if !crew.docket.is_asked() {
         return Ok(false);

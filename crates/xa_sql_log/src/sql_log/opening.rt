@@ -115,7 +115,8 @@ impl SqlLog<FileStore<FileFrom<Unknown>>> {
             IsOverFiles (image_at ⟦<Unknown as Start>⟧) log.conn) }
         ensures order { IfOk result (λ log. HoldsLog (image_at ⟦<Unknown as Start>⟧) →
             (⟦<SqlLog<FileStore<FileFrom<Unknown>>> as DecisionLog>⟧.moment log).is_in_order) }
-        ensures order_found { IfOk result (λ log. HoldsLogOrNothing (image_at ⟦<Unknown as Start>⟧) →
+        ensures order_found { IfOk result
+            (λ log. HoldsLogOrNothing (image_at ⟦<Unknown as Start>⟧) →
             (⟦<SqlLog<FileStore<FileFrom<Unknown>>> as DecisionLog>⟧.moment log).is_in_order) }
         ensures memory { path.now ≡ codes ":memory:" → IsErrAnd result IsStoreFault }
     {

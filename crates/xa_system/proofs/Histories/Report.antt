@@ -183,7 +183,8 @@ module _ {R L : Type 0} (see : Sees R (Slot L)) (moment : L → Moment) where
   abbrev IsWhole : SystemView R L → List Branch → ℕ → List (Xid × Fate) → Type 0
   IsWhole s xs i list = (length xs ≤ i) × (list ≡ map (reported (trace_in see.look s)) (take i xs))
 
-  whole : (a : Inside R L) (s : SystemView R L) → system_view_of a ≡ s → (xs bs : List Branch) (i : ℕ) (list : List (Xid × Fate)) → xs ≡ bs → IsWhole s xs i list
+  whole : (a : Inside R L) (s : SystemView R L) → system_view_of a ≡ s → (xs bs : List Branch) (i : ℕ) (list : List (Xid × Fate)) → xs ≡ bs
+      → IsWhole s xs i list
       → list ≡ map (reported (trace_of a)) bs
   whole a s view xs bs i list same all =
       all.1 ∙ ap (map (reported (trace_in see.look s))) (take_all xs i all.0 ∙ same) ∙ ap (λ v. map (reported (trace_in see.look v)) bs) (sym view)
@@ -199,7 +200,8 @@ module _ {R L : Type 0} (see : Sees R (Slot L)) (moment : L → Moment) where
   told_in_order a sound s view xs bs i list same is up all =
       subst (λ l. IsStrictlySortedBy xid_cmp (keys_of l)) (sym (whole a s view xs bs i list same all)) (in_order (trace_of a) bs (all_fit a sound bs is) up)
 
-  pub told : (a : Inside R L) → IsSound see moment a → (s : SystemView R L) → system_view_of a ≡ s → (xs bs : List Branch) (i : ℕ) (list : List (Xid × Fate)) → xs ≡ bs
+  pub told : (a : Inside R L) → IsSound see moment a → (s : SystemView R L) → system_view_of a ≡ s → (xs bs : List Branch) (i : ℕ) (list : List (Xid × Fate))
+      → xs ≡ bs
       → bs ≡ items (book_in a.parts.manager).known → IsWhole s xs i list → (x : Xid) (f : Fate) → Contains list (x, f) ↔ IsReported (trace_in see.look s) x f
   told a sound s view xs bs i list same is all x f =
       let are = whole a s view xs bs i list same all in (

@@ -116,7 +116,8 @@ module _ {R L : Type 0} (see : Sees R L) (threads : ℕ) (rms : List R) (manager
   held_elsewhere : (b : Branch) → IsElsewhere (origin_of see threads rms manager) b → held_of (origin_of see threads rms manager) b ≡ new_branch
   held_elsewhere b away = by_fit (fits b) refl
     where
-      from_option : (o : Option R) → slice_get rms b.rm ≡ o → IsBranch b → option_map_or (λ rm. (see.look rm).held) o (λ x. new_branch) (xid_of_branch b) ≡ new_branch
+      from_option : (o : Option R) → slice_get rms b.rm ≡ o → IsBranch b
+          → option_map_or (λ rm. (see.look rm).held) o (λ x. new_branch) (xid_of_branch b) ≡ new_branch
       from_option None at own = refl
       from_option (Some rm) at own = absurd (away (own, slice_get_within rms b.rm rm at))
 

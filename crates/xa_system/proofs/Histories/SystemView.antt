@@ -103,7 +103,8 @@ module _ {R L : Type 0} (see : Sees R (Slot L)) (moment : L → Moment) where
 
   -- what a crash may leave is tied with its incarnation, where that is one that a restart may follow
   near_left : (a : Inside R L) → IsSound see moment a → (moment a.handed.value).is_in_order → (see.moment (log_in a.parts.manager)).is_honest
-      → MayRestartAfterCrash (observes_parts see moment) (system_view_of a) → AreTied true (book_in a.parts.manager) (see.moment (log_in a.parts.manager)).may_leave
+      → MayRestartAfterCrash (observes_parts see moment) (system_view_of a)
+      → AreTied true (book_in a.parts.manager) (see.moment (log_in a.parts.manager)).may_leave
   near_left a sound order honest may c left =
       subst (λ k. IsTied true k (Some c)) (sym sound.stands.book)
       (restarts_near (history (start_of see moment a.parts) a.events.items) (Some c)
@@ -162,7 +163,8 @@ module _ {R L : Type 0} (see : Sees R (Slot L)) (moment : L → Moment) where
   pub as_before : (old : Inside R L) (new : Parts R (Slot L)) (events : Vec Event Global) (step : Step Xid) (reply : Reply Xid)
       → IsSound see moment old → GoesOn see step reply old.parts new → vec_len old.events < EVENT_LIMIT
       → (n : Refusal) → reply ≡ Replies.Refused n → n ≢ Refusals.LogFault
-      → IsAsBefore (observes_parts see moment) (system_view_of old) (system_view_of (record { first = old.first; handed = old.handed; parts = new; events = events }))
+      → IsAsBefore (observes_parts see moment) (system_view_of old)
+          (system_view_of (record { first = old.first; handed = old.handed; parts = new; events = events }))
   unfolding somewhere
   as_before old new events step reply sound goes few n is other =
       let here = somewhere old sound few in
@@ -239,7 +241,8 @@ module _ {R L : Type 0} (see : Sees R (Slot L)) (moment : L → Moment) where
       → vec_len old.events < EVENT_LIMIT → events.items ≡ old.events.items ++ record { step = step; reply = copy } ∷ []
       → (moment old.handed.value).is_in_order → (see.moment (log_in new.manager)).is_honest
       → MayRestart (observes_parts see moment) (system_view_of old)
-      → FaultsHaveCauses (observes_parts see moment) (system_view_of old) (system_view_of (record { first = old.first; handed = old.handed; parts = new; events = events }))
+      → FaultsHaveCauses (observes_parts see moment) (system_view_of old)
+          (system_view_of (record { first = old.first; handed = old.handed; parts = new; events = events }))
   unfolding somewhere
   fault_has_cause old new events step reply copy sound goes same few items order honest may =
       let here = somewhere old sound few in

@@ -234,7 +234,8 @@ module _ (tr : Trace) (limits : IsWithinLimits tr) (sound : IsSound (book_of (Fr
       begins_fit = let few = begins_few tr in let events = limits.events in omega (arith, few, events)
 
 -- one right happening more
-pub limits_kept : (tr : Trace) (e : Happening) → IsWithinLimits tr → Right tr e → happenings (Then tr e) ≤ most_events → FitsIncarnation e → IsWithinLimits (Then tr e)
+pub limits_kept : (tr : Trace) (e : Happening) → IsWithinLimits tr → Right tr e → happenings (Then tr e) ≤ most_events → FitsIncarnation e
+    → IsWithinLimits (Then tr e)
 limits_kept tr e limits right room fit = record {
   right = (limits.right, right);
   events = room;

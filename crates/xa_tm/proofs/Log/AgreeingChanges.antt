@@ -215,7 +215,8 @@ module _ (k n : Ledger) (c : Content) (reads : Reads n c) where
               kept None some = absurd (cc)
               kept (Some w) some = refl
 
-              own_among : (hs : List Gtrid) → has_gtrid hs q ≡ true → row_among (map own hs) q (get c.decisions q) ≡ Some (unwrap_or (row_at k.rows q) (from_list []))
+              own_among : (hs : List Gtrid) → has_gtrid hs q ≡ true
+                  → row_among (map own hs) q (get c.decisions q) ≡ Some (unwrap_or (row_at k.rows q) (from_list []))
               own_among [] e = absurd (cc)
               own_among (h ∷ hs) e = here (gtrid_eq h q) refl e (own_among hs)
                 where

@@ -248,14 +248,16 @@ module _ (k n : Ledger) (c : Content) (reads : Reads n c) where
   made_agrees (DropRows g v) is b h of s = or_right _ _ (with_change (DropRows g v) is (dropped g v b is h of s))
   made_agrees (AddRecord b how) is d h of s = by (contains_key d.heuristics b) refl s
     where
-      by : (t : Bool) → contains_key d.heuristics b ≡ t → SameRowsAndRecords c (if t then d else with_heuristic b how d) → (agrees false k n || agrees true k n) ≡ true
+      by : (t : Bool) → contains_key d.heuristics b ≡ t → SameRowsAndRecords c (if t then d else with_heuristic b how d)
+          → (agrees false k n || agrees true k n) ≡ true
       by true has s = or_left _ _ (as_before (held_as d s h))
       by false lacks s = or_right _ _ (with_change (AddRecord b how) is (noted b how d is h lacks s.decisions s.heuristics))
 
   pub may_agree : MayHold (as_book k) c → (agrees false k n || agrees true k n) ≡ true
   may_agree may = by may.2
     where
-      by : SameRowsAndRecords c may.0 ⊎ (IsChangeOf (row_at k.rows) (doubt_of_change k.doubt) × SameRowsAndRecords c (changed_by (doubt_of_change k.doubt) may.0)) → (agrees false k n || agrees true k n) ≡ true
+      by : SameRowsAndRecords c may.0 ⊎ (IsChangeOf (row_at k.rows) (doubt_of_change k.doubt)
+          × SameRowsAndRecords c (changed_by (doubt_of_change k.doubt) may.0)) → (agrees false k n || agrees true k n) ≡ true
       by (inl s) = or_left _ _ (as_before (held_as may.0 s may.1))
       by (inr s) = made_agrees k.doubt refl may.0 may.1 s.0 s.1
 

@@ -55,13 +55,15 @@ is_found k i d h old down f tied = go old f (subst (λ u. TiedBy u true k old) d
         b : Content
         b = t.holds.0
 
-        rows_by : SameRowsAndRecords c b ⊎ (IsChangeOf k.row k.doubt × SameRowsAndRecords c (changed_by k.doubt b)) → (d ≡ k.rows) ⊎ (d ≡ rows_of k.doubt k.rows)
+        rows_by : SameRowsAndRecords c b ⊎ (IsChangeOf k.row k.doubt × SameRowsAndRecords c (changed_by k.doubt b))
+            → (d ≡ k.rows) ⊎ (d ≡ rows_of k.doubt k.rows)
         rows_by (inl s) = inl (f.rows ∙ ap len s.decisions ∙ t.holds.1.row_number)
         rows_by (inr s) =
             inr (f.rows ∙ ap len s.1.decisions ∙ changed_len k.doubt b (of_same k.row (λ g. get b.decisions g) k.doubt t.holds.1.rows s.0)
             ∙ ap (rows_of k.doubt) t.holds.1.row_number)
 
-        records_by : SameRowsAndRecords c b ⊎ (IsChangeOf k.row k.doubt × SameRowsAndRecords c (changed_by k.doubt b)) → (h ≡ k.records) ⊎ (h ≡ records_with k k.doubt k.records)
+        records_by : SameRowsAndRecords c b ⊎ (IsChangeOf k.row k.doubt × SameRowsAndRecords c (changed_by k.doubt b))
+            → (h ≡ k.records) ⊎ (h ≡ records_with k k.doubt k.records)
         records_by (inl s) = inl (f.records ∙ ap len s.heuristics ∙ t.holds.1.record_number)
         records_by (inr s) = numbers_records k b k.doubt h t.holds.1.records t.holds.1.record_number (f.records ∙ ap len s.1.heuristics)
 

@@ -26,7 +26,8 @@ left_while_up near k log may up tied holds d left = by log (up_content near k lo
     })
 
 pub left_by_a_fault : (near : Bool) (k : Book) (asked : Doubt) (f : Fault) (log : Option Content) (old new : Content → Type 0) → k.up ≡ true
-    → IsChangeOf k.row asked → failed_restarts_after (Failed f) k.failed_restarts ≡ k.failed_restarts → IsTied near k log → ((c d : Content) → log ≡ Some c → old d → d ≡ c)
+    → IsChangeOf k.row asked → failed_restarts_after (Failed f) k.failed_restarts ≡ k.failed_restarts → IsTied near k log
+    → ((c d : Content) → log ≡ Some c → old d → d ≡ c)
     → LeavesAlso (changed_by asked) log old new → LeavesTied near (book_after k asked (Failed f)) new
 left_by_a_fault near k asked f log old new up of same tied holds leaves d left = by log tied holds (leaves d left)
   where

@@ -198,7 +198,8 @@ module _ (past : Trace) (o : Origin) (c : Content) (new : IsNewTo (log past) (do
   record_number : length o.heuristic_rows ≡ length (heuristic_rows (resumed past o))
   record_number = by (length o.heuristic_rows == length (heuristic_rows past)) refl left.2
     where
-      by : (t : Bool) → (length o.heuristic_rows == length (heuristic_rows past)) ≡ t → SameRowsAndRecords c left.0 ⊎ SameRowsAndRecords c (after_change (doubt past) left.0)
+      by : (t : Bool) → (length o.heuristic_rows == length (heuristic_rows past)) ≡ t
+          → SameRowsAndRecords c left.0 ⊎ SameRowsAndRecords c (after_change (doubt past) left.0)
           → length o.heuristic_rows ≡ length (if t then heuristic_rows past else heuristics_changed (doubt past) (heuristic_rows past))
       by true e s = eqb-true _ _ e
       by false e (inl s) = absurd (true≢false (sym (eq-eqb _ _ (sym over.rows.record_number ∙ ap len s.heuristics ∙ left.1.record_number)) ∙ e))

@@ -47,7 +47,8 @@ may_hold_same k l c s h = (h.0, holds_same k l h.0 s h.1, by h.2)
     by : SameRowsAndRecords c h.0 ⊎ (IsChangeOf k.row k.doubt × SameRowsAndRecords c (changed_by k.doubt h.0))
         → SameRowsAndRecords c h.0 ⊎ (IsChangeOf l.row l.doubt × SameRowsAndRecords c (changed_by l.doubt h.0))
     by (inl same) = inl same
-    by (inr made) = inr (subst (λ d. IsChangeOf l.row d × SameRowsAndRecords c (changed_by d h.0)) (sym s.doubt) (of_same k.row l.row k.doubt s.row made.0, made.1))
+    by (inr made) = inr (subst (λ d. IsChangeOf l.row d × SameRowsAndRecords c (changed_by d h.0)) (sym s.doubt)
+        (of_same k.row l.row k.doubt s.row made.0, made.1))
 
 down_same : (near : Bool) (k l : Book) (c : Content) → SameOfLog k l → IsTiedDown near k c → IsTiedDown near l c
 down_same near k l c s t = record {

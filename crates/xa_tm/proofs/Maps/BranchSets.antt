@@ -35,7 +35,8 @@ pub sets_are : (bs cs : List Branch) → same_branches bs cs ≡ true → from_l
 sets_are bs cs e =
     let parts = and_parts _ _ e in
     same_set branches_total exact_branches (from_list bs) (from_list cs) (λ q. among_is q bs
-    ∙ both_ways (is_branch_among q bs) (is_branch_among q cs) (at_one (λ b. is_branch_among b cs) q bs parts.0) (at_one (λ c. is_branch_among c bs) q cs parts.1)
+    ∙ both_ways (is_branch_among q bs) (is_branch_among q cs) (at_one (λ b. is_branch_among b cs) q bs parts.0)
+    (at_one (λ c. is_branch_among c bs) q cs parts.1)
     ∙ sym (among_is q cs))
 
 pub sets_back : (bs cs : List Branch) → from_list {R = branch_cmp} bs ≡ from_list cs → same_branches bs cs ≡ true

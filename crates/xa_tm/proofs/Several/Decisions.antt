@@ -99,7 +99,8 @@ all_decided Outcomes.Commit k (g ∷ gs) =
 all_decided Outcomes.Rollback k (g ∷ gs) =
     all_decided Outcomes.Rollback (after k (Decided g Outcomes.Rollback)) gs
     ∙ book_is _ _ refl refl refl refl refl refl refl
-    (λ q. decided_by_any (after k (Decided g Outcomes.Rollback)) k Outcomes.Rollback gs q (transaction_after k (Decided g Outcomes.Rollback) q (k.transaction q)))
+    (λ q. decided_by_any (after k (Decided g Outcomes.Rollback)) k Outcomes.Rollback gs q
+    (transaction_after k (Decided g Outcomes.Rollback) q (k.transaction q)))
     (λ b. refl) refl (λ r. refl) (λ q. refl) refl (λ b. refl) refl refl
 
 -- the steps of decisions in the room that was made

@@ -6,7 +6,8 @@ use Rattle.xa_log.proofs.commands.run_one.Goals as goal
 
 pub returns-in_ok-commit-in-Commit-clause-told : goal.returns-in_ok-commit-in-Commit-clause-told
 returns-in_ok-commit-in-Commit-clause-told g c order honest =
-    some_and _ _ _ (λ content is. subst (λ call. AnswersCommand content call (told.Logged c.in_ok-commit-in-Commit.field-0)) (sym c.in-Commit.is) (ap told.Logged is))
+    some_and _ _ _ (λ content is. subst (λ call. AnswersCommand content call (told.Logged c.in_ok-commit-in-Commit.field-0)) (sym c.in-Commit.is)
+    (ap told.Logged is))
     (c.in_ok-commit-in-Commit.ensures.answer order honest)
 
 pub returns-in_ok-contains-in-Contains-clause-told : goal.returns-in_ok-contains-in-Contains-clause-told
@@ -31,7 +32,8 @@ returns-in_ok-bump-in-Bump-clause-told g c order honest =
 
 pub returns-in_ok-participants-in-Participants-clause-told : goal.returns-in_ok-participants-in-Participants-clause-told
 returns-in_ok-participants-in-Participants-clause-told g c order honest =
-    some_and _ _ _ (λ content is. subst (λ call. AnswersCommand content call (told.Waiting c.in_ok-participants-in-Participants.field-0)) (sym c.in-Participants.is) is)
+    some_and _ _ _ (λ content is. subst (λ call. AnswersCommand content call (told.Waiting c.in_ok-participants-in-Participants.field-0))
+    (sym c.in-Participants.is) is)
     (c.in_ok-participants-in-Participants.ensures.answer order honest)
 
 pub returns-in_ok-note_heuristic-in-NoteHeuristic-clause-told : goal.returns-in_ok-note_heuristic-in-NoteHeuristic-clause-told

@@ -62,7 +62,8 @@ invariant_of-self g c =
     let gs = c.args.gtrids.now in
     let call = c.decide_all-reply in
     record {
-      sized = sized_by_call s call.new.self (decide_refusal c.args.outcome k gs) (rows_added c.args.outcome k gs) (InDecide (written_by c.args.outcome k gs)) (map (λ g. Decided g c.args.outcome) gs) call.result call.ensures.refused
+      sized = sized_by_call s call.new.self (decide_refusal c.args.outcome k gs) (rows_added c.args.outcome k gs) (InDecide (written_by c.args.outcome k gs))
+          (map (λ g. Decided g c.args.outcome) gs) call.result call.ensures.refused
           call.ensures.ok call.ensures.err;
     }
 
@@ -85,12 +86,15 @@ returns-clause-decides g c =
     let monitor = c.conclude.ensures.monitor in
     let refused = call.ensures.refused in
     record {
-      rules = concluded_obeys s new call.new.self (length gs) why session_why call.result _ is done same monitor refused (no_fault_in_turn (λ g. Steps.Decide g c.args.outcome) (λ g. Decided g c.args.outcome) gs k) call.ensures.allowed;
-      asks = concluded_asks s new call.new.self (length gs) why session_why call.result _ is done same monitor refused (rows_added c.args.outcome k gs) (InDecide (written_by c.args.outcome k gs)) call.ensures.err
+      rules = concluded_obeys s new call.new.self (length gs) why session_why call.result _ is done same monitor refused
+          (no_fault_in_turn (λ g. Steps.Decide g c.args.outcome) (λ g. Decided g c.args.outcome) gs k) call.ensures.allowed;
+      asks = concluded_asks s new call.new.self (length gs) why session_why call.result _ is done same monitor refused (rows_added c.args.outcome k gs)
+          (InDecide (written_by c.args.outcome k gs)) call.ensures.err
           call.ensures.kept;
       decided = concluded_happens s new call.new.self (map (λ g. Decided g c.args.outcome) gs) call.result _ c.conclude.ensures.manager same call.ensures.ok
           (follows_if_ok s c.conclude.new.self (decide_refusal c.args.outcome (book_in s.manager) gs)
           (map (λ g. Decided g c.args.outcome) gs) c.decide_all-reply.new.self c.decide_all-reply.result _ (length gs)
-          (sym (length-map gs (λ g. Decided g c.args.outcome))) c.conclude.ensures.happenings c.conclude.ensures.value c.conclude.ensures.manager c.conclude.ensures.lines c.decide_all-reply.ensures.allowed c.decide_all-reply.ensures.ok c.conclude.ensures.monitor
+          (sym (length-map gs (λ g. Decided g c.args.outcome))) c.conclude.ensures.happenings c.conclude.ensures.value c.conclude.ensures.manager
+              c.conclude.ensures.lines c.decide_all-reply.ensures.allowed c.decide_all-reply.ensures.ok c.conclude.ensures.monitor
           (decisions_lead s c.conclude.new.self c.args.outcome gs));
     }

@@ -83,12 +83,14 @@ returns-clause-finishes g c =
     let monitor = c.conclude.ensures.monitor in
     let refused = call.ensures.refused in
     record {
-      rules = concluded_obeys s new call.new.self (length gs) why session_why call.result _ is done same monitor refused (no_fault_in_turn (λ g. Steps.Done g) (λ g. Done g) gs k) call.ensures.allowed;
+      rules = concluded_obeys s new call.new.self (length gs) why session_why call.result _ is done same monitor refused
+          (no_fault_in_turn (λ g. Steps.Done g) (λ g. Done g) gs k) call.ensures.allowed;
       asks = concluded_asks s new call.new.self (length gs) why session_why call.result _ is done same monitor refused (Drops gs) (InDone gs) call.ensures.err
           call.ensures.kept;
       done = concluded_happens s new call.new.self (map (λ g. Done g) gs) call.result _ c.conclude.ensures.manager same call.ensures.ok
           (follows_if_ok s c.conclude.new.self (done_refusal (book_in s.manager) gs)
           (map (λ g. Done g) gs) c.done_all-reply.new.self c.done_all-reply.result _ (length gs)
-          (sym (length-map gs (λ g. Done g))) c.conclude.ensures.happenings c.conclude.ensures.value c.conclude.ensures.manager c.conclude.ensures.lines c.done_all-reply.ensures.allowed c.done_all-reply.ensures.ok c.conclude.ensures.monitor
+          (sym (length-map gs (λ g. Done g))) c.conclude.ensures.happenings c.conclude.ensures.value c.conclude.ensures.manager c.conclude.ensures.lines
+              c.done_all-reply.ensures.allowed c.done_all-reply.ensures.ok c.conclude.ensures.monitor
           (done_lead s c.conclude.new.self gs));
     }

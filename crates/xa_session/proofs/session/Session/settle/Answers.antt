@@ -58,7 +58,9 @@ invariant_of-self g c =
     let s = c.args.self.now in
     let call = c.settle-reply in
     record {
-      sized = sized_by_call s call.new.self (refusal_in (book_in s.manager) (Steps.Settle c.args.gtrid)) (Adds (rows_for (book_in s.manager) (c.args.gtrid ∷ []))) (InDecide (c.args.gtrid ∷ [])) (Decided c.args.gtrid Outcomes.Commit ∷ []) call.result call.ensures.refused
+      sized = sized_by_call s call.new.self (refusal_in (book_in s.manager) (Steps.Settle c.args.gtrid))
+          (Adds (rows_for (book_in s.manager) (c.args.gtrid ∷ []))) (InDecide (c.args.gtrid ∷ [])) (Decided c.args.gtrid Outcomes.Commit ∷ []) call.result
+          call.ensures.refused
           call.ensures.ok call.ensures.err;
     }
 
@@ -80,13 +82,16 @@ returns-clause-settles g c =
     let monitor = c.conclude.ensures.monitor in
     let refused = call.ensures.refused in
     record {
-      rules = concluded_obeys s new call.new.self 1 why session_why call.result _ is done same monitor refused (no_fault (book_in s.manager) (Steps.Settle c.args.gtrid)) call.ensures.allowed;
-      asks = concluded_asks s new call.new.self 1 why session_why call.result _ is done same monitor refused (Adds (rows_for (book_in s.manager) (c.args.gtrid ∷ []))) (InDecide (c.args.gtrid ∷ [])) call.ensures.err
+      rules = concluded_obeys s new call.new.self 1 why session_why call.result _ is done same monitor refused
+          (no_fault (book_in s.manager) (Steps.Settle c.args.gtrid)) call.ensures.allowed;
+      asks = concluded_asks s new call.new.self 1 why session_why call.result _ is done same monitor refused
+          (Adds (rows_for (book_in s.manager) (c.args.gtrid ∷ []))) (InDecide (c.args.gtrid ∷ [])) call.ensures.err
           call.ensures.kept;
       asked = λ none fault. call.ensures.asked (sym is ∙ none) (sym c.conclude.ensures.value ∙ fault);
       decided = concluded_happens s new call.new.self (Decided c.args.gtrid Outcomes.Commit ∷ []) call.result _ c.conclude.ensures.manager same call.ensures.ok
           (follows_if_ok s c.conclude.new.self (refusal_in (book_in s.manager) (Steps.Settle c.args.gtrid))
           (Decided c.args.gtrid Outcomes.Commit ∷ []) c.settle-reply.new.self c.settle-reply.result _ 1 refl
-          c.conclude.ensures.happenings c.conclude.ensures.value c.conclude.ensures.manager c.conclude.ensures.lines c.settle-reply.ensures.allowed c.settle-reply.ensures.ok c.conclude.ensures.monitor
+          c.conclude.ensures.happenings c.conclude.ensures.value c.conclude.ensures.manager c.conclude.ensures.lines c.settle-reply.ensures.allowed
+              c.settle-reply.ensures.ok c.conclude.ensures.monitor
           (settled_follows s c.conclude.new.self c.args.gtrid));
     }

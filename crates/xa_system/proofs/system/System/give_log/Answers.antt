@@ -28,7 +28,8 @@ returns-clause-back g c =
       other = λ is order honest content held may.
           gave.other is order honest content held
           (subst (λ k. MayHold k content) (sym c.self.invariant.stands.book)
-          (rows_may_hold tr content (doubt_is_new_to tr c.self.invariant.stands.kept.run) (subst (λ v. MayHoldRows (trace_in see.look v) content) (sym c.self.view_is) may)));
+          (rows_may_hold tr content (doubt_is_new_to tr c.self.invariant.stands.kept.run)
+              (subst (λ v. MayHoldRows (trace_in see.look v) content) (sym c.self.view_is) may)));
     }) c.give_log-given.ensures.back
 
 pub invariant_of-self : goal.invariant_of-self

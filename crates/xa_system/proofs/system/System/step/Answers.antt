@@ -92,7 +92,8 @@ returns-clause-failed g c is =
     let see = observes g.R.ResourceManager.look g.L.DecisionLog.moment in
     let told = sym (ap (λ p. p.0) c.split-reply.ensures) ∙ is in
     record {
-      down = down_after _ _ c.self.inside c.step.new.self c.push_reserved.new.self c.args.step c.step.result c.split-reply.result.1 c.self.invariant c.step.ensures.goes
+      down = down_after _ _ c.self.inside c.step.new.self c.push_reserved.new.self c.args.step c.step.result c.split-reply.result.1 c.self.invariant
+          c.step.ensures.goes
           (ap (λ p. p.1) c.split-reply.ensures) (rw c.len.ensures at c.if-len-ge-EVENT_LIMIT.false) c.push_reserved.ensures.items told;
       left = subst (λ v. (see.moment v.handed).is_in_order → (see.place (log_in c.step.new.self.manager)).is_honest
           → MayHaveFailed (trace_in see.look v) (log_failed (step_of c.args.step)) (see.place v.log).content
@@ -120,7 +121,8 @@ returns-clause-no_restart g c is few down =
     subst IsFailed (sym same) (not_restarted then c.step.result as_restart was_down
     (λ i d h restarted. subst (λ v. IsBeforeNext (trace_in see.look v) holds.content → ⊥) (sym c.self.view_is) holds.other
     (followed then c.step.result as_restart i d h restarted holds.content
-    (found_in (see.place (log_in c.self.inside.parts.manager)).content holds.content i d h held ((c.step.ensures.read i d h is restarted).found in_order holds.honest))))))
+    (found_in (see.place (log_in c.self.inside.parts.manager)).content holds.content i d h held
+        ((c.step.ensures.read i d h is restarted).found in_order holds.honest))))))
 
 pub returns-then-len-ge-EVENT_LIMIT-clause-log :
     goal.returns-then-len-ge-EVENT_LIMIT-clause-log

@@ -33,5 +33,6 @@ write_decisions-requires-clause-all g c =
 
 pub returns : goal.returns
 returns g c =
-    subst (λ k. Concludes g.L.DecisionLog.moment c.args.outcome c.args.gtrids.now k (log_in c.args.self.now) c.write_decisions.new.self c.write_decisions.result)
+    subst (λ k. Concludes g.L.DecisionLog.moment c.args.outcome c.args.gtrids.now k (log_in c.args.self.now) c.write_decisions.new.self
+    c.write_decisions.result)
     c.prepare_decisions.ensures.book c.write_decisions.ensures

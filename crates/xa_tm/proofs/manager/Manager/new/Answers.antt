@@ -101,7 +101,8 @@ returns-in_err-ledger-clause-memory_fault g c = λ is. (
 )
 
 pub returns-in_err-incarnation-clause-log_fault : goal.returns-in_err-incarnation-clause-log_fault
-returns-in_err-incarnation-clause-log_fault g c = λ is. (c.bump.new.self, inl (c.in_err-incarnation.ensures.changes.faults ∙ ap one_more_fault c.in_ok-rows.ensures.reads.faults))
+returns-in_err-incarnation-clause-log_fault g c =
+    λ is. (c.bump.new.self, inl (c.in_err-incarnation.ensures.changes.faults ∙ ap one_more_fault c.in_ok-rows.ensures.reads.faults))
 
 pub returns-else-can_start-clause-log_fault : goal.returns-else-can_start-clause-log_fault
 returns-else-can_start-clause-log_fault g c = λ is.

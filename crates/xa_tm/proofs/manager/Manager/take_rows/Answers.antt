@@ -22,7 +22,8 @@ returns-in-Ok-clause-tied g c = λ near order honest tied.
 
 pub returns-in-Ok-clause-asks : goal.returns-in-Ok-clause-asks
 returns-in-Ok-clause-asks g c =
-    asks_made (g.L.DecisionLog.moment c.args.self.now.log) (g.L.DecisionLog.moment c.drop_rows.new.log) (without_decisions c.args.gtrids.now) _ tt c.in-Ok.ensures
+    asks_made (g.L.DecisionLog.moment c.args.self.now.log) (g.L.DecisionLog.moment c.drop_rows.new.log) (without_decisions c.args.gtrids.now) _ tt
+    c.in-Ok.ensures
 
 pub returns-in-Err-clause-err : goal.returns-in-Err-clause-err
 returns-in-Err-clause-err g c = (

@@ -67,7 +67,8 @@ returns-in-Ok g c =
       asked = λ is. absurd (cc);
       tied = λ near order honest tied.
           subst (λ b. IsTied near b new.content) (sym c.note_decisions-in-Ok.ensures)
-          (decided_written near k o gs old.content new.content (written_up k o gs c.requires.open some) (written_new k o gs c.requires.sound.no_row c.requires.open)
+          (decided_written near k o gs old.content new.content (written_up k o gs c.requires.open some)
+          (written_new k o gs c.requires.sound.no_row c.requires.open)
           (subst (λ (f : Content → Content). Makes f old.content new.content) change (c.in-Ok.ensures.ok order honest)) tied);
       kept = tt;
       without_row = λ none. absurd (some none);
