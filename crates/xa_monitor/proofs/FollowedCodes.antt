@@ -15,7 +15,7 @@ use Rattle.xa_monitor.specs.Monitor.{CanExplain, IsSomewhere, LeadsExactly, know
 use Rattle.xa_monitor.specs.Standings.{ExplainsAsked}
 use Rattle.xa_monitor.specs.States.{LeadsInto, LeadsOnto, MovesAsAsked, has}
 use Rattle.xa_monitor.specs.declared.states.States.{States}
-use Rattle.xa_monitor.proofs.CallBranches.{Asks, asked, one_leads, asked_here, takes_here, takes_away, stays_away, same_lead}
+use Rattle.xa_monitor.proofs.CallBranches.{Asks, Asks.OnBranch, Asks.OnNone, asked, one_leads, asked_here, takes_here, takes_away, stays_away, same_lead}
 
 takes_lead : (k : Kind) (b : Branch) (x : Xid) (a : Code) (before after : Branch → States) (states : States)
     → LeadsInto (before b) (MovesAsAsked (Some (k, x)) a) states → LeadsOnto (before b) (MovesAsAsked (Some (k, x)) a) states

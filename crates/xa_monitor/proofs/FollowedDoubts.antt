@@ -13,7 +13,7 @@ use Rattle.xa_monitor.specs.Monitor.{LeadsExactly, known}
 use Rattle.xa_monitor.specs.Standings.{ExplainsAsked, MayBeDone}
 use Rattle.xa_monitor.specs.States.{AskedOrNot, LeadsInto, LeadsOnto}
 use Rattle.xa_monitor.specs.declared.states.States.{States}
-use Rattle.xa_monitor.proofs.CallBranches.{Asks, asked, one_leads, asked_here, takes_here, takes_away, same_lead}
+use Rattle.xa_monitor.proofs.CallBranches.{Asks, Asks.OnBranch, Asks.OnNone, asked, one_leads, asked_here, takes_here, takes_away, same_lead}
 
 abbrev DoneOr : Option (Kind × Branch) → Branch → Standing → Standing → Type 0
 DoneOr asks q f g = (g ≡ f) ⊎ ((a : Code) × ExplainsAsked asks a q f g)

@@ -31,7 +31,7 @@ module _ {A : Type 0} (named : Word → Option A) where
   goes_on front first words i d all within names so_far =
       let others = each_named named (texts (drop (i + 1) words)) in
       let step : each_named named ((get_or words i d).now ∷ texts (drop (i + 1) words)) ≡ option_and_then (λ more. Some (first ∷ more)) others =
-          rw names refl in
+      rw names refl in
       sym (front_more front first others) ∙ ap (with_front front) (sym step) ∙ sym (ap (with_front front) (at_word words i d within)) ∙ so_far
 
   pub stops : (front : List A) (words : List (Bor (List ℕ))) (i : ℕ) (d : Bor (List ℕ)) (all : Option (List A))

@@ -91,7 +91,7 @@ each_is [] = All-nil IsXid
 each_is (word ∷ words) =
     if_then IsXid (All IsXid) (xid_named word) _ (named_is word)
     (λ x is. if_then (All IsXid) (All IsXid) (each_named xid_named words) (λ others. Some (x ∷ others)) (each_is words)
-        (λ others are. All-cons IsXid x others is are))
+    (λ others are. All-cons IsXid x others is are))
 
 -- ** calls
 

@@ -168,7 +168,7 @@ recovery_rule s r n =
     (if is_over s then Some Limit
     else refusal_by (grid_has_line s.lines 0 r)
     ((ManagerDown, not up) ∷ (RmDown, not true) ∷ (NotOpen, not (opened_of_known (calls_issued at) i)) ∷ (Closed, closed_of_known (calls_issued at) i)
-        ∷ (Full, full) ∷ [])))
+    ∷ (Full, full) ∷ [])))
     ∙ by (awaits_page at) (is_over s) (grid_has_line s.lines 0 r) up (has_opened (calls_issued at)) (has_closed (calls_issued at)) full
     ∙ ap (λ o. option_or o (recovery_bar at n)) (sym (line_rule s 0 r))
   where

@@ -114,10 +114,10 @@ call_waits s tr t r n stands has there =
     let here = stands.lines t r has in
     let gone : length (facts.taken tr l) ≡ length (calls_taken at) =
     sym (same_length known_answered (answered at) (facts.taken tr l) here.all_answered)
-        ∙ sym (ap length here.each_answered ∙ length-map (answered at) (λ p. p.0)) in
+    ∙ sym (ap length here.each_answered ∙ length-map (answered at) (λ p. p.0)) in
     let same : option_map known_call (slice_get at.calls.waiting n) ≡ option_map Some (waiting_call_at tr l n) =
     ap (option_map known_call) (sym (get_behind (calls_taken at) at.calls.waiting n))
-        ∙ sym (slice_get-map known_call (calls_issued at) (length (calls_taken at) + n))
+    ∙ sym (slice_get-map known_call (calls_issued at) (length (calls_taken at) + n))
     ∙ ap (λ m. slice_get (map known_call (calls_issued at)) (m + n)) (sym gone) ∙ ap (λ zs. slice_get zs (length (facts.taken tr l) + n)) here.all_issued
     ∙ slice_get-map Some (facts.issued tr l) (length (facts.taken tr l) + n) in
     known_first known_call (slice_get at.calls.waiting n) (waiting_call_at tr l n) same

@@ -201,7 +201,7 @@ module _ {R L : Type 0} (see : Sees R L) (threads : ℕ) (rms : List R) (manager
     where
       from_option : (o : Option R) → slice_get rms r ≡ o
           → broken (option_map_or (λ rm. (see.look rm).held) o (λ y. new_branch) x).standing
-              ≡ (option_map_or (λ rm. (see.look rm).held) o (λ y. new_branch) x).standing
+          ≡ (option_map_or (λ rm. (see.look rm).held) o (λ y. new_branch) x).standing
       from_option None at = refl
       from_option (Some rm) at = still r rm at x
 

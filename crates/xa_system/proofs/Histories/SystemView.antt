@@ -164,7 +164,7 @@ module _ {R L : Type 0} (see : Sees R (Slot L)) (moment : L → Moment) where
       → IsSound see moment old → GoesOn see step reply old.parts new → vec_len old.events < EVENT_LIMIT
       → (n : Refusal) → reply ≡ Replies.Refused n → n ≢ Refusals.LogFault
       → IsAsBefore (observes_parts see moment) (system_view_of old)
-          (system_view_of (record { first = old.first; handed = old.handed; parts = new; events = events }))
+      (system_view_of (record { first = old.first; handed = old.handed; parts = new; events = events }))
   unfolding somewhere
   as_before old new events step reply sound goes few n is other =
       let here = somewhere old sound few in
@@ -242,7 +242,7 @@ module _ {R L : Type 0} (see : Sees R (Slot L)) (moment : L → Moment) where
       → (moment old.handed.value).is_in_order → (see.moment (log_in new.manager)).is_honest
       → MayRestart (observes_parts see moment) (system_view_of old)
       → FaultsHaveCauses (observes_parts see moment) (system_view_of old)
-          (system_view_of (record { first = old.first; handed = old.handed; parts = new; events = events }))
+      (system_view_of (record { first = old.first; handed = old.handed; parts = new; events = events }))
   unfolding somewhere
   fault_has_cause old new events step reply copy sound goes same few items order honest may =
       let here = somewhere old sound few in

@@ -265,7 +265,7 @@ module _ {R L : Type 0} (see : Sees R L) where
       let here = line_at parts.lines 0 r in
       recovery_found tr parts r n site stands within at
       ∙ (λ i. recovery_why true (up i) (site_up i) (not (has_opened (calls_issued here))) (has_closed (calls_issued here))
-          (nat_lt 64 (length here.calls.waiting + n)))
+      (nat_lt 64 (length here.calls.waiting + n)))
       ∙ line_says (not (has_opened (calls_issued here))) (has_closed (calls_issued here)) (nat_lt 64 (length here.calls.waiting + n))
 
   -- ** a recovery that nothing hinders

@@ -78,7 +78,7 @@ returns-in-Ok-hear-clause-keeps g c =
     let knows = (hearable (map_call name_of c.copy-call.result) a (sym c.can_hear.ensures ∙ c.if-not-can_hear.false)).known in
     let e = c.in-Ok-hear.ensures in
     heard_keeps g.L.DecisionLog.moment (line t r) knows.0 a s.manager c.hear.new.self
-        (λ log b d order is left. g.met.L.DecisionLog.durable log b d order is left)
+    (λ log b d order is left. g.met.L.DecisionLog.durable log b d order is left)
     may.up (e.asks knows.0 knows.1) e.tied (e.ok knows.0 knows.1)
 
 pub returns-in-Err-clause-keeps : goal.returns-in-Err-clause-keeps
@@ -135,7 +135,7 @@ returns-in-Some-unexplained-clause-hears g c =
           let may = may_tell s t r (sym c.in_ok-check_line.ensures) in
           let same : c.in-Some-unexplained.b ≡ b = cc in
           let knows = (hearable (map_call name_of c.copy-call.result) (map_answer name_of c.args.answer)
-              (sym c.can_hear.ensures ∙ c.if-not-can_hear.false)).known in
+          (sym c.can_hear.ensures ∙ c.if-not-can_hear.false)).known in
           let waits : slice_get (line_at s.lines t r).calls.waiting 0 ≡ Some c.copy-call.result =
           ap (λ (l : Traffic). slice_get l.calls.waiting 0) (sym c.line.ensures.value) ∙ sym c.front.ensures ∙ ap option_copied c.in-Some.is
           ∙ ap (λ k. Some k) (sym c.copy-call.ensures)
@@ -295,14 +295,14 @@ returns-in-Err-clause-hears g c =
           let r = c.args.rm in
           let may = may_tell s t r (sym c.in_ok-check_line.ensures) in
           let knows = (hearable (map_call name_of c.copy-call.result) (map_answer name_of c.args.answer)
-              (sym c.can_hear.ensures ∙ c.if-not-can_hear.false)).known in
+          (sym c.can_hear.ensures ∙ c.if-not-can_hear.false)).known in
           let fault : c.in-Err.refusal ≢ LogFault = λ e. not (ap (λ n. Refused n) e) in
           let same : SaysTheSame s.monitor c.conclude.new.self.monitor =
           λ b. ap (λ m. states_of m b) c.conclude.ensures.monitor ∙ c.drop_room.ensures.same b ∙ c.make_room.ensures.same b in
           kept_stays s c.conclude.new.self c.hear.new.self 1 c.in-Err.refusal
           (record { manager = c.conclude.ensures.manager; lines = c.conclude.ensures.lines; happenings = c.conclude.ensures.happenings }) same
           (book_kept s c.conclude.new.self c.hear.new.self 1 (doubt_of (record_of knows.0 (map_answer name_of c.args.answer))) (InHear (line t r))
-              c.in-Err.refusal
+          c.in-Err.refusal
           (c.in-Err.ensures.err may.up knows.0 knows.1) fault)
           (c.in-Err.ensures.kept fault) fault;
       broken = λ e.

@@ -57,8 +57,11 @@ returns-in-Ok-clause-begins g c =
       next = c.in-Ok.ensures.value;
       begun = record {
         book = c.in-Ok.ensures.ok;
-        follows = record { leads = begun_follows s _ c.args.thread c.in-Ok.gtrid c.in-Ok.ensures.allowed c.in-Ok.ensures.value c.in-Ok.ensures.ok refl;
-            counted = refl; states = λ b. refl };
+        follows = record {
+          leads = begun_follows s _ c.args.thread c.in-Ok.gtrid c.in-Ok.ensures.allowed c.in-Ok.ensures.value c.in-Ok.ensures.ok refl;
+          counted = refl;
+          states = λ b. refl;
+        };
       };
     }
 

@@ -95,6 +95,6 @@ returns-clause-decides g c =
           (follows_if_ok s c.conclude.new.self (decide_refusal c.args.outcome (book_in s.manager) gs)
           (map (λ g. Decided g c.args.outcome) gs) c.decide_all-reply.new.self c.decide_all-reply.result _ (length gs)
           (sym (length-map gs (λ g. Decided g c.args.outcome))) c.conclude.ensures.happenings c.conclude.ensures.value c.conclude.ensures.manager
-              c.conclude.ensures.lines c.decide_all-reply.ensures.allowed c.decide_all-reply.ensures.ok c.conclude.ensures.monitor
+          c.conclude.ensures.lines c.decide_all-reply.ensures.allowed c.decide_all-reply.ensures.ok c.conclude.ensures.monitor
           (decisions_lead s c.conclude.new.self c.args.outcome gs));
     }

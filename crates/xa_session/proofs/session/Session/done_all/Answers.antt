@@ -91,6 +91,6 @@ returns-clause-finishes g c =
           (follows_if_ok s c.conclude.new.self (done_refusal (book_in s.manager) gs)
           (map (λ g. Done g) gs) c.done_all-reply.new.self c.done_all-reply.result _ (length gs)
           (sym (length-map gs (λ g. Done g))) c.conclude.ensures.happenings c.conclude.ensures.value c.conclude.ensures.manager c.conclude.ensures.lines
-              c.done_all-reply.ensures.allowed c.done_all-reply.ensures.ok c.conclude.ensures.monitor
+          c.done_all-reply.ensures.allowed c.done_all-reply.ensures.ok c.conclude.ensures.monitor
           (done_lead s c.conclude.new.self gs));
     }

@@ -73,8 +73,10 @@ returns-clause-resolves g c =
       stays = tt;
       count = c.resolve_open_len-count.ensures;
       lines = waits;
-      resolved = record { book = c.in_ok-calls.ensures.ok; follows =
-          record { leads = open_resolved_follows s _ r c.resolve_open_len-count.result none c.in_ok-calls.ensures.ok waits; counted = refl; states = λ b. refl }
-          };
+      resolved = record {
+        book = c.in_ok-calls.ensures.ok;
+        follows =
+            record { leads = open_resolved_follows s _ r c.resolve_open_len-count.result none c.in_ok-calls.ensures.ok waits; counted = refl; states = λ b. refl };
+      };
       log = c.in_ok-calls.ensures.log;
     }

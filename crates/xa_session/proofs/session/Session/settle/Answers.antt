@@ -92,6 +92,6 @@ returns-clause-settles g c =
           (follows_if_ok s c.conclude.new.self (refusal_in (book_in s.manager) (Steps.Settle c.args.gtrid))
           (Decided c.args.gtrid Outcomes.Commit ∷ []) c.settle-reply.new.self c.settle-reply.result _ 1 refl
           c.conclude.ensures.happenings c.conclude.ensures.value c.conclude.ensures.manager c.conclude.ensures.lines c.settle-reply.ensures.allowed
-              c.settle-reply.ensures.ok c.conclude.ensures.monitor
+          c.settle-reply.ensures.ok c.conclude.ensures.monitor
           (settled_follows s c.conclude.new.self c.args.gtrid));
     }

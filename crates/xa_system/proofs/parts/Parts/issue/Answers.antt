@@ -61,7 +61,7 @@ returns-then-not-index g c =
     (λ tr stands. issue_found see tr p t r c.index.result.now call stands there up
     (site_read see tr p t r c.index.result.now stands there c.index.ensures)
     ∙ ap (λ u. issue_why true true u (barred (calls_issued (line_at p.lines t r)) call)
-        (refusal_in (book_in p.manager) (Steps.Issue t r (map_call name_of call)))
+    (refusal_in (book_in p.manager) (Steps.Issue t r (map_call name_of call)))
     (nat_le 64 (length (line_at p.lines t r).calls.waiting))) c.if-not-index.true)
 
 pub returns-in-Err : goal.returns-in-Err
@@ -135,7 +135,7 @@ returns-in-Err-note_issued g c tr stands few =
     ∙ λ i. issue_why true true (c.if-not-index.false i) (barred_so i) (free i) (full i) in
     lacking_goes see tr (Steps.Issue t r call) p c.note_issued.new.self c.refused-in-Err-note_issued.result stands c.requires.has_xid
     (c.refused-in-Err-note_issued.ensures ∙ ap (λ n. Replies.Refused n) c.in-Err-note_issued.ensures.err.0) none tt c.in-Err-note_issued.ensures.err.1
-        c.in-Err-note_issued.ensures.log
+    c.in-Err-note_issued.ensures.log
 
 pub returns : goal.returns
 returns g c tr stands few =

@@ -29,7 +29,7 @@ returns-clause-back g c =
           gave.other is order honest content held
           (subst (λ k. MayHold k content) (sym c.self.invariant.stands.book)
           (rows_may_hold tr content (doubt_is_new_to tr c.self.invariant.stands.kept.run)
-              (subst (λ v. MayHoldRows (trace_in see.look v) content) (sym c.self.view_is) may)));
+          (subst (λ v. MayHoldRows (trace_in see.look v) content) (sym c.self.view_is) may)));
     }) c.give_log-given.ensures.back
 
 pub invariant_of-self : goal.invariant_of-self

@@ -122,7 +122,7 @@ returns-clause-no_restart g c is few down =
     (λ i d h restarted. subst (λ v. IsBeforeNext (trace_in see.look v) holds.content → ⊥) (sym c.self.view_is) holds.other
     (followed then c.step.result as_restart i d h restarted holds.content
     (found_in (see.place (log_in c.self.inside.parts.manager)).content holds.content i d h held
-        ((c.step.ensures.read i d h is restarted).found in_order holds.honest))))))
+    ((c.step.ensures.read i d h is restarted).found in_order holds.honest))))))
 
 pub returns-then-len-ge-EVENT_LIMIT-clause-log :
     goal.returns-then-len-ge-EVENT_LIMIT-clause-log
