@@ -62,7 +62,7 @@ def compiled(folder, names):
     subprocess.run([f"{TOP}/drivers/java/build", folder], check=True, stdout=subprocess.DEVNULL)
     path.append(f"{folder}/garterfossil-javax.jar")
     sources = [f"{HERE}/java/{name}.java" for name in names]
-    subprocess.run(["javac", "-cp", ":".join([folder, *path]), "-d", folder, *sources], check=True)
+    subprocess.run(["javac", "-cp", ":".join([folder, *path]), "-sourcepath", f"{HERE}/java", "-d", folder, *sources], check=True)
     return path
 
 
@@ -81,18 +81,26 @@ class Java:
         self.path = [self.folder, *paths_of(dict(driver_of(server) for server in world.servers)), *compiled(self.folder, names)]
 
     def rates(self, threads, seconds, rounds):
-        """Transfers a second, by the way."""
+        """By the way: the middle of its transfers a second, and of the microseconds of processor a transfer, by the program."""
         self.world.prepare()
         urls = [server.url() for server in self.world.servers]
         words = ["java", "-cp", ":".join(self.path), "Speed", *urls, self.folder, str(seconds), str(rounds), str(threads)]
         it = subprocess.run([*words, self.world.coordinator, self.world.log], stdout=subprocess.PIPE, text=True, check=True)
         for path in glob.glob(f"{self.folder}/*.tlog"):
             os.remove(path)
-        rates = collections.defaultdict(list)
+        rates, costs = collections.defaultdict(list), collections.defaultdict(lambda: collections.defaultdict(list))
         for line in it.stdout.splitlines():
-            way, rate = line.split()
+            way, rate, *cost = line.split()
             rates[way].append(float(rate))
-        return {way: statistics.median(found) for way, found in rates.items()}
+            for program, micros in zip(cost[::2], cost[1::2]):
+                costs[way][program].append(float(micros))
+        middle = statistics.median
+        return {way: (middle(found), {it: middle(one) for it, one in costs[way].items()}) for way, found in rates.items()}
+
+
+def told(cost):
+    """What a transfer costs, of all programs and of each."""
+    return f"{sum(cost.values()):.0f} ({', '.join(f'{it} {micros:.0f}' for it, micros in cost.items() if micros)})"
 
 
 #: At so many threads.
@@ -111,9 +119,12 @@ def run(world, seconds, rounds):
     try:
         for threads in THREADS:
             rates = java.rates(threads, seconds, rounds)
-            mine = rates["coordinator"]
-            beside = [f"{rates[way]:.0f} {WAYS[way]}: {mine / rates[way]:.2f} of that" for way in WAYS if way in rates and way != "coordinator"]
+            mine, _ = rates["coordinator"]
+            others = [(rates[way][0], WAYS[way]) for way in WAYS if way in rates and way != "coordinator"]
+            beside = [f"{rate:.0f} {way}: {mine / rate:.2f} of that" for rate, way in others]
             print(f"speed: Java, {threads} threads: {mine:.0f} transfers a second; {'; '.join(beside)}", flush=True)
+            costs = [f"{WAYS[way]} {told(rates[way][1])}" for way in WAYS if way in rates]
+            print(f"speed: Java, {threads} threads: microseconds of processor a transfer: {'; '.join(costs)}", flush=True)
     finally:
         for server in world.servers:
             server.restart(None)

@@ -23,7 +23,8 @@ import javax.transaction.xa.Xid;
  * How many transfers a second are committed in two phases over two databases, from threads without an interpreter's lock: by
  * hand, through the coordinator {@code xatm serve}, and, where its class is on the path, through Bitronix.
  *
- * <p>Usage: Speed URL URL FOLDER SECONDS ROUNDS THREADS PROGRAM LOG. Prints a line for each way and round: the way, and how many.
+ * <p>Usage: Speed URL URL FOLDER SECONDS ROUNDS THREADS PROGRAM LOG. Prints a line for each way and round: the way, how many, and the
+ * microseconds of processor that each took of each program.
  * The PROGRAM is the coordinator.
  */
 public class Speed {
@@ -208,13 +209,18 @@ public class Speed {
         return (XADataSource) source;
     }
 
+    /** So many transfers a second, and what they cost. */
+    record Rate(double rate, String cost) {
+    }
+
     /** Transfers a second on so many threads. The accounts of a thread are its own: nobody waits for a lock. */
-    static double rate(Way way, int threads, double seconds) throws Exception {
+    static Rate rate(Way way, int threads, double seconds) throws Exception {
         ExecutorService pool = Executors.newFixedThreadPool(threads);
         List<Work> works = new ArrayList<>();
         for (int thread = 0; thread < threads; thread++) {
             works.add(way.work(thread));
         }
+        Processors before = Processors.now();
         long begun = System.nanoTime(), until = begun + (long) (seconds * 1e9);
         List<Future<Integer>> counts = new ArrayList<>();
         for (int thread = 0; thread < threads; thread++) {
@@ -226,11 +232,13 @@ public class Speed {
             sum += count.get();
         }
         double took = (System.nanoTime() - begun) / 1e9;
+        // What a closed connection's process took is no longer counted.
+        String cost = Processors.now().eachSince(before, Math.max(1, sum));
         for (Work work : works) {
             work.close();
         }
         pool.shutdown();
-        return sum / took;
+        return new Rate(sum / took, cost);
     }
 
     private static int transfers(Work work, int first, int threads, long until) throws Exception {
@@ -249,7 +257,8 @@ public class Speed {
         }
         for (int round = 0; round < rounds; round++) {
             for (int way = 0; way < ways.size(); way++) {
-                System.out.printf("%s %.1f%n", names.get(way), rate(ways.get(way), threads, seconds));
+                Rate found = rate(ways.get(way), threads, seconds);
+                System.out.printf("%s %.1f %s%n", names.get(way), found.rate(), found.cost());
             }
         }
         for (Way way : ways) {
