@@ -68,6 +68,27 @@ pub enum CallKind {
     Recover,
 }
 
+impl CallKind {
+    ghost use Rattle.xa_base.specs.Call.{kind_name};
+
+    /// The name of the call in XA (chapter 5).
+    pub fn name(self) -> &'static str
+        ensures { result.now ≡ kind_name self }
+    {
+        match self {
+            CallKind::OpenRm => "xa_open",
+            CallKind::CloseRm => "xa_close",
+            CallKind::Start => "xa_start",
+            CallKind::End => "xa_end",
+            CallKind::Prepare => "xa_prepare",
+            CallKind::Commit => "xa_commit",
+            CallKind::Rollback => "xa_rollback",
+            CallKind::Forget => "xa_forget",
+            CallKind::Recover => "xa_recover",
+        }
+    }
+}
+
 impl Call {
     ghost use Rattle.xa_base.specs.Call.{call_with, xid_in};
 
@@ -114,39 +135,13 @@ impl Call {
     pub fn copy(&self) -> Call
         ensures { result ≡ self.now }
     {
-        match self {
-            Call::OpenRm => Call::OpenRm,
-            Call::CloseRm => Call::CloseRm,
-            Call::Start { xid, join } => Call::Start {
-                xid: xid.copy(),
-                join: *join,
-            },
-            Call::End { xid, fail } => Call::End {
-                xid: xid.copy(),
-                fail: *fail,
-            },
-            Call::Prepare { xid } => Call::Prepare { xid: xid.copy() },
-            Call::Commit { xid, one_phase } => Call::Commit {
-                xid: xid.copy(),
-                one_phase: *one_phase,
-            },
-            Call::Rollback { xid } => Call::Rollback { xid: xid.copy() },
-            Call::Forget { xid } => Call::Forget { xid: xid.copy() },
-            Call::Recover {
-                count,
-                start_scan,
-                end_scan,
-            } => Call::Recover {
-                count: *count,
-                start_scan: *start_scan,
-                end_scan: *end_scan,
-            },
-        }
+        self.map(|xid| xid.copy())
     }
 }
 
 impl<X> Call<X> {
-    ghost use Rattle.xa_base.specs.Call.{are_alike, kind_of};
+    ghost use Rattle.std.specs.Fn.{FnOnceReturnsAt};
+    ghost use Rattle.xa_base.specs.Call.{MapsCall, are_alike, kind_of};
     ghost use Rattle.xa_base.specs.declared.call.Call.TheVariants as Calls;
 
     /// xa_start of a new branch, without TMJOIN.
@@ -187,6 +182,41 @@ impl<X> Call<X> {
             Call::Rollback { .. } => CallKind::Rollback,
             Call::Forget { .. } => CallKind::Forget,
             Call::Recover { .. } => CallKind::Recover,
+        }
+    }
+
+    /// The same call on what `f` makes of the branch that it names, if it names one.
+    pub fn map<Y, F: FnOnce(&X) -> Y + Drop>(&self, f: F) -> Call<Y>
+        requires { F.IsAlwaysCallable f }
+        ensures { MapsCall (FnOnceReturnsAt F.FnOnce f) self.now result }
+    {
+        match self {
+            Call::OpenRm => Call::OpenRm,
+            Call::CloseRm => Call::CloseRm,
+            Call::Start { xid, join } => Call::Start {
+                xid: f(xid),
+                join: *join,
+            },
+            Call::End { xid, fail } => Call::End {
+                xid: f(xid),
+                fail: *fail,
+            },
+            Call::Prepare { xid } => Call::Prepare { xid: f(xid) },
+            Call::Commit { xid, one_phase } => Call::Commit {
+                xid: f(xid),
+                one_phase: *one_phase,
+            },
+            Call::Rollback { xid } => Call::Rollback { xid: f(xid) },
+            Call::Forget { xid } => Call::Forget { xid: f(xid) },
+            Call::Recover {
+                count,
+                start_scan,
+                end_scan,
+            } => Call::Recover {
+                count: *count,
+                start_scan: *start_scan,
+                end_scan: *end_scan,
+            },
         }
     }
 
