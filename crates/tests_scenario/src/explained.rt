@@ -43,7 +43,8 @@ or xatm threads left: its branches ended with that program.
 const TOLD_THE_OTHER_WAY: &str = "\
 00000000000000010000000000000010 is decided to commit, and its row waits for 1 branch:
     7:00000000000000010000000000000010:0000000000000000 at resource manager 0
-        PostgreSQL: COMMIT PREPARED '7:73686f702d3100000000000000010000000000000010:0000000000000000';
+        PostgreSQL: COMMIT PREPARED \
+        '7:73686f702d3100000000000000010000000000000010:0000000000000000';
         MariaDB: XA COMMIT X'73686f702d3100000000000000010000000000000010',X'0000000000000000',7;
 7:00000000000000010000000000000001:0000000000000000 was ended by resource manager 0 itself: \
 rolled back. Its transaction has no row: it was rolled back, or is committed and over. \

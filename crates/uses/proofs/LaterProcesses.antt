@@ -1,5 +1,6 @@
 -- Processes one after another.
 use Rattle.std.proofs.Common.{◌≡◌, ◌<◌, ◌≤◌, ◌+◌, ◌++◌, ◌∙◌, ℕ, zero, suc, arith, List, [], ◌∷◌, length, map, take, refl, sym, ap, subst}
+use Rattle.std.proofs.lemmas.List.{map-append}
 use Rattle.std.specs.Prelude.{IfOk, IfSome, IsOk, IsSomeAnd, OnErr, OnOk, Option, Some, None, Result, Ok, Err, slice_index_or}
 use Rattle.xa_base.specs.Xid.{Xid}
 use Rattle.xa_base.specs.declared.refusal.Refusal.{Refusal}
@@ -125,19 +126,9 @@ take_more [] i d low = absurd (omega (arith, low))
 take_more (x ∷ xs) zero d low = refl
 take_more (x ∷ xs) (suc i) d low = ap (λ l. x ∷ l) (take_more xs i d (omega (arith, low)))
 
-map_more : {A B : Type 0} (f : A → B) (xs : List A) (x : A) → map f (xs ++ x ∷ []) ≡ map f xs ++ f x ∷ []
-map_more f [] x = refl
-map_more f (y ∷ ys) x = ap (λ l. f y ∷ l) (map_more f ys x)
-
 -- the lists of the processes so far, and one more
 pub lists_more : {A B : Type 0} (f : A → B) (xs : List A) (i : ℕ) (x : A) → i < length xs → x ≡ slice_index_or xs i x
     → map f (take i xs) ++ f x ∷ [] ≡ map f (take (i + 1) xs)
 lists_more f xs i x low is =
     let next : suc i ≡ i + 1 = omega arith in
-    sym (map_more f (take i xs) x) ∙ ap (λ y. map f (take i xs ++ y ∷ [])) is ∙ ap (map f) (sym (take_more xs i x low) ∙ ap (λ n. take n xs) next)
-
-pub all_taken : {A : Type 0} (xs : List A) (i : ℕ) → length xs ≤ i → take i xs ≡ xs
-all_taken [] zero many = refl
-all_taken [] (suc i) many = refl
-all_taken (x ∷ xs) zero many = absurd (omega (arith, many))
-all_taken (x ∷ xs) (suc i) many = ap (λ l. x ∷ l) (all_taken xs i (omega (arith, many)))
+    sym (map-append f (take i xs) (x ∷ [])) ∙ ap (λ y. map f (take i xs ++ y ∷ [])) is ∙ ap (map f) (sym (take_more xs i x low) ∙ ap (λ n. take n xs) next)

@@ -11,3 +11,4 @@ mod Results
 mod Sessions
 mod StartRows
 mod TwoManagers
+mod TwoSessions

@@ -21,7 +21,7 @@ use Rattle.xa_tm.specs.Slots.{LooksAt, TakesIn, content_in, faults_in, honest_in
 use Rattle.xa_tm.specs.declared.swap_fault.SwapFault.{SwapFault}
 use Rattle.xa_tm.specs.declared.swap_fault.SwapFault.TheVariants as Faults
 use Rattle.uses.proofs.Results.{there_is}
-use Rattle.uses.specs.Crashes.{IsLeft}
+use Rattle.uses.specs.Crashes.{IsLeftByCrash}
 use Rattle.xa_rm.specs.Look.{Look}
 
 -- a fault that is neither of these two
@@ -194,7 +194,7 @@ module _ {R L : Type 0} (look : R → Look) (logs : DecisionLog.Ghosts L) where
   pub is_left : (old taken : SystemView R L) (log left : L) (c : Content) → HoldsItsTrace sees_of old → up (trace_in sees_of.look old) ≡ false
       → taken ≡ record old { log = taken.log } → Some log ≡ log_held old.log → log_held taken.log ≡ None → last_out taken.log ≡ log
       → (logs.moment old.handed).is_in_order → MayRestartAfterCrash sees_of old → (logs.moment log).is_honest → (logs.moment log).may_leave c
-      → (logs.moment left).is_in_order → (logs.moment left).content ≡ Some c → IsLeft sees_of taken left c
+      → (logs.moment left).is_in_order → (logs.moment left).content ≡ Some c → IsLeftByCrash sees_of taken left c
   is_left old taken log left c holds down others here gone was order may honest leaves left_order content = record {
     down = ap (λ s. up (trace_in sees_of.look s)) others ∙ down;
     out = gone;
@@ -220,7 +220,7 @@ module _ {R L : Type 0} (look : R → Look) (logs : DecisionLog.Ghosts L) where
       → ((logs.moment log).is_in_order → (logs.moment left).is_in_order)
       → ((logs.moment log).is_in_order → (logs.moment left).is_honest → IsSomeAnd (logs.moment left).content (logs.moment log).may_leave)
       → (logs.moment old.handed).is_in_order → MayRestartAfterCrash sees_of old → (logs.moment left).is_honest
-      → (c : Content) × IsLeft sees_of taken left c
+      → (c : Content) × IsLeftByCrash sees_of taken left c
   found_left old taken log left out holds is_up is_taken empty was others some was_honest_so order_left leaves order near honest =
       let down = down_taken old taken log out is_up (sym some) in
       let here : Some log ≡ log_held old.log = sym some ∙ is_taken down in

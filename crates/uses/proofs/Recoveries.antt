@@ -3,7 +3,7 @@ use Rattle.std.proofs.Common.{◌≡◌, ◌≤◌, ◌++◌, ◌∙◌, ℕ, Li
 use Rattle.xa_base.specs.Branch.{IsBranch}
 use Rattle.xa_base.specs.declared.reply.Event.{Event}
 use Rattle.xa_model.proofs.Invariant.Grows.{started_kept}
-use Rattle.xa_model.proofs.Replies.Pushes.{with_steps_append}
+use Rattle.xa_model.proofs.Replies.Pushes.{with_steps_append, all_before}
 use Rattle.xa_model.specs.Facts.{issued, started, taken}
 use Rattle.xa_model.specs.Facts.InDoubt.{in_doubt}
 use Rattle.xa_model.specs.Promises.Recovery.{IsRecovered, MayComplete, NonePutOff, recovery}
@@ -38,10 +38,6 @@ recovered o p old new r count names answers completes numbers same after is none
 
 -- ** a recovery that ends a list of events
 
-ahead : (tr : Trace) (xs ys : List (Step × Reply)) → AllAllowed tr (xs ++ ys) → AllAllowed tr xs
-ahead tr [] ys all = tt
-ahead tr (x ∷ xs) ys all = (all.0, ahead (Then tr (happened x.0 x.1)) xs ys all.1)
-
 started_on : (tr : Trace) (xs : List (Step × Reply)) (b : Branch) → started tr b ≡ true → started (with_steps tr xs) b ≡ true
 started_on tr [] b s = s
 started_on tr (x ∷ xs) b s = started_on (Then tr (happened x.0 x.1)) xs b (started_kept tr (happened x.0 x.1) b s)
@@ -55,7 +51,7 @@ ends_recovered o before events allowed numbers completes r count names answers i
     let all : AllAllowed (From o) (map read before ++ last) = subst (AllAllowed (From o)) is allowed in
     let same : history o events ≡ with_steps (history o before) last = ap (with_steps (From o)) is ∙ with_steps_append (From o) (map read before) last in
     subst (λ tr. IsRecovered tr r) (sym same)
-    (completes r count names answers (ahead (From o) (map read before) last all)
+    (completes r count names answers (all_before (From o) (map read before) last all)
     (record {
       none_waits = none;
       enough = enough;

@@ -1,23 +1,10 @@
 -- What facts of a result come to.
-use Rattle.std.specs.Prelude.{◌≡◌, IfErr, IfOk, IfSome, IsSomeAnd, Err, None, Ok, Option, Result, Some, refl}
-
-pub from_both : {A E : Type 0} (result : Result A E) (P Q To : A → Type 0) → ((x : A) → P x → Q x → To x) → IfOk result P → IfOk result Q
-    → IfOk result To
-from_both (Ok x) P Q To both p q = both x p q
-from_both (Err e) P Q To both p q = tt
+use Rattle.std.specs.Prelude.{◌≡◌, IfErr, IfSome, IsSomeAnd, Err, None, Ok, Option, Result, Some, refl}
 
 pub from_both_err : {A E : Type 0} (result : Result A E) (P Q To : E → Type 0) → ((e : E) → P e → Q e → To e) → IfErr result P → IfErr result Q
     → IfErr result To
 from_both_err (Ok x) P Q To both p q = tt
 from_both_err (Err e) P Q To both p q = both e p q
-
-pub for_ok : {A E : Type 0} (result : Result A E) (P To : A → Type 0) → ((x : A) → P x → To x) → IfOk result P → IfOk result To
-for_ok (Ok x) P To so p = so x p
-for_ok (Err e) P To so p = tt
-
-pub for_err : {A E : Type 0} (result : Result A E) (P To : E → Type 0) → ((e : E) → P e → To e) → IfErr result P → IfErr result To
-for_err (Ok x) P To so p = tt
-for_err (Err e) P To so p = so e p
 
 pub for_some : {A : Type 0} (o : Option A) (P To : A → Type 0) → ((x : A) → P x → To x) → IfSome o P → IfSome o To
 for_some (Some x) P To so p = so x p

@@ -1,50 +1,46 @@
 -- Two drivers are served by managers of two names.
-use Rattle.std.proofs.Common.{◌≡◌, ◌≢◌, ◌∙◌, ◌⊎◌, inl, inr, ℕ, Bool, true, false, ◌||◌, List, [], ◌∷◌, Option, Some, None, refl, sym, ap, subst}
+use Rattle.std.proofs.Common.{◌≡◌, ◌≢◌, ◌∙◌, ◌⊎◌, inl, inr, ℕ, false, List, [], ◌∷◌, Option, Some, None, refl, sym, ap, subst}
 use Rattle.std.proofs.lemmas.Option.{none-some}
+use Rattle.std.proofs.lemmas.Bool.{or_parts}
 use Rattle.std.specs.List.{AllByRecursion, list_any}
 use Rattle.xa_base.specs.Xid.{Xid}
-use Rattle.xa_coordinator.specs.Lines.{asked_in}
-use Rattle.xa_coordinator.specs.Managers.{ManagersAreApart, Replied, told_xid}
-use Rattle.xa_coordinator.specs.NamedLines.{ServesUnder, lines_read}
-use Rattle.xa_coordinator.specs.Serving.{HaveReplies, RepliesBy, replies_given, requests_done}
-use Rattle.xa_coordinator.specs.Telling.{is_log_fault}
-use Rattle.xa_coordinator.specs.Tracking.{RepliesAreTracked, ServedDatabasesAgree}
-use Rattle.xa_coordinator.specs.declared.coordinator.Coordinator.{Coordinator}
+use Rattle.xa_server.specs.Lines.{asked_in}
+use Rattle.xa_server.specs.Managers.{ManagersAreApart, Replied, told_xid}
+use Rattle.xa_server.specs.NamedLines.{ServesUnder, lines_read}
+use Rattle.xa_server.specs.Serving.{HaveReplies, RepliesBy, replies_given, requests_done}
+use Rattle.xa_server.specs.Telling.{is_log_fault}
+use Rattle.xa_server.specs.Tracking.{RepliesAreTracked, ServedDatabasesAgree}
+use Rattle.xa_server.specs.declared.server.Server.{Server}
 use Rattle.xa_log.specs.Contract.{Moment}
 use Rattle.xa_model.specs.Trace.{Origin}
 use Rattle.xa_requests.specs.declared.request.Request.{Request}
 use Rattle.xa_requests.specs.declared.response.Response.{Response}
-use Rattle.xa_serve.specs.Tracking.{KeepsTrack, StartsAreTracked}
-use Rattle.xa_standings.specs.Explained.{IsOldLog}
-use Rattle.xa_standings.specs.Seen.{Seen, Seen.Start}
+use Rattle.xa_session.specs.Tracking.{KeepsTrack, StartsAreTracked}
+use Rattle.xa_monitor.specs.Explained.{HasOnlyOlderRows}
+use Rattle.xa_monitor.specs.Seen.{Seen, Seen.Start}
 use Rattle.uses.proofs.Sessions.{begins_so, start_of}
 use Rattle.uses.specs.Managers.{AreServedApart, IsServedFrom, IsServedUnder, TellApart}
 
 -- what is left of a text that was known is known
 pub known_left : {L : Type 0} (text : List ℕ) (left : Option (List ℕ)) (moment : L → Moment) (name : List ℕ) (greeting : Response)
-    (written all : Option (List ℕ)) (old new : Coordinator L) → ServesUnder moment name greeting (Some text) left written all old new
+    (written all : Option (List ℕ)) (old new : Server L) → ServesUnder moment name greeting (Some text) left written all old new
     → (unread : List ℕ) × ServesUnder moment name greeting (Some text) (Some unread) written all old new
 known_left text None moment name greeting written all old new serves = absurd serves.consumed
 known_left text (Some unread) moment name greeting written all old new serves = (unread, serves)
 
-neither : (a b : Bool) → (a || b) ≡ false → (a ≡ false) × (b ≡ false)
-neither false false e = (refl, refl)
-neither false true e = absurd (cc)
-neither true b e = absurd (cc)
-
 module _ {L : Type 0} (moment : L → Moment) where
   -- a session that keeps track gave this reply to some request; or it tells no call
   abbrev WasGiven : Response → Type 0
-  WasGiven reply = ((old : Coordinator L) × (new : Coordinator L) × Replied moment old new reply) ⊎ ((name : List ℕ) → told_xid name reply ≡ None)
+  WasGiven reply = ((old : Server L) × (new : Server L) × Replied moment old new reply) ⊎ ((name : List ℕ) → told_xid name reply ≡ None)
 
-  module _ (tracked : RepliesAreTracked moment) (o : Origin) (is_old : IsOldLog o) where
-    all_given : (lines : List (List ℕ)) (replies : List Response) (seen : Seen) (old new : Coordinator L) → KeepsTrack o seen old.session
+  module _ (tracked : RepliesAreTracked moment) (o : Origin) (is_old : HasOnlyOlderRows o) where
+    all_given : (lines : List (List ℕ)) (replies : List Response) (seen : Seen) (old new : Server L) → KeepsTrack o seen old.session
         → HaveReplies moment lines replies old new → list_any is_log_fault replies ≡ false → AllByRecursion WasGiven replies
     all_given [] [] seen old new keeps have none = tt
     all_given [] (reply ∷ replies) seen old new keeps have none = absurd have
     all_given (line ∷ lines) [] seen old new keeps have none = absurd have
     all_given (line ∷ lines) (reply ∷ replies) seen old new keeps (next, to, rest) none =
-        let no = neither (is_log_fault reply) (list_any is_log_fault replies) none in
+        let no = or_parts (is_log_fault reply) (list_any is_log_fault replies) none in
         let one = given (asked_in line) to no.0 in
         (one.0, all_given lines replies one.1.0 next new one.1.1 rest no.1)
       where

@@ -1,7 +1,7 @@
 -- What a run of a jobs file over a new log prints and leaves there.
 use Rattle.std.specs.Prelude.{◌≡◌, ℕ, IsSomeAnd, List, Option, Ok}
 use Rattle.xa_base.specs.declared.step.Outcome.{Outcome}
-use Rattle.xa_jobs.specs.JobFiles.{jobs_of, plan_of}
+use Rattle.xa_jobs.specs.JobFiles.{job_plan_of, jobs_of}
 use Rattle.xa_jobs.specs.JobRuns.{AreEnds}
 use Rattle.xa_jobs.specs.Lines.{end_lines}
 use Rattle.xa_log.specs.Content.{Content, nothing, with_bump}
@@ -13,7 +13,7 @@ use Rattle.xa_workers.specs.declared.jobs.Jobs.{Jobs}
 pub record IsFirstRun (text printed : List ℕ) (log : Option Content) : Type 0 where
   pub jobs : Jobs
   pub ends : List Outcome
-  pub reads : jobs_of text ≡ Ok (plan_of jobs)
-  pub allowed : AreEnds (plan_of jobs) ends
+  pub reads : jobs_of text ≡ Ok (job_plan_of jobs)
+  pub allowed : AreEnds (job_plan_of jobs) ends
   pub prints : printed ≡ end_lines ends
   pub rows : IsSomeAnd log (HasRows 1 (rows_of_jobs jobs 1 ends) (with_bump nothing))

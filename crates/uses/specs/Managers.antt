@@ -3,31 +3,31 @@ use Rattle.std.specs.Prelude.{◌≡◌, ◌≢◌, ℕ, false, List, [], ◌++�
 use Rattle.std.specs.List.{AllByRecursion, list_any}
 use Rattle.xa_base.specs.Xid.{Xid}
 use Rattle.xa_base.specs.declared.state.Standing.{Standing}
-use Rattle.xa_coordinator.specs.Lines.{lines_of}
-use Rattle.xa_coordinator.specs.Managers.{told_xid}
-use Rattle.xa_coordinator.specs.NamedLines.{ServesUnder, lines_read, text_written}
-use Rattle.xa_coordinator.specs.Replies.{greeting_of}
-use Rattle.xa_coordinator.specs.Serving.{AreTurns, EndsBy, Turn, replies_given, requests_done, told_in}
-use Rattle.xa_coordinator.specs.Telling.{HaveTold, is_log_fault}
-use Rattle.xa_coordinator.specs.declared.coordinator.Coordinator.{Coordinator}
+use Rattle.xa_server.specs.Lines.{text_lines}
+use Rattle.xa_server.specs.Managers.{told_xid}
+use Rattle.xa_server.specs.NamedLines.{ServesUnder, lines_read, text_written}
+use Rattle.xa_server.specs.Replies.{greeting_of}
+use Rattle.xa_server.specs.Serving.{AreTurns, EndsAtLastOr, Turn, replies_given, requests_done, told_in}
+use Rattle.xa_server.specs.Telling.{HaveTold, is_log_fault}
+use Rattle.xa_server.specs.declared.server.Server.{Server}
 use Rattle.xa_log.specs.Contract.{Moment}
 use Rattle.xa_model.specs.Trace.{Branch, Origin}
 use Rattle.xa_requests.specs.declared.response.Response.{Response}
 use Rattle.xa_requests.specs.declared.response.Response.TheVariants as responses
-use Rattle.xa_serve.specs.Following.{StandsAtStart}
-use Rattle.xa_standings.specs.Agreement.{OwnStandAlike, StandSo}
-use Rattle.xa_standings.specs.Explained.{IsExplained, IsOldLog}
-use Rattle.xa_standings.specs.Seen.{Seen, Seen.Start}
+use Rattle.xa_session.specs.Following.{StandsAtStart}
+use Rattle.xa_monitor.specs.Agreement.{OwnStandAlike, StandSo}
+use Rattle.xa_monitor.specs.Explained.{HasOnlyOlderRows, IsExplained}
+use Rattle.xa_monitor.specs.Seen.{Seen, Seen.Start}
 use Rattle.xa_tm.specs.Begins.{BeginsWith}
 
 -- A driver of so many threads and resource managers that writes this text was served by a coordinator of this name that started over some
 -- log, and this was written.
 pub record IsServedFrom {L : Type 0} (moment : L → Moment) (name : List ℕ) (threads rms : ℕ) (text written : List ℕ) : Type 0 where
-  pub first : Coordinator L
-  pub last : Coordinator L
+  pub first : Server L
+  pub last : Server L
   pub unread : List ℕ
   pub stands : StandsAtStart threads rms first.session
-  pub old : (o : Origin) → BeginsWith threads rms first.session.manager o → IsOldLog o
+  pub old : (o : Origin) → BeginsWith threads rms first.session.manager o → HasOnlyOlderRows o
   pub serves : ServesUnder moment name (greeting_of first) (Some text) (Some unread) (Some []) (Some written) first last
 
 -- The driver was told the first line of a session, and a line for each line of what was read of its text: up to `quit`, or all. What
@@ -44,9 +44,9 @@ pub record IsServedUnder (name : List ℕ) (threads rms : ℕ) (text written : L
   pub threads_are : start.threads ≡ threads
   pub rms_are : start.rms ≡ rms
   pub whole : text ≡ read ++ unread
-  pub lines : AreTurns (lines_of read) turns
+  pub lines : AreTurns (text_lines read) turns
   pub replied : written ≡ text_written name (told_in (responses.Restarted start.incarnation decisions heuristics) turns)
-  pub ends : EndsBy (map (λ turn. turn.reply) turns) (unread ≡ [])
+  pub ends : EndsAtLastOr (map (λ turn. turn.reply) turns) (unread ≡ [])
   pub told : HaveTold threads (lines_read name (requests_done turns)) (replies_given turns) Start seen
   pub explained : IsExplained start seen
   pub agree : (f : Branch → Standing) → StandSo start seen f → OwnStandAlike start.incarnation f

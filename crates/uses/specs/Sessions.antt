@@ -8,14 +8,14 @@ use Rattle.xa_base.specs.declared.branch.Gtrid.{Gtrid}
 use Rattle.xa_base.specs.declared.state.Standing.{Standing}
 use Rattle.xa_base.specs.declared.state.Standing.TheVariants.{Committed, Completed, Forgotten, Prepared, Unstarted}
 use Rattle.xa_base.specs.declared.step.Outcome.TheVariants as Outcomes
-use Rattle.xa_coordinator.specs.Lines.{asked_in, lines_of}
-use Rattle.xa_coordinator.specs.Rows.{is_among}
-use Rattle.xa_coordinator.specs.Replies.{greeting_of}
-use Rattle.xa_coordinator.specs.Serving.{AreTurns, EndsBy, Serves, Turn, replies_given, requests_done, text_of, told_in}
-use Rattle.xa_coordinator.specs.Sessions.{AreServed, LogDecides, StartsOver}
-use Rattle.xa_coordinator.specs.Telling.{HaveTold, is_log_fault}
-use Rattle.xa_coordinator.specs.Votes.{AreVotes, IsLogged}
-use Rattle.xa_coordinator.specs.declared.coordinator.Coordinator.{Coordinator}
+use Rattle.xa_server.specs.Lines.{asked_in, text_lines}
+use Rattle.xa_server.specs.Rows.{is_gtrid_among}
+use Rattle.xa_server.specs.Replies.{greeting_of}
+use Rattle.xa_server.specs.Serving.{AreTurns, EndsAtLastOr, Serves, Turn, replies_given, replies_text, requests_done, told_in}
+use Rattle.xa_server.specs.Sessions.{AreServed, LogDecides, StartsOver}
+use Rattle.xa_server.specs.Telling.{HaveTold, is_log_fault}
+use Rattle.xa_server.specs.Votes.{AreVotes, IsLogged}
+use Rattle.xa_server.specs.declared.server.Server.{Server}
 use Rattle.xa_log.specs.Content.{Content}
 use Rattle.xa_log.specs.Contract.{Moment}
 use Rattle.xa_model.specs.Promises.Agreement.{IsUndone}
@@ -23,10 +23,10 @@ use Rattle.xa_model.specs.Trace.{Branch, Line, Origin}
 use Rattle.xa_requests.specs.declared.request.Request.TheVariants as requests
 use Rattle.xa_requests.specs.declared.response.Response.{Response}
 use Rattle.xa_requests.specs.declared.response.Response.TheVariants as responses
-use Rattle.xa_standings.specs.Agreement.{MayAllStand, OwnStandAlike, StandAlike, StandSo}
-use Rattle.xa_standings.specs.Explained.{IsExplained}
-use Rattle.xa_standings.specs.Seen.{Seen, Seen.Start}
-use Rattle.xa_standings.specs.Standings.{Comes}
+use Rattle.xa_monitor.specs.Agreement.{MayAllStand, OwnStandAlike, StandAlike, StandSo}
+use Rattle.xa_monitor.specs.Explained.{IsExplained}
+use Rattle.xa_monitor.specs.Seen.{Seen, Seen.Start}
+use Rattle.xa_monitor.specs.Standings.{Comes}
 use Rattle.xa_tm.specs.Calls.{log_in}
 
 -- The driver was told the first line of a session, and a line for each line of what was read of its text: up to `quit`, or all. What
@@ -45,9 +45,9 @@ pub record IsServed (threads rms : ℕ) (text written : List ℕ) : Type 0 where
   pub no_rows : start.rows ≡ []
   pub no_records : start.heuristic_rows ≡ []
   pub whole : text ≡ read ++ unread
-  pub lines : AreTurns (lines_of read) turns
-  pub replied : written ≡ text_of (told_in (responses.Restarted start.incarnation decisions heuristics) turns)
-  pub ends : EndsBy (map (λ turn. turn.reply) turns) (unread ≡ [])
+  pub lines : AreTurns (text_lines read) turns
+  pub replied : written ≡ replies_text (told_in (responses.Restarted start.incarnation decisions heuristics) turns)
+  pub ends : EndsAtLastOr (map (λ turn. turn.reply) turns) (unread ≡ [])
   pub told : HaveTold threads (requests_done turns) (replies_given turns) Start seen
   pub explained : IsExplained start seen
   pub agree : (f : Branch → Standing) → StandSo start seen f → OwnStandAlike start.incarnation f
@@ -73,16 +73,16 @@ pub record LogsCommits (log : Option Content) (text written : List ℕ) : Type 0
   pub greeting : Response
   pub turns : List Turn
   pub whole : text ≡ read ++ unread
-  pub lines : AreTurns (lines_of read) turns
-  pub replied : written ≡ text_of (told_in greeting turns)
-  pub ends : EndsBy (map (λ turn. turn.reply) turns) (unread ≡ [])
-  pub rows : (gs : List Gtrid) (g : Gtrid) → EndDecided (requests_done turns) (replies_given turns) gs → is_among gs g ≡ true → IsLogged log g
+  pub lines : AreTurns (text_lines read) turns
+  pub replied : written ≡ replies_text (told_in greeting turns)
+  pub ends : EndsAtLastOr (map (λ turn. turn.reply) turns) (unread ≡ [])
+  pub rows : (gs : List Gtrid) (g : Gtrid) → EndDecided (requests_done turns) (replies_given turns) gs → is_gtrid_among gs g ≡ true → IsLogged log g
 
 -- A driver of so many threads and resource managers that writes this text was served by a coordinator that started over a log, and this was
 -- written; this log is left.
 pub record IsServedOver {L : Type 0} (moment : L → Moment) (threads rms : ℕ) (handed : L) (text written : List ℕ) (left : L) : Type 0 where
-  pub first : Coordinator L
-  pub last : Coordinator L
+  pub first : Server L
+  pub last : Server L
   pub unread : List ℕ
   pub starts : StartsOver moment threads rms handed first
   pub serves : Serves moment (greeting_of first) (Some text) (Some unread) (Some []) (Some written) first last
@@ -90,7 +90,7 @@ pub record IsServedOver {L : Type 0} (moment : L → Moment) (threads rms : ℕ)
 
 -- sessions that agree left this log, and the branches so
 abbrev pub AreServedTo : {L : Type 0} → (L → Moment) → L → (Branch → Standing) → Type 0
-AreServedTo {L} moment left f = (last : Coordinator L) × (left ≡ log_in last.session.manager) × AreServed moment (Some last) f
+AreServedTo {L} moment left f = (last : Server L) × (left ≡ log_in last.session.manager) × AreServed moment (Some last) f
 
 -- The driver was told the first line of a session, and a line for each line of what was read of its text: up to `quit`, or all.
 pub record IsReplied (text written : List ℕ) : Type 0 where
@@ -99,9 +99,9 @@ pub record IsReplied (text written : List ℕ) : Type 0 where
   pub greeting : Response
   pub turns : List Turn
   pub whole : text ≡ read ++ unread
-  pub lines : AreTurns (lines_of read) turns
-  pub replied : written ≡ text_of (told_in greeting turns)
-  pub ends : EndsBy (map (λ turn. turn.reply) turns) (unread ≡ [])
+  pub lines : AreTurns (text_lines read) turns
+  pub replied : written ≡ replies_text (told_in greeting turns)
+  pub ends : EndsAtLastOr (map (λ turn. turn.reply) turns) (unread ≡ [])
 
 -- the database ended the branch by itself, which may be forgotten since
 abbrev pub EndedAlone : Standing → Type 0
@@ -136,7 +136,7 @@ pub record AreServedTwice (log : Option Content) (one_lines two_lines : List (Li
       (gs : List Gtrid) → EndDecided one_lines one_replies gs → (one_done one_cut two_done two_cut : List Line) (from to : Branch → Standing)
       → MayAllStand one one_seen (λ b. Comes one_seen b Unstarted) one_done one_cut from
       → MayAllStand two two_seen (λ b. Comes two_seen b (broken (from b))) two_done two_cut to
-      → (b : Branch) → is_among gs b.gtrid ≡ true → from b ≡ Prepared → (c : Content) → log ≡ Some c → EndsCommitted to c b
+      → (b : Branch) → is_gtrid_among gs b.gtrid ≡ true → from b ≡ Prepared → (c : Content) → log ≡ Some c → EndsCommitted to c b
 
 -- The same where the log failed in neither session.
 pub record IsServedTwice (log : Option Content) (first second first_written second_written : List ℕ) : Type 0 where

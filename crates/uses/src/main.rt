@@ -1,5 +1,5 @@
 //! Callers of the libraries, each proved to do what its contract says, and run here. A file is named after its
-//! library, without the `xa_`; `serve` and `managers` are callers of `xa_coordinator`, `own_log`, `processes`,
+//! library, without the `xa_`; `serve` and `managers` are callers of `xa_server`, `own_log`, `processes`,
 //! `recovery`, `swaps` and `crash` are further callers of `xa_system`, and `sql_jobs` of `xa_workers`.
 //!
 //! What is shown of a caller is made by a function of its own, which has no clause: a proof that carries the clauses of several takes
@@ -500,19 +500,19 @@ fn recovery_told(alloc: Global) -> Result<Vec<u8>, SessionFault> {
 /// What a driver of one thread and two databases is told in a session; the log that one leaves; what one that recovers is told.
 fn show_session(rt: &HostRuntime) -> anyhow::Result<()> {
     if let Ok(written) = session_told(rt.alloc()) {
-        println!(rt; "xa_coordinator:\n{}", String::from_utf8(written)?)?;
+        println!(rt; "xa_server:\n{}", String::from_utf8(written)?)?;
     }
     if let Some(listed) = commits_listed(rt.alloc())? {
-        println!(rt; "xa_coordinator, its log: {}", String::from_utf8(listed)?)?;
+        println!(rt; "xa_server, its log: {}", String::from_utf8(listed)?)?;
     }
     if let Ok(written) = silent_told(rt.alloc()) {
         println!(rt;
-            "xa_coordinator, a driver that says nothing:\n{}",
+            "xa_server, a driver that says nothing:\n{}",
             String::from_utf8(written)?
         )?;
     }
     if let Ok(second) = recovery_told(rt.alloc()) {
-        println!(rt; "xa_coordinator, recovery:\n{}", String::from_utf8(second)?)?;
+        println!(rt; "xa_server, recovery:\n{}", String::from_utf8(second)?)?;
     }
     Ok(())
 }

@@ -5,12 +5,10 @@ ghost use Rattle.uses.specs.Managers.{AreServedApart, IsServedFrom};
 
 use crate::serve::{SessionFault, whole};
 use std::alloc::Global;
-use xa_coordinator::{
-    Coordinator, managers_stay_apart, replies_are_tracked, served_databases_agree,
-};
 use xa_log::DecisionLog;
 use xa_names::ManagerName;
-use xa_serve::starts_are_tracked;
+use xa_server::{Server, managers_stay_apart, replies_are_tracked, served_databases_agree};
+use xa_session::starts_are_tracked;
 
 /// Serves a driver that writes this text, by a manager of this name over this log, and gives what was written for it.
 fn served_under<L: DecisionLog + Drop>(
@@ -26,8 +24,8 @@ fn served_under<L: DecisionLog + Drop>(
 {
     let mut written = Vec::new(alloc);
     let mut unread = whole(alloc, text)?;
-    match Coordinator::new(alloc, threads, rms, log) {
-        Ok(mut coordinator) => match coordinator.serve_under(name, &mut unread, &mut written) {
+    match Server::new(alloc, threads, rms, log) {
+        Ok(mut server) => match server.serve_under(name, &mut unread, &mut written) {
             Ok(()) => Ok(written),
             Err(fault) => Err(SessionFault::Serve(fault)),
         },

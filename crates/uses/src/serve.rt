@@ -1,4 +1,4 @@
-//! `xa_coordinator`: a driver is served, databases that obey the branch state table agree, also after a second driver that
+//! `xa_server`: a driver is served, databases that obey the branch state table agree, also after a second driver that
 //! recovers what the first one left, and the log has the rows of what is committed.
 
 ghost use Rattle.std.specs.Prelude.{◌≡◌, IfOk, IsSomeAnd, Some};
@@ -6,16 +6,15 @@ ghost use Rattle.std.specs.Io.Buffered.{reader_remaining};
 ghost use Rattle.uses.specs.Sessions.{AreServedTo, IsServed, IsServedOver};
 ghost use Rattle.uses.specs.Sessions.{IsServedTwice, LogsCommits};
 ghost use Rattle.xa_base.specs.declared.state.Standing.TheVariants.{Unstarted};
-ghost use Rattle.xa_coordinator.specs.Sessions.{IsEmptyLog};
+ghost use Rattle.xa_server.specs.Sessions.{IsEmptyLog};
 ghost use Rattle.xa_log.specs.Contract.{Honestly};
 
 use std::alloc::Global;
 use std::io::BufReader;
-use xa_coordinator::{
-    Coordinator, ServeFault, served_databases_agree, served_sessions_agree,
-    voted_commits_are_logged,
-};
 use xa_log::{DecisionLog, MemLog};
+use xa_server::{
+    ServeFault, Server, served_databases_agree, served_sessions_agree, voted_commits_are_logged,
+};
 use xa_tm::StartFault;
 
 /// Why a driver isn't served.
@@ -54,8 +53,8 @@ pub(crate) fn served(
     let mut written = Vec::new(alloc);
     let mut unread = whole(alloc, text)?;
     let log = MemLog::new(alloc);
-    match Coordinator::new(alloc, threads, rms, log) {
-        Ok(mut coordinator) => match coordinator.serve(&mut unread, &mut written) {
+    match Server::new(alloc, threads, rms, log) {
+        Ok(mut server) => match server.serve(&mut unread, &mut written) {
             Ok(()) => Ok(written),
             Err(fault) => Err(SessionFault::Serve(fault)),
         },
@@ -76,9 +75,9 @@ fn served_over<L: DecisionLog + Drop>(
 {
     let mut written = Vec::new(alloc);
     let mut unread = whole(alloc, text)?;
-    match Coordinator::new(alloc, threads, rms, log) {
-        Ok(mut coordinator) => match coordinator.serve(&mut unread, &mut written) {
-            Ok(()) => Ok((written, coordinator.into_log())),
+    match Server::new(alloc, threads, rms, log) {
+        Ok(mut server) => match server.serve(&mut unread, &mut written) {
+            Ok(()) => Ok((written, server.into_log())),
             Err(fault) => Err(SessionFault::Serve(fault)),
         },
         Err(fault) => Err(SessionFault::Start(fault)),

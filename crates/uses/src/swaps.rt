@@ -10,7 +10,7 @@ ghost use Rattle.xa_system.specs.LogInHistory.{greatest_count};
 ghost use Rattle.xa_system.specs.SystemView.{observes, origin_in};
 ghost use Rattle.xa_tm.specs.Slots.{slot_moment};
 ghost use Rattle.xa_tm.specs.declared.swap_fault.SwapFault.TheVariants as SwapFault;
-ghost use Rattle.uses.specs.Crashes.{IsLeft};
+ghost use Rattle.uses.specs.Crashes.{IsLeftByCrash};
 
 use std::alloc::Global;
 use xa_base::{Part, Reply, Side, Step};
@@ -43,10 +43,10 @@ pub(crate) fn restart_over<R: ResourceManager + Drop, L: DecisionLog + Drop>(
     left: L,
 ) -> Result<Reply, (SwapFault, L)>
     ensures given { IfErr result (λ e. (c : Content) →
-        IsLeft (observes R.look L.moment) system.old left c → (L.moment e.1).is_honest →
+        IsLeftByCrash (observes R.look L.moment) system.old left c → (L.moment e.1).is_honest →
         (e.0 ≡ SwapFault.Memory) ⊎ (e.0 ≡ SwapFault.Log)) }
     ensures restarted { IfOk result (λ reply. (c : Content) →
-        IsLeft (observes R.look L.moment) system.old left c →
+        IsLeftByCrash (observes R.look L.moment) system.old left c →
         (slot_moment L.moment system.new.log).is_honest →
         (slot_moment L.moment system.new.log).fault_count ≡ (L.moment left).fault_count →
         (L.moment left).fault_count < greatest_count → reply ≢ Replies.Refused Refusals.LogFault) }

@@ -1,4 +1,4 @@
-//! `xa_tm`: a coordinator starts over a log, and begins a transaction.
+//! `xa_tm`: a manager starts over a log, and begins a transaction.
 
 ghost use Rattle.std.specs.Prelude.{◌≡◌, IfOk};
 

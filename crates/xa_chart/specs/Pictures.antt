@@ -5,10 +5,10 @@ use Rattle.xa_story.specs.declared.party.Party.{Party}
 use Rattle.xa_story.specs.declared.party.Party.TheVariants.{Thread, Manager, Rm}
 
 -- where a part is drawn: what the system doesn't have at the manager, which refuses it
-abbrev pub shown : (threads rms : ℕ) → Party → Party
-shown threads rms (Thread thread) = if nat_lt thread threads then Thread thread else Manager
-shown threads rms (Rm rm) = if nat_lt rm rms then Rm rm else Manager
-shown threads rms Manager = Manager
+abbrev pub shown_party : (threads rms : ℕ) → Party → Party
+shown_party threads rms (Thread thread) = if nat_lt thread threads then Thread thread else Manager
+shown_party threads rms (Rm rm) = if nat_lt rm rms then Rm rm else Manager
+shown_party threads rms Manager = Manager
 
 -- the title: how large the run is
 abbrev pub title_text : (threads rms events : ℕ) → List ℕ

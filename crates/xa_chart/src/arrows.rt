@@ -7,7 +7,7 @@ use crate::labels::first_of;
 use crate::layout::Layout;
 use crate::run::Run;
 use xa_base::{Event, Memory, Part, Reply, Step};
-use xa_story::{Line, LogChange, Party, Waiting};
+use xa_story::{LogChange, Party, StoryLine, Waiting};
 
 /// Where something that waits begins, and where it is to arrive.
 pub fn ends_of(item: &Waiting) -> (Party, Party) {
@@ -74,7 +74,7 @@ fn draw_break(
 fn draw_own(
     canvas: &mut Canvas,
     layout: &Layout,
-    line: &Line,
+    line: &StoryLine,
     event: &Event,
 ) -> Result<(), Memory> {
     let number = line.number;

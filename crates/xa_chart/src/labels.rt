@@ -6,7 +6,7 @@ use crate::run::Run;
 use crate::strays::Strays;
 use std::alloc::Global;
 use xa_base::{Event, Memory, Part, Reply, Step};
-use xa_story::{Line, LogChange, Party, Sides, standing_text};
+use xa_story::{LogChange, Party, Sides, StoryLine, standing_text};
 
 /// A text beside a lifeline at an event. There is one at most on each side.
 #[derive(Drop)]
@@ -59,7 +59,7 @@ impl Words {
 }
 
 /// What is sent at an event and doesn't all arrive, in words: what arrives is told where it does.
-fn sent_text(run: &Run, line: &Line, is_told: bool) -> Result<String, Memory> {
+fn sent_text(run: &Run, line: &StoryLine, is_told: bool) -> Result<String, Memory> {
     let asked = line.asked.as_str();
     let strays = Strays::of(run, line.number, false);
     if strays.is_none() {
@@ -71,7 +71,7 @@ fn sent_text(run: &Run, line: &Line, is_told: bool) -> Result<String, Memory> {
 }
 
 /// What the first that takes part does or is told.
-fn own_text(run: &Run, line: &Line, event: &Event) -> Result<String, Memory> {
+fn own_text(run: &Run, line: &StoryLine, event: &Event) -> Result<String, Memory> {
     let asked = line.asked.as_str();
     if let Reply::Refused(_) = event.reply {
         return Ok(format!(in run.alloc; "{asked}: refused")?);
@@ -95,7 +95,7 @@ fn own_lettering(event: &Event) -> Lettering {
 }
 
 /// Which branches of a resource manager go where: by name, if they are few.
-fn moves_text(run: &Run, line: &Line, rm: u32) -> Result<String, Memory> {
+fn moves_text(run: &Run, line: &StoryLine, rm: u32) -> Result<String, Memory> {
     let mut names = String::new(run.alloc);
     let mut count: usize = 0;
     let mut standing = "";
@@ -118,7 +118,7 @@ fn moves_text(run: &Run, line: &Line, rm: u32) -> Result<String, Memory> {
 }
 
 /// What becomes of the answer that a resource manager gives.
-fn answer_text(run: &Run, line: &Line, event: &Event, rm: u32) -> Result<String, Memory> {
+fn answer_text(run: &Run, line: &StoryLine, event: &Event, rm: u32) -> Result<String, Memory> {
     match event.step {
         Step::Take { rm: own, .. } if own == rm => {
             let strays = Strays::of(run, line.number, true);
@@ -134,7 +134,7 @@ fn answer_text(run: &Run, line: &Line, event: &Event, rm: u32) -> Result<String,
 }
 
 /// What happens to the log.
-fn log_text(run: &Run, line: &Line) -> Result<String, Memory> {
+fn log_text(run: &Run, line: &StoryLine) -> Result<String, Memory> {
     let names = run.scene.names();
     Ok(match line.log {
         Some(LogChange::RowAdded(gtrid)) => {
@@ -155,7 +155,12 @@ fn log_text(run: &Run, line: &Line) -> Result<String, Memory> {
 }
 
 /// What is written right of a lifeline at an event.
-fn right_words(run: &Run, line: &Line, event: &Event, lifeline: Lifeline) -> Result<Words, Memory> {
+fn right_words(
+    run: &Run,
+    line: &StoryLine,
+    event: &Event,
+    lifeline: Lifeline,
+) -> Result<Words, Memory> {
     let mut words = Words::new(run.alloc);
     if lifeline == Lifeline::Part(run.shown(first_of(line.sides))) {
         let own = own_text(run, line, event)?;
@@ -184,7 +189,7 @@ fn right_words(run: &Run, line: &Line, event: &Event, lifeline: Lifeline) -> Res
 }
 
 /// What is written left of a lifeline at an event: the call that is taken there.
-fn left_text<'a>(line: &'a Line, event: &Event, lifeline: Lifeline) -> &'a str {
+fn left_text<'a>(line: &'a StoryLine, event: &Event, lifeline: Lifeline) -> &'a str {
     match event.step {
         Step::Take { rm, .. } if line.came.is_some() && lifeline == Lifeline::Part(Party::Rm(rm)) =>
             line.asked.as_str(),
@@ -196,7 +201,7 @@ fn left_text<'a>(line: &'a Line, event: &Event, lifeline: Lifeline) -> &'a str {
 pub fn add_labels(
     labels: &mut Vec<Label>,
     run: &Run,
-    line: &Line,
+    line: &StoryLine,
     event: &Event,
     lifeline: Lifeline,
 ) -> Result<(), Memory> {

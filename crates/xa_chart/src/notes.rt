@@ -3,7 +3,7 @@
 use crate::font::broken;
 use crate::run::Run;
 use xa_base::{Event, Memory, Reply, Step};
-use xa_story::{Line, Party};
+use xa_story::{Party, StoryLine};
 
 /// How wide a note is, in pixels, unless a word is wider.
 const WIDTH: usize = 420;
@@ -19,7 +19,7 @@ pub struct Note {
 }
 
 /// Whether what an event changes is told in words.
-fn is_told(line: &Line, event: &Event) -> bool {
+fn is_told(line: &StoryLine, event: &Event) -> bool {
     match (&event.step, line.came) {
         (Step::Issue { .. }, _) | (Step::Hear { .. }, Some(_)) => false,
         (Step::Crash(_), _) => true,
@@ -29,7 +29,7 @@ fn is_told(line: &Line, event: &Event) -> bool {
 }
 
 /// What is told of an event.
-fn note_text(run: &Run, line: &Line, event: &Event) -> Result<String, Memory> {
+fn note_text(run: &Run, line: &StoryLine, event: &Event) -> Result<String, Memory> {
     let change = line.change.as_str();
     if let Reply::Refused(_) = event.reply {
         let reply = line.reply.as_str();

@@ -16,5 +16,5 @@ abbrev pub kind_read : Result Members RunFault → FileKind
 kind_read (Ok document) = kind_in document
 kind_read (Err fault) = Scenario
 
-abbrev pub kind_of : List ℕ → FileKind
-kind_of text = kind_read (document_of text)
+abbrev pub file_kind_of : List ℕ → FileKind
+file_kind_of text = kind_read (document_of text)

@@ -29,12 +29,12 @@ unfoldable pub reason_text : RunFault → List ℕ → List ℕ
 reason_text fault reason = place_text fault ++ codes ": " ++ reason
 
 -- what is told of a fault of the file at a path: the path, perhaps a line, where the fault lies, and then a reason
-abbrev pub fault_text : (path : List ℕ) → RunFault → (line column : Option ℕ) → (reason : List ℕ) → List ℕ
-fault_text path fault line column reason = path ++ numbers_text line column ++ codes ": " ++ reason_text fault reason
+abbrev pub located_fault_text : (path : List ℕ) → RunFault → (line column : Option ℕ) → (reason : List ℕ) → List ℕ
+located_fault_text path fault line column reason = path ++ numbers_text line column ++ codes ": " ++ reason_text fault reason
 
 -- What is told of the file at a path tells of this fault first, for some reason.
-pub record Tells (path : List ℕ) (fault : RunFault) (told : List ℕ) : Type 0 where
+pub record ReportsFirst (path : List ℕ) (fault : RunFault) (told : List ℕ) : Type 0 where
   pub line : Option ℕ
   pub column : Option ℕ
   pub reason : List ℕ
-  pub is : told ≡ fault_text path fault line column reason
+  pub is : told ≡ located_fault_text path fault line column reason

@@ -28,8 +28,8 @@ abbrev pub array : List (List ℕ) → List ℕ
 array items = codes "[" ++ join_with_byte 44 items ++ codes "]"
 
 -- what stands before the first space of a line, and what stands behind it
-abbrev pub word_of : List ℕ → List ℕ
-word_of line = before_first (λ b. b == 32) line
+abbrev pub json_word_of : List ℕ → List ℕ
+json_word_of line = before_first (λ b. b == 32) line
 
 abbrev pub rest_of : List ℕ → List ℕ
 rest_of line = after_first (λ b. b == 32) line
@@ -43,18 +43,18 @@ abbrev pub is_item : Item → List ℕ → Bool
 is_item Line line = true
 is_item Branch line = tells_branch line
 is_item Event line = not (tells_branch line)
-is_item Name line = bytes_eq (word_of line) (codes "name")
-is_item Rm line = bytes_eq (word_of line) (codes "rm")
-is_item Decision line = not (tells_branch line || (bytes_eq (word_of line) (codes "name") || bytes_eq (word_of line) (codes "rm")))
+is_item Name line = bytes_eq (json_word_of line) (codes "name")
+is_item Rm line = bytes_eq (json_word_of line) (codes "rm")
+is_item Decision line = not (tells_branch line || (bytes_eq (json_word_of line) (codes "name") || bytes_eq (json_word_of line) (codes "rm")))
 
 -- the item that a line is
 abbrev pub item_text : Item → List ℕ → List ℕ
-item_text Branch line = codes "{\"branch\":" ++ quoted (word_of line) ++ codes ",\"fate\":" ++ quoted (rest_of line) ++ codes "}"
+item_text Branch line = codes "{\"branch\":" ++ quoted (json_word_of line) ++ codes ",\"fate\":" ++ quoted (rest_of line) ++ codes "}"
 item_text Line line = quoted line
 item_text Event line = quoted line
 item_text Name line = quoted (rest_of line)
 item_text Rm line = quoted (rest_of (rest_of line))
-item_text Decision line = codes "{\"transaction\":" ++ quoted (word_of line) ++ codes ",\"branches\":" ++ rest_of line ++ codes "}"
+item_text Decision line = codes "{\"transaction\":" ++ quoted (json_word_of line) ++ codes ",\"branches\":" ++ rest_of line ++ codes "}"
 
 -- the same, if it is one
 abbrev pub item_in : Item → List ℕ → List (List ℕ)

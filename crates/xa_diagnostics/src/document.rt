@@ -3,7 +3,7 @@
 ghost use Rattle.std.specs.Prelude.{◌≡◌, IfOk};
 ghost use Rattle.xa_diagnostics.specs.CheckJson.{kind_name};
 ghost use Rattle.toml.specs.View.{table_view};
-ghost use Rattle.xa_diagnostics.specs.Documents.{kind_in, kind_of};
+ghost use Rattle.xa_diagnostics.specs.Documents.{file_kind_of, kind_in};
 
 use std::alloc::Global;
 use toml::{Table, Value};
@@ -53,7 +53,7 @@ fn kind_in(document: &Table) -> FileKind
 /// What a text is read as: jobs, if it has the key `job` at its top and no `step`, and else a scenario, also where it is no
 /// document.
 pub fn kind_of(alloc: Global, text: &[u8]) -> Result<FileKind, Memory>
-    ensures { IfOk result (λ kind. kind ≡ kind_of text.now) }
+    ensures { IfOk result (λ kind. kind ≡ file_kind_of text.now) }
 {
     match document_of(alloc, text) {
         Ok(document) => Ok(kind_in(&document)),

@@ -10,7 +10,7 @@ use crate::syntax::explain_syntax;
 use std::alloc::Global;
 use toml::{Table, Value};
 use xa_base::Memory;
-use xa_files::{Finding, Refusal, RunFault, document_of, holds};
+use xa_files::{Finding, Misfit, RunFault, document_of, holds};
 use xa_jobs::jobs_in;
 use xa_scenario::scenario_in;
 
@@ -45,7 +45,7 @@ struct Search<'a> {
 }
 
 /// Why a document is refused, if it is.
-fn refusal_in<'a>(alloc: Global, document: &'a Table, kind: FileKind) -> Option<Refusal<'a>> {
+fn refusal_in<'a>(alloc: Global, document: &'a Table, kind: FileKind) -> Option<Misfit<'a>> {
     match kind {
         FileKind::Scenario => scenario_in(alloc, document).err(),
         FileKind::Jobs => jobs_in(alloc, document).err(),
@@ -169,12 +169,12 @@ impl Search<'_> {
     fn first_in(&mut self, document: &Table) -> Result<Option<(Option<Diagnostic>, Mend)>, Memory> {
         match refusal_in(self.alloc, document, self.kind) {
             None => Ok(None),
-            Some(Refusal::Memory) => Err(Memory),
-            Some(Refusal::Header(finding)) => {
+            Some(Misfit::Memory) => Err(Memory),
+            Some(Misfit::Header(finding)) => {
                 let (found, mend) = self.of_top(document, &finding)?;
                 Ok(Some((Some(found), mend)))
             }
-            Some(Refusal::Step(number, finding)) | Some(Refusal::Job(number, finding)) => {
+            Some(Misfit::Step(number, finding)) | Some(Misfit::Job(number, finding)) => {
                 let mend = match finding {
                     Finding::TooMany(_) => Mend::Nothing,
                     _ => Mend::Table(number),

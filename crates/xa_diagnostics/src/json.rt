@@ -4,7 +4,7 @@ ghost use Rattle.std.specs.Prelude.{◌≡◌, ◌++◌, map, IfOk, OnOk};
 ghost use Rattle.std.specs.List.{flat_map};
 ghost use Rattle.std.specs.Str.Lines.{lines};
 ghost use Rattle.std.specs.String.{string_bytes};
-ghost use Rattle.xa_diagnostics.specs.Json.{array, escaped, first_or_null, is_item, item_in, item_text, items_in, log_json, quoted, rest_of, run_json, tells_branch, word_of};
+ghost use Rattle.xa_diagnostics.specs.Json.{array, escaped, first_or_null, is_item, item_in, item_text, items_in, json_word_of, log_json, quoted, rest_of, run_json, tells_branch};
 
 use std::alloc::{AllocError, Global};
 use xa_base::Memory;
@@ -78,7 +78,7 @@ pub fn lines_of(alloc: Global, text: &str) -> Result<Vec<&str>, AllocError>
 
 /// What stands before the first space of a line, and what stands behind it.
 fn cut(line: &str) -> (&str, &str)
-    ensures word { result.0.now ≡ word_of line.now }
+    ensures word { result.0.now ≡ json_word_of line.now }
     ensures rest { result.1.now ≡ rest_of line.now }
 {
     match line.split_once(' ') {

@@ -2,7 +2,7 @@
 
 ghost use Rattle.std.specs.Prelude.{IfOk};
 ghost use Rattle.std.specs.String.{string_bytes};
-ghost use Rattle.xa_diagnostics.specs.Explanations.{Tells};
+ghost use Rattle.xa_diagnostics.specs.Explanations.{ReportsFirst};
 
 use crate::diagnostic::Diagnostic;
 use crate::document::FileKind;
@@ -68,7 +68,7 @@ pub fn report(
     is_whole: bool,
 ) -> Result<String, Memory>
     // The first line is of the fault for which the file was refused.
-    ensures told { IfOk result (λ told. Tells path.now fault (string_bytes told)) }
+    ensures told { IfOk result (λ told. ReportsFirst path.now fault (string_bytes told)) }
 {
     let found = faults_of(alloc, text, earlier, kind)?;
     let (line, column, mut reason) = of_fault(alloc, found.as_slice(), fault)?;

@@ -2,7 +2,7 @@
 
 ghost use Rattle.std.specs.Prelude.{◌≡◌, IfOk};
 ghost use Rattle.std.specs.String.{string_bytes};
-ghost use Rattle.xa_diagnostics.specs.Explanations.{fault_text, number_text, numbers_text, place_text, reason_text};
+ghost use Rattle.xa_diagnostics.specs.Explanations.{located_fault_text, number_text, numbers_text, place_text, reason_text};
 
 use std::alloc::Global;
 use xa_base::Memory;
@@ -67,7 +67,7 @@ pub fn fault_line(
     reason: &str,
 ) -> Result<String, Memory>
     ensures { IfOk result (λ told.
-        string_bytes told ≡ fault_text path.now fault line column reason.now) }
+        string_bytes told ≡ located_fault_text path.now fault line column reason.now) }
 {
     let numbers = numbers_text(alloc, line, column)?;
     let text = reason_text(alloc, fault, reason)?;

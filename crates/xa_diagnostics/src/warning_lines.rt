@@ -13,7 +13,7 @@ use crate::told::numbers_text;
 use std::alloc::Global;
 use toml::Table;
 use xa_base::{Call, Memory, Part, Side};
-use xa_files::{Refusal, RunFault, document_of};
+use xa_files::{Misfit, RunFault, document_of};
 use xa_scenario::{BranchEntry, Entry, Scenario, scenario_in};
 
 /// The most warnings of a file.
@@ -189,7 +189,7 @@ fn warnings_in(alloc: Global, path: &str, text: &[u8], document: &Table) -> Resu
             let tables = items_at(document, "step").len();
             warnings_of(alloc, path, text, &scenario, tables)
         }
-        Err(Refusal::Memory) => Err(Memory),
+        Err(Misfit::Memory) => Err(Memory),
         Err(_) => Ok(String::new(alloc)),
     }
 }

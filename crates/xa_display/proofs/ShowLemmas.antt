@@ -7,7 +7,7 @@ use Rattle.xa_base.specs.declared.state.Fate.{Fate}
 use Rattle.xa_chart.specs.Pictures.{IsPicture}
 use Rattle.xa_story.specs.Naming.{Naming, with_events}
 use Rattle.xa_story.specs.Stories.{IsSpelled, TellEvents}
-use Rattle.xa_story.specs.declared.line.Line.{Line}
+use Rattle.xa_story.specs.declared.line.StoryLine.{StoryLine}
 
 -- what follows, where a function succeeded
 pub on_ok : {A E P Q : Type 0} (r : Result A E) → OnOk r P → (P → Q) → OnOk r Q
@@ -17,11 +17,11 @@ on_ok (Err e) p f = p
 pub names_as : {k n m : Naming} {es fs : List Event} → k ≡ with_events n es → n ≡ m → es ≡ fs → k ≡ with_events m fs
 names_as {m = m} {es = es} is names events = is ∙ ap (λ x. with_events x es) names ∙ ap (with_events m) events
 
-pub told_as : {n m : Naming} {es fs : List Event} (ls : List Line) → n ≡ m → es ≡ fs → TellEvents n 1 es ls → TellEvents m 1 fs ls
+pub told_as : {n m : Naming} {es fs : List Event} (ls : List StoryLine) → n ≡ m → es ≡ fs → TellEvents n 1 es ls → TellEvents m 1 fs ls
 told_as {m = m} {es = es} ls names events told =
     subst (λ x. TellEvents m 1 x ls) events (subst (λ x. TellEvents x 1 es ls) names told)
 
-pub spelled_as : {n m : Naming} {ls ks : List Line} {fs gs : List (Xid × Fate)} (text : List ℕ) → n ≡ m → ls ≡ ks → fs ≡ gs
+pub spelled_as : {n m : Naming} {ls ks : List StoryLine} {fs gs : List (Xid × Fate)} (text : List ℕ) → n ≡ m → ls ≡ ks → fs ≡ gs
     → IsSpelled n ls fs text → IsSpelled m ks gs text
 spelled_as {m = m} {ls = ls} {ks = ks} {fs = fs} text names lines fates is =
     subst (λ x. IsSpelled m ks x text) fates (subst (λ x. IsSpelled m x fs text) lines (subst (λ x. IsSpelled x ls fs text) names is))

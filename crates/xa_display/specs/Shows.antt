@@ -7,7 +7,7 @@ use Rattle.xa_base.specs.declared.state.Fate.{Fate}
 use Rattle.xa_chart.specs.Pictures.{IsPicture}
 use Rattle.xa_display.specs.declared.picture.ChartFault.{ChartFault}
 use Rattle.xa_display.specs.declared.picture.ChartFault.TheVariants.{Run, TooLong}
-use Rattle.xa_files.specs.Reading.{Explains}
+use Rattle.xa_files.specs.Reading.{SaysOfReading}
 use Rattle.xa_files.specs.declared.fault.RunFault.{RunFault}
 use Rattle.xa_files.specs.declared.fault.RunFault.TheVariants.{Memory}
 use Rattle.xa_log.specs.Contract.{Moment}
@@ -18,8 +18,8 @@ use Rattle.xa_scenario.specs.Scenarios.{Plan, scenario_of}
 use Rattle.xa_story.specs.Stories.{IsStory}
 
 -- the most events of a picture
-abbrev pub most_events : ℕ
-most_events = 200
+abbrev pub most_drawn_events : ℕ
+most_drawn_events = 200
 
 module _ {L : Type 0} (moment : L → Moment) (log : L) (text : List ℕ) where
   -- these events are a run of the scenario in the text, over this log
@@ -49,7 +49,7 @@ module _ {L : Type 0} (moment : L → Moment) (log : L) (text : List ℕ) where
     pub events : List Event
     pub picture : List ℕ
     pub run : IsRunOfText plan origin events
-    pub few : length events ≤ most_events
+    pub few : length events ≤ most_drawn_events
     pub drawn : IsPicture plan.threads plan.rms (length events) picture
     pub writes : Appends old new picture
 
@@ -59,12 +59,12 @@ module _ {L : Type 0} (moment : L → Moment) (log : L) (text : List ℕ) where
     pub origin : Origin
     pub events : List Event
     pub run : IsRunOfText plan origin events
-    pub many : most_events < length events
+    pub many : most_drawn_events < length events
 
 -- a fault of a picture tells that the run is too long, or it is one of the run, and tells what that does of the text
 abbrev pub ExplainsPicture : ChartFault → Result Plan RunFault → Type 0
 ExplainsPicture TooLong read = IsOk read
-ExplainsPicture (Run fault) read = Explains fault read
+ExplainsPicture (Run fault) read = SaysOfReading fault read
 
 -- a text with this fault isn't drawn: that ends with the fault, unless memory ran out
 abbrev pub EndsPicture : RunFault → Result (Unit {0}) ChartFault → Type 0

@@ -3,7 +3,7 @@
 ghost use Rattle.std.specs.Prelude.{◌≡◌, ◌≢◌, Err, IfErr, IsErr, OnOk};
 ghost use Rattle.std.specs.Io.KnownBytes.{Keeps};
 ghost use Rattle.xa_display.specs.Shows.{TellsRun};
-ghost use Rattle.xa_files.specs.Reading.{EndsWith, Explains};
+ghost use Rattle.xa_files.specs.Reading.{EndsWith, SaysOfReading};
 ghost use Rattle.xa_files.specs.declared.fault.RunFault.{RunFault};
 ghost use Rattle.xa_files.specs.declared.fault.RunFault.TheVariants.{Work};
 ghost use Rattle.xa_scenario.specs.Scenarios.{scenario_of};
@@ -31,7 +31,7 @@ pub fn explain_scenario<L: DecisionLog + Drop, W: Write>(
     ensures ok { OnOk result (TellsRun L.moment log text.now (W.contents out.old)
         (W.contents out.new)) }
     // Why it ends early.
-    ensures fault { IfErr result (λ e. Explains e (scenario_of text.now)) }
+    ensures fault { IfErr result (λ e. SaysOfReading e (scenario_of text.now)) }
     ensures work { IfErr result (λ e. e ≢ Work) }
     ensures refused { (e : RunFault) → scenario_of text.now ≡ Err e → EndsWith e result }
     // A file that is no scenario writes nothing.

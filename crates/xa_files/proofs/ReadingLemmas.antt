@@ -1,12 +1,12 @@
 -- What the faults of readings and of runs have to do with one another.
 use Rattle.std.proofs.Common.{◌≡◌, ◌∙◌, ◌⊎◌, inl, inr, Result, Err, refl, sym}
-use Rattle.xa_files.specs.Reading.{Explains, Fails}
+use Rattle.xa_files.specs.Reading.{Fails, SaysOfReading}
 use Rattle.xa_files.specs.declared.fault.RunFault.{RunFault}
 use Rattle.xa_files.specs.declared.fault.RunFault.TheVariants.{NotToml, Header, Step, Job, Log, Memory, Work, Output}
 
 -- a fault of the reading, which is none of the log, the work or the output
 pub explained : {Y : Type 0} (fault : RunFault) (read : Result Y RunFault) → ¬ (read ≡ Err Log) → ¬ (read ≡ Err Work) → ¬ (read ≡ Err Output)
-    → Fails fault read → Explains fault read
+    → Fails fault read → SaysOfReading fault read
 explained NotToml read log work output is = is
 explained Header read log work output is = is
 explained (Step n) read log work output is = is

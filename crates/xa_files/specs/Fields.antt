@@ -10,8 +10,8 @@ abbrev pub ◌>>=◌ : {A B : Type 0} → Option A → (A → Option B) → Opti
 o >>= f = option_and_then f o
 
 -- whether the text is one of these
-abbrev pub is_among : List (List ℕ) → List ℕ → Bool
-is_among texts text = list_any (λ x. bytes_eq x text) texts
+abbrev pub is_text_among : List (List ℕ) → List ℕ → Bool
+is_text_among texts text = list_any (λ x. bytes_eq x text) texts
 
 -- the keys of a table
 abbrev pub keys_of : Members → List (List ℕ)
@@ -20,7 +20,7 @@ keys_of (member key value rest) = key ∷ keys_of rest
 
 -- whether the table has no other keys than these
 abbrev pub has_only : List (List ℕ) → Members → Bool
-has_only keys table = list_all (is_among keys) (keys_of table)
+has_only keys table = list_all (is_text_among keys) (keys_of table)
 
 -- the text at a key
 abbrev pub text_at : List ℕ → Members → Option (List ℕ)

@@ -6,5 +6,5 @@ pub mod Gtrids
 pub mod TablesInTurn
 pub mod Outputs
 pub mod Reading
-pub mod Refusals
+pub mod Misfits
 pub mod Words

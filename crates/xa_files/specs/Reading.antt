@@ -21,12 +21,12 @@ Gives view (Err e) read = Fails e read
 
 -- What a fault tells of the reading of the text: want of memory tells nothing; a fault of the log, of the work or of the
 -- output that it was read; and each other fault is the text's own.
-abbrev pub Explains : {Y : Type 0} → RunFault → Result Y RunFault → Type 0
-Explains Memory read = Unit {0}
-Explains Log read = IsOk read
-Explains Work read = IsOk read
-Explains Output read = IsOk read
-Explains fault read = read ≡ Err fault
+abbrev pub SaysOfReading : {Y : Type 0} → RunFault → Result Y RunFault → Type 0
+SaysOfReading Memory read = Unit {0}
+SaysOfReading Log read = IsOk read
+SaysOfReading Work read = IsOk read
+SaysOfReading Output read = IsOk read
+SaysOfReading fault read = read ≡ Err fault
 
 -- A run of a text with this fault ends with it, unless memory ran out.
 abbrev pub EndsWith : RunFault → Result (Unit {0}) RunFault → Type 0

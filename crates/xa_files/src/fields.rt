@@ -4,14 +4,14 @@ ghost use Rattle.std.specs.Prelude.{◌≡◌, map, option_map};
 ghost use Rattle.std.specs.Result.{is_ok, result_ok};
 ghost use Rattle.toml.specs.View.{view, table_view};
 ghost use Rattle.toml.specs.Data.{get_member};
-ghost use Rattle.xa_files.specs.Fields.{is_among, has_only, text_at, integer_at, number_at, index_at, holds, index_or, is_name_byte, is_name, name_at};
+ghost use Rattle.xa_files.specs.Fields.{is_text_among, has_only, text_at, integer_at, number_at, index_at, holds, index_or, is_name_byte, is_name, name_at};
 
 use crate::finding::Finding;
 use toml::{Table, Value};
 
 /// Whether the text is one of these.
 pub fn is_among(texts: &[&str], text: &str) -> bool
-    ensures { result ≡ is_among (map (λ x. x.now) texts.now) text.now }
+    ensures { result ≡ is_text_among (map (λ x. x.now) texts.now) text.now }
 {
     texts.contains(&text)
 }

@@ -8,8 +8,8 @@ mod fault;
 mod fields;
 mod finding;
 mod gtrids;
+mod misfit;
 mod output;
-mod refusal;
 mod words;
 
 pub use document::{document_of, size_at, tables_at};
@@ -21,6 +21,6 @@ pub use fields::{
 };
 pub use finding::Finding;
 pub use gtrids::gtrid_text;
+pub use misfit::Misfit;
 pub use output::{write_text, write_unflushed};
-pub use refusal::Refusal;
 pub use words::{call_named, flag_named, vote_named};

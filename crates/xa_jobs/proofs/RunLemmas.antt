@@ -1,10 +1,10 @@
 -- Why a run ended.
 use Rattle.std.proofs.Common.{◌≡◌, ◌≢◌, ◌∙◌, List, ℕ, Option, Result, Ok, Err, IfErr, IfOk, OnOk, ap, refl, sym, subst}
 use Rattle.xa_files.proofs.ReadingLemmas.{explained as explained_by_text}
-use Rattle.xa_files.specs.Reading.{Explains, Fails}
+use Rattle.xa_files.specs.Reading.{Fails, SaysOfReading}
 use Rattle.xa_files.specs.declared.fault.RunFault.{RunFault}
 use Rattle.xa_files.specs.declared.fault.RunFault.TheVariants.{NotToml, Header, Step, Job, Log, Memory, Work, Output}
-use Rattle.xa_jobs.specs.JobFiles.{Plan, jobs_of, plan_of}
+use Rattle.xa_jobs.specs.JobFiles.{JobPlan, job_plan_of, jobs_of}
 use Rattle.xa_jobs.specs.JobRuns.{Begins, BeginsEnds, IsRunFault, IsWorkFault, RunsFile, RunsJobs, run_fault_of}
 use Rattle.xa_log.specs.declared.decision_log.DecisionLog as DecisionLog
 use Rattle.xa_workers.specs.declared.fault.WorkFault.{WorkFault}
@@ -15,7 +15,7 @@ use Rattle.xa_jobs.proofs.TextFaults as texts
 
 -- ** a fault of the reading
 
-pub explains : (fault : RunFault) (text : List ℕ) → Fails fault (jobs_of text) → Explains fault (jobs_of text)
+pub explains : (fault : RunFault) (text : List ℕ) → Fails fault (jobs_of text) → SaysOfReading fault (jobs_of text)
 explains fault text =
     explained_by_text fault (jobs_of text) (texts.not_of_log text) (texts.not_of_work text) (texts.not_of_output text)
 
@@ -50,7 +50,7 @@ work_is_run Output is = elim is [ ]
 pub not_output : (fault : RunFault) → IsWorkFault fault → fault ≡ Output → ⊥
 not_output fault is e = subst IsWorkFault e is
 
-explained : (plan : Plan) (fault : RunFault) → IsRunFault fault → Explains fault (Ok plan)
+explained : (plan : JobPlan) (fault : RunFault) → IsRunFault fault → SaysOfReading fault (Ok plan)
 explained plan Log is = refl
 explained plan Memory is = tt
 explained plan Work is = refl
@@ -60,30 +60,30 @@ explained plan Header is = elim is [ ]
 explained plan (Step n) is = elim is [ ]
 explained plan (Job n) is = elim is [ ]
 
-explained_by : {A : Type 0} (plan : Plan) (result : Result A RunFault) → IfErr result IsRunFault
-    → IfErr result (λ e. Explains e (Ok plan))
+explained_by : {A : Type 0} (plan : JobPlan) (result : Result A RunFault) → IfErr result IsRunFault
+    → IfErr result (λ e. SaysOfReading e (Ok plan))
 explained_by plan (Ok done) is = tt
 explained_by plan (Err e) is = explained plan e is
 
 -- a file that was read has faults of the run only
-pub run_explains : {A : Type 0} (plan : Plan) (read : Result Plan RunFault) (result : Result A RunFault) → read ≡ Ok plan
-    → IfErr result IsRunFault → IfErr result (λ e. Explains e read)
+pub run_explains : {A : Type 0} (plan : JobPlan) (read : Result JobPlan RunFault) (result : Result A RunFault) → read ≡ Ok plan
+    → IfErr result IsRunFault → IfErr result (λ e. SaysOfReading e read)
 run_explains plan read result is faults =
-    subst (λ (r : Result Plan RunFault). IfErr result (λ e. Explains e r)) (sym is) (explained_by plan result faults)
+    subst (λ (r : Result JobPlan RunFault). IfErr result (λ e. SaysOfReading e r)) (sym is) (explained_by plan result faults)
 
 -- and none of its own
-pub no_fault : (plan : Plan) (read : Result Plan RunFault) (fault : RunFault) → read ≡ Ok plan → read ≡ Err fault → ⊥
-no_fault plan read fault is other = let e : ◌≡◌ {A = Result Plan RunFault} (Ok plan) (Err fault) = sym is ∙ other in cc
+pub no_fault : (plan : JobPlan) (read : Result JobPlan RunFault) (fault : RunFault) → read ≡ Ok plan → read ≡ Err fault → ⊥
+no_fault plan read fault is other = let e : ◌≡◌ {A = Result JobPlan RunFault} (Ok plan) (Err fault) = sym is ∙ other in cc
 
 -- ** what was written
 
 pub file_run : {L : Type 0} (g : DecisionLog.Ghosts L) (text : List ℕ) (jobs : Jobs) (old new : Option (List ℕ)) (first : L)
-    (result : Result L RunFault) → jobs_of text ≡ Ok (plan_of jobs)
+    (result : Result L RunFault) → jobs_of text ≡ Ok (job_plan_of jobs)
     → IfOk result (RunsJobs g jobs old new first) → IfOk result (RunsFile g text old new first)
 file_run g text jobs old new first (Ok log) reads runs = record { jobs = jobs; reads = reads; runs = runs }
 file_run g text jobs old new first (Err e) reads runs = tt
 
-pub ends_begun : (text : List ℕ) (plan : Plan) (old new : Option (List ℕ)) → jobs_of text ≡ Ok plan
+pub ends_begun : (text : List ℕ) (plan : JobPlan) (old new : Option (List ℕ)) → jobs_of text ≡ Ok plan
     → BeginsEnds plan old new → Begins text old new
 ends_begun text plan old new reads lines = record { plan = plan; reads = reads; lines = lines }
 

@@ -5,8 +5,8 @@ use Rattle.xa_files.specs.Documents.{document_of}
 use Rattle.xa_files.specs.Reading.{◌>>=◌}
 use Rattle.xa_files.specs.declared.fault.RunFault.{RunFault}
 use Rattle.xa_files.specs.declared.fault.RunFault.TheVariants.{Header, Job, Log, Work, Output}
-use Rattle.xa_jobs.specs.Headers.{header_at, header_of}
-use Rattle.xa_jobs.specs.JobFiles.{Plan, Votes, job_at, jobs_from, jobs_in, jobs_of}
+use Rattle.xa_jobs.specs.Headers.{jobs_header_at, jobs_header_of}
+use Rattle.xa_jobs.specs.JobFiles.{JobPlan, Votes, job_at, jobs_from, jobs_in, jobs_of}
 use Rattle.xa_files.specs.TablesInTurn.{IsTextFault, FaultsAreOfTexts}
 use Rattle.xa_files.proofs.TablesInTurnLemmas.{ok_not_err}
 use Rattle.xa_files.proofs.TextFaults.{document_fault, in_turn, missing, no_text_fault}
@@ -25,7 +25,7 @@ jobs_fault rms items fault is =
 abbrev Top : Type 0
 Top = ℕ × ℕ × Bool × Items
 
-abbrev plan_with : Top → List Votes → Plan
+abbrev plan_with : Top → List Votes → JobPlan
 plan_with h votes = record { threads = h.0; rms = h.1; sweep = h.2; votes = votes }
 
 -- the faults from the jobs on, and from the header on
@@ -36,16 +36,16 @@ jobs_turn h fault is =
     (λ votes no. absurd (ok_not_err _ fault no)) is
 
 header_turn : (document : Members) (fault : RunFault)
-    → (header_of document >>= λ h. jobs_from h.1 1 h.3 >>= λ votes. Ok (plan_with h votes)) ≡ Err fault
+    → (jobs_header_of document >>= λ h. jobs_from h.1 1 h.3 >>= λ votes. Ok (plan_with h votes)) ≡ Err fault
     → IsTextFault Job fault
 header_turn document fault is =
-    in_turn Job (header_of document) (λ h. jobs_from h.1 1 h.3 >>= λ votes. Ok (plan_with h votes)) fault
-    (λ e no. missing Job (header_at document) Header e (inr (inl refl)) no) (λ h rest. jobs_turn h fault rest) is
+    in_turn Job (jobs_header_of document) (λ h. jobs_from h.1 1 h.3 >>= λ votes. Ok (plan_with h votes)) fault
+    (λ e no. missing Job (jobs_header_at document) Header e (inr (inl refl)) no) (λ h rest. jobs_turn h fault rest) is
 
 pub faults_are_of_texts : FaultsAreOfTexts Job jobs_of
 unfolding jobs_of jobs_in
 faults_are_of_texts text fault is =
-    in_turn Job (document_of text) (λ d. header_of d >>= λ h. jobs_from h.1 1 h.3 >>= λ votes. Ok (plan_with h votes)) fault
+    in_turn Job (document_of text) (λ d. jobs_header_of d >>= λ h. jobs_from h.1 1 h.3 >>= λ votes. Ok (plan_with h votes)) fault
     (document_fault Job text) (λ d rest. header_turn d fault rest) is
 
 -- a text has no fault of the log, of the work or of the output

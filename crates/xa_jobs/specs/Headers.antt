@@ -17,8 +17,8 @@ abbrev pub header_keys : List (List ℕ)
 header_keys = codes "threads" ∷ codes "rms" ∷ codes "sweep" ∷ codes "job" ∷ []
 
 -- the numbers of threads and of resource managers, 1 to 8 each, whether a recovery sweeps, and the tables of the jobs
-unfoldable pub header_at : Members → Option (ℕ × ℕ × Bool × Items)
-header_at document = if has_only header_keys document then (do
+unfoldable pub jobs_header_at : Members → Option (ℕ × ℕ × Bool × Items)
+jobs_header_at document = if has_only header_keys document then (do
   threads ← size_at 8 (codes "threads") document
   rms ← size_at 8 (codes "rms") document
   sweep ← sweep_at document
@@ -26,5 +26,5 @@ header_at document = if has_only header_keys document then (do
   Some (threads, rms, sweep, jobs)) else None
 
 -- the same, with its fault
-abbrev pub header_of : Members → Result (ℕ × ℕ × Bool × Items) RunFault
-header_of document = ok_or (header_at document) Header
+abbrev pub jobs_header_of : Members → Result (ℕ × ℕ × Bool × Items) RunFault
+jobs_header_of document = ok_or (jobs_header_at document) Header

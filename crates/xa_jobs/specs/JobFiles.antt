@@ -12,7 +12,7 @@ use Rattle.xa_files.specs.Reading.{◌>>=◌}
 use Rattle.xa_files.specs.declared.fault.RunFault.{RunFault}
 use Rattle.xa_files.specs.declared.fault.RunFault.TheVariants.{Job}
 use Rattle.xa_workers.specs.declared.limits.TheConstants.{JOB_LIMIT}
-use Rattle.xa_jobs.specs.Headers.{header_of}
+use Rattle.xa_jobs.specs.Headers.{jobs_header_of}
 use Rattle.xa_files.specs.Words.{vote_named}
 use Rattle.xa_workers.specs.declared.jobs.Jobs.{Jobs}
 
@@ -21,7 +21,7 @@ abbrev pub Votes : Type 0
 Votes = List (Option Vote)
 
 -- how many threads and resource managers there are, whether a recovery sweeps, and the votes of each job
-pub record Plan : Type 0 where
+pub record JobPlan : Type 0 where
   pub threads : ℕ
   pub rms : ℕ
   pub sweep : Bool
@@ -31,16 +31,16 @@ pub record Plan : Type 0 where
 abbrev pub rows_in : List (Vec (Option Vote)) → List Votes
 rows_in rows = map (λ row. row.items) rows
 
-abbrev pub plan_of : Jobs → Plan
-plan_of jobs = record { threads = jobs.threads; rms = jobs.rms; sweep = jobs.sweep; votes = rows_in jobs.votes.items }
+abbrev pub job_plan_of : Jobs → JobPlan
+job_plan_of jobs = record { threads = jobs.threads; rms = jobs.rms; sweep = jobs.sweep; votes = rows_in jobs.votes.items }
 
 -- what a word says of a branch: `none` that the job has none, another how it votes
-unfoldable pub branch_named : List ℕ → Option (Option Vote)
-branch_named word = if bytes_eq word (codes "none") then Some None else option_map Some (vote_named word)
+unfoldable pub branch_vote_named : List ℕ → Option (Option Vote)
+branch_vote_named word = if bytes_eq word (codes "none") then Some None else option_map Some (vote_named word)
 
 -- the same of an item
 unfoldable pub vote_in : Data → Option (Option Vote)
-vote_in value = option_and_then branch_named (as_str value)
+vote_in value = option_and_then branch_vote_named (as_str value)
 
 -- the votes that the items name, if each names one
 unfoldable pub votes_in : Items → Option Votes
@@ -53,8 +53,8 @@ abbrev pub if_number : ℕ → Votes → Option Votes
 if_number rms votes = if length votes == rms then Some votes else None
 
 -- the votes that the items name, of which there is one or none for each resource manager
-abbrev pub row_in : (rms : ℕ) → Items → Option Votes
-row_in rms items = option_and_then (if_number rms) (votes_in items)
+abbrev pub job_row_in : (rms : ℕ) → Items → Option Votes
+job_row_in rms items = option_and_then (if_number rms) (votes_in items)
 
 -- the items of the votes of a job's table, which has no other key
 unfoldable pub items_in_table : Members → Option Items
@@ -67,7 +67,7 @@ items_at number value = if nat_lt JOB_LIMIT number then None else option_and_the
 
 -- the votes of the job of a number
 abbrev pub job_at : (rms number : ℕ) → Data → Result Votes RunFault
-job_at rms number value = ok_or (option_and_then (row_in rms) (items_at number value)) (Job number)
+job_at rms number value = ok_or (option_and_then (job_row_in rms) (items_at number value)) (Job number)
 
 -- the votes of the jobs in turn, or the first faulty one; the first has this number
 unfoldable pub jobs_from : (rms number : ℕ) → Items → Result (List Votes) RunFault
@@ -78,12 +78,12 @@ jobs_from rms number (item value items) = do
   Ok (votes ∷ others)
 
 -- the jobs that a document asks for, or the first fault
-unfoldable pub jobs_in : Members → Result Plan RunFault
+unfoldable pub jobs_in : Members → Result JobPlan RunFault
 jobs_in document = do
-  header ← header_of document
+  header ← jobs_header_of document
   votes ← jobs_from header.1 1 header.3
   Ok (record { threads = header.0; rms = header.1; sweep = header.2; votes = votes })
 
 -- the same of a text
-unfoldable pub jobs_of : List ℕ → Result Plan RunFault
+unfoldable pub jobs_of : List ℕ → Result JobPlan RunFault
 jobs_of text = document_of text >>= jobs_in

@@ -5,7 +5,7 @@ use Rattle.xa_base.specs.declared.step.Outcome.{Outcome}
 use Rattle.xa_files.specs.Outputs.{AppendsBeginning}
 use Rattle.xa_files.specs.declared.fault.RunFault.{RunFault}
 use Rattle.xa_files.specs.declared.fault.RunFault.TheVariants.{Log, Memory, Work, Output}
-use Rattle.xa_jobs.specs.JobFiles.{Plan, jobs_of, plan_of}
+use Rattle.xa_jobs.specs.JobFiles.{JobPlan, job_plan_of, jobs_of}
 use Rattle.xa_jobs.specs.Lines.{end_lines}
 use Rattle.xa_log.specs.declared.decision_log.DecisionLog as DecisionLog
 use Rattle.xa_workers.specs.Jobs.{MayAllEnd, planned_end}
@@ -15,12 +15,12 @@ use Rattle.xa_workers.specs.declared.fault.WorkFault.TheVariants as work
 use Rattle.xa_workers.specs.declared.jobs.Jobs.{Jobs}
 
 -- how the jobs end by their votes alone
-abbrev pub planned_ends : Plan → List Outcome
+abbrev pub planned_ends : JobPlan → List Outcome
 planned_ends plan = map planned_end plan.votes
 
 -- Each job ended as its votes say. Only where a recovery sweeps the jobs may one that would have committed be rolled
 -- back.
-pub record AreEnds (plan : Plan) (ends : List Outcome) : Type 0 where
+pub record AreEnds (plan : JobPlan) (ends : List Outcome) : Type 0 where
   pub number : length ends ≡ length plan.votes
   pub each : MayAllEnd plan.sweep (planned_ends plan) ends
   pub plain : plan.sweep ≡ false → ends ≡ planned_ends plan
@@ -30,13 +30,13 @@ pub record AreEnds (plan : Plan) (ends : List Outcome) : Type 0 where
 pub record RunsJobs {L : Type 0} (g : DecisionLog.Ghosts L) (jobs : Jobs) (old new : Option (List ℕ)) (first log : L)
     : Type 0 where
   pub ends : List Outcome
-  pub allowed : AreEnds (plan_of jobs) ends
+  pub allowed : AreEnds (job_plan_of jobs) ends
   pub writes : Appends old new (end_lines ends)
   pub incarnation : ℕ
   pub logs : Logs g incarnation (rows_of_jobs jobs incarnation ends) first log
 
 -- What was written is a beginning of lines of ends that the jobs may have.
-pub record BeginsEnds (plan : Plan) (old new : Option (List ℕ)) : Type 0 where
+pub record BeginsEnds (plan : JobPlan) (old new : Option (List ℕ)) : Type 0 where
   pub ends : List Outcome
   pub allowed : AreEnds plan ends
   pub begins : AppendsBeginning old new (end_lines ends)
@@ -45,12 +45,12 @@ pub record BeginsEnds (plan : Plan) (old new : Option (List ℕ)) : Type 0 where
 pub record RunsFile {L : Type 0} (g : DecisionLog.Ghosts L) (text : List ℕ) (old new : Option (List ℕ)) (first log : L)
     : Type 0 where
   pub jobs : Jobs
-  pub reads : jobs_of text ≡ Ok (plan_of jobs)
+  pub reads : jobs_of text ≡ Ok (job_plan_of jobs)
   pub runs : RunsJobs g jobs old new first log
 
 -- The text is a jobs file, and what was written is a beginning of such lines.
 pub record Begins (text : List ℕ) (old new : Option (List ℕ)) : Type 0 where
-  pub plan : Plan
+  pub plan : JobPlan
   pub reads : jobs_of text ≡ Ok plan
   pub lines : BeginsEnds plan old new
 

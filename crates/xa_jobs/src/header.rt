@@ -3,11 +3,11 @@
 ghost use Rattle.std.specs.Prelude.{◌≡◌, ◌≤◌, ◌<◌, IfOk, option_map};
 ghost use Rattle.std.specs.Result.{result_ok};
 ghost use Rattle.toml.specs.View.{items_view, table_view};
-ghost use Rattle.xa_files.specs.Refusals.{Reads};
-ghost use Rattle.xa_jobs.specs.Headers.{header_at, header_of, sweep_at};
+ghost use Rattle.xa_files.specs.Misfits.{ReadsDocument};
+ghost use Rattle.xa_jobs.specs.Headers.{jobs_header_at, jobs_header_of, sweep_at};
 
 use toml::{Table, Value};
-use xa_files::{Finding, Refusal, only_keys, size_at, tables_at, value_at};
+use xa_files::{Finding, Misfit, only_keys, size_at, tables_at, value_at};
 
 /// The most threads, and the most resource managers.
 const MAX_SIZE: u32 = 8;
@@ -27,10 +27,10 @@ fn sweep_at(document: &Table) -> Result<bool, Finding<'_>>
 }
 
 /// The top of a document: the threads, the resource managers, whether a recovery sweeps, and the tables of the jobs.
-#[tactic(auto, unfolding(crate::specs::Headers::header_at))]
+#[tactic(auto, unfolding(crate::specs::Headers::jobs_header_at))]
 fn header_at(document: &Table) -> Result<(u32, u32, bool, &[Value]), Finding<'_>>
     ensures header { option_map (λ h. (h.0, h.1, h.2, items_view h.3.now)) (result_ok result)
-        ≡ header_at (table_view document.now) }
+        ≡ jobs_header_at (table_view document.now) }
     ensures sizes { IfOk result (λ h. (0 < h.0) × (h.0 ≤ 8) × (0 < h.1) × (h.1 ≤ 8)) }
 {
     let of = "the top of a jobs file";
@@ -43,13 +43,13 @@ fn header_at(document: &Table) -> Result<(u32, u32, bool, &[Value]), Finding<'_>
 }
 
 /// The same, with where it is wrong.
-pub(crate) fn header_of(document: &Table) -> Result<(u32, u32, bool, &[Value]), Refusal<'_>>
-    ensures header { Reads (λ h. (h.0, h.1, h.2, items_view h.3.now)) result
-        (header_of (table_view document.now)) }
+pub(crate) fn header_of(document: &Table) -> Result<(u32, u32, bool, &[Value]), Misfit<'_>>
+    ensures header { ReadsDocument (λ h. (h.0, h.1, h.2, items_view h.3.now)) result
+        (jobs_header_of (table_view document.now)) }
     ensures sizes { IfOk result (λ h. (0 < h.0) × (h.0 ≤ 8) × (0 < h.1) × (h.1 ≤ 8)) }
 {
     match header_at(document) {
         Ok(header) => Ok(header),
-        Err(finding) => Err(Refusal::Header(finding)),
+        Err(finding) => Err(Misfit::Header(finding)),
     }
 }

@@ -5,28 +5,28 @@ ghost use Rattle.std.specs.Option.{ok_or};
 ghost use Rattle.std.specs.Result.{result_ok};
 ghost use Rattle.toml.specs.View.{items_view, table_view, view};
 ghost use Rattle.xa_files.specs.Reading.{Gives};
-ghost use Rattle.xa_files.specs.Refusals.{Reads};
-ghost use Rattle.xa_jobs.specs.JobFiles.{vote_in, branch_named, items_at, items_in_table, job_at, jobs_from, jobs_in, jobs_of};
-ghost use Rattle.xa_jobs.specs.JobFiles.{plan_of, row_in, rows_in, votes_in};
+ghost use Rattle.xa_files.specs.Misfits.{ReadsDocument};
+ghost use Rattle.xa_jobs.specs.JobFiles.{vote_in, branch_vote_named, items_at, items_in_table, job_at, jobs_from, jobs_in, jobs_of};
+ghost use Rattle.xa_jobs.specs.JobFiles.{job_plan_of, job_row_in, rows_in, votes_in};
 ghost use Rattle.xa_files.specs.TablesInTurn.{EachIsRead, FaultsAreOfTexts, FirstIsFaulty};
 ghost use Rattle.xa_files.specs.declared.fault.RunFault.TheVariants.{Job};
-ghost use Rattle.xa_jobs.specs.JobTables.{asked_at};
+ghost use Rattle.xa_jobs.specs.JobTables.{job_asked_at};
 ghost use Rattle.xa_workers.specs.Jobs.{IsRunnable};
 
 use crate::header::header_of;
 use std::alloc::Global;
 use toml::{Table, Value};
 use xa_base::Vote;
-use xa_files::{Finding, Refusal, RunFault, document_of, only_keys, value_at, vote_named};
+use xa_files::{Finding, Misfit, RunFault, document_of, only_keys, value_at, vote_named};
 use xa_workers::{JOB_LIMIT, Jobs};
 
 /// The votes of a job, one or none for each resource manager.
 type Row = Vec<Option<Vote>>;
 
 /// What a word says of a branch: `none` that the job has none, another how it votes.
-#[tactic(auto, unfolding(crate::specs::JobFiles::branch_named))]
+#[tactic(auto, unfolding(crate::specs::JobFiles::branch_vote_named))]
 fn branch_named(word: &str) -> Option<Option<Vote>>
-    ensures { result ≡ branch_named word.now }
+    ensures { result ≡ branch_vote_named word.now }
 {
     match word {
         "none" => Some(None),
@@ -46,29 +46,24 @@ fn branch_in(value: &Value) -> Result<Option<Vote>, Finding<'_>>
 }
 
 /// The votes that the items of the job of a number name, if each names one.
-fn votes_of<'a>(alloc: Global, number: usize, items: &'a [Value]) -> Result<Row, Refusal<'a>>
-    ensures { Reads (λ votes. votes.items) result
+fn votes_of<'a>(alloc: Global, number: usize, items: &'a [Value]) -> Result<Row, Misfit<'a>>
+    ensures { ReadsDocument (λ votes. votes.items) result
         (ok_or (votes_in (items_view items.now)) (Job number)) }
 {
     let mut votes = Vec::new(alloc);
     for value in items {
         match branch_in(value) {
             Ok(vote) => votes.push(vote)?,
-            Err(finding) => return Err(Refusal::Job(number, finding)),
+            Err(finding) => return Err(Misfit::Job(number, finding)),
         }
     }
     Ok(votes)
 }
 
 /// The same, if there is one or none for each resource manager.
-fn row_of<'a>(
-    alloc: Global,
-    rms: u32,
-    number: usize,
-    items: &'a [Value],
-) -> Result<Row, Refusal<'a>>
-    ensures row { Reads (λ votes. votes.items) result
-        (ok_or (row_in rms (items_view items.now)) (Job number)) }
+fn row_of<'a>(alloc: Global, rms: u32, number: usize, items: &'a [Value]) -> Result<Row, Misfit<'a>>
+    ensures row { ReadsDocument (λ votes. votes.items) result
+        (ok_or (job_row_in rms (items_view items.now)) (Job number)) }
     ensures number { IfOk result (λ votes. vec_len votes ≡ rms) }
 {
     let row = votes_of(alloc, number, items)?;
@@ -76,7 +71,7 @@ fn row_of<'a>(
     if votes == rms as usize {
         Ok(row)
     } else {
-        Err(Refusal::Job(number, Finding::VoteForEach { votes, rms }))
+        Err(Misfit::Job(number, Finding::VoteForEach { votes, rms }))
     }
 }
 
@@ -114,20 +109,20 @@ fn items_at(number: usize, value: &Value) -> Result<&[Value], Finding<'_>>
 }
 
 /// The votes of the job of a number.
-fn job_at<'a>(alloc: Global, rms: u32, number: usize, value: &'a Value) -> Result<Row, Refusal<'a>>
-    ensures job { Reads (λ votes. votes.items) result (job_at rms number (view value.now)) }
+fn job_at<'a>(alloc: Global, rms: u32, number: usize, value: &'a Value) -> Result<Row, Misfit<'a>>
+    ensures job { ReadsDocument (λ votes. votes.items) result (job_at rms number (view value.now)) }
     ensures few { IfOk result (λ _. number ≤ JOB_LIMIT) }
     ensures number { IfOk result (λ votes. vec_len votes ≡ rms) }
 {
     match items_at(number, value) {
         Ok(items) => row_of(alloc, rms, number, items),
-        Err(finding) => Err(Refusal::Job(number, finding)),
+        Err(finding) => Err(Misfit::Job(number, finding)),
     }
 }
 
 /// The votes of all jobs.
-fn rows_of<'a>(alloc: Global, rms: u32, items: &'a [Value]) -> Result<Vec<Row>, Refusal<'a>>
-    ensures jobs { Reads (λ jobs. rows_in jobs.items) result
+fn rows_of<'a>(alloc: Global, rms: u32, items: &'a [Value]) -> Result<Vec<Row>, Misfit<'a>>
+    ensures jobs { ReadsDocument (λ jobs. rows_in jobs.items) result
         (jobs_from rms 1 (items_view items.now)) }
     ensures few { IfOk result (λ jobs. vec_len jobs ≤ JOB_LIMIT) }
     ensures rows { IfOk result (λ jobs. All (λ votes. vec_len votes ≡ rms) jobs.items) }
@@ -141,8 +136,8 @@ fn rows_of<'a>(alloc: Global, rms: u32, items: &'a [Value]) -> Result<Vec<Row>, 
 
 /// Reads a document as jobs, which can be run, or tells where it is wrong, and what is wrong there.
 #[tactic(auto, unfolding(crate::specs::JobFiles::jobs_in))]
-pub fn jobs_in<'a>(alloc: Global, document: &'a Table) -> Result<Jobs, Refusal<'a>>
-    ensures read { Reads plan_of result (jobs_in (table_view document.now)) }
+pub fn jobs_in<'a>(alloc: Global, document: &'a Table) -> Result<Jobs, Misfit<'a>>
+    ensures read { ReadsDocument job_plan_of result (jobs_in (table_view document.now)) }
     ensures runnable { IfOk result (λ jobs. IsRunnable jobs) }
 {
     let (threads, rms, sweep, items) = header_of(document)?;
@@ -160,7 +155,7 @@ pub fn jobs_in<'a>(alloc: Global, document: &'a Table) -> Result<Jobs, Refusal<'
 /// The fault is NotToml, Header or Job, whichever is found first in this order, or Memory where a request was refused.
 #[tactic(auto, unfolding(crate::specs::JobFiles::jobs_of))]
 pub fn read_jobs(alloc: Global, text: &[u8]) -> Result<Jobs, RunFault>
-    ensures read { Gives plan_of result (jobs_of text.now) }
+    ensures read { Gives job_plan_of result (jobs_of text.now) }
     ensures runnable { IfOk result (λ jobs. IsRunnable jobs) }
 {
     let document = document_of(alloc, text)?;
@@ -170,8 +165,8 @@ pub fn read_jobs(alloc: Global, text: &[u8]) -> Result<Jobs, RunFault>
 
 /// The tables are read each by itself, and a fault is the first one.
 pub fn tables_are_read_in_turn()
-    ensures each_is_read { (rms : ℕ) → EachIsRead (asked_at rms) (jobs_from rms 1) }
-    ensures first_is_faulty { (rms : ℕ) → FirstIsFaulty (asked_at rms) (jobs_from rms 1) }
+    ensures each_is_read { (rms : ℕ) → EachIsRead (job_asked_at rms) (jobs_from rms 1) }
+    ensures first_is_faulty { (rms : ℕ) → FirstIsFaulty (job_asked_at rms) (jobs_from rms 1) }
 {}
 
 /// A text has no other faults than these: it is no TOML, its header is faulty, or a job.

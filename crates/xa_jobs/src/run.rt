@@ -2,10 +2,10 @@
 
 ghost use Rattle.std.specs.Prelude.{◌≡◌, ◌≢◌, ◌⊎◌, Err, IfErr, IfOk, IsErr, IsErrAnd, Ok, OnOk};
 ghost use Rattle.std.specs.Io.KnownBytes.{Keeps};
-ghost use Rattle.xa_files.specs.Reading.{Explains};
+ghost use Rattle.xa_files.specs.Reading.{SaysOfReading};
 ghost use Rattle.xa_files.specs.declared.fault.RunFault.{RunFault};
 ghost use Rattle.xa_files.specs.declared.fault.RunFault.TheVariants.{Log, Memory, Output, Work};
-ghost use Rattle.xa_jobs.specs.JobFiles.{jobs_of, plan_of};
+ghost use Rattle.xa_jobs.specs.JobFiles.{job_plan_of, jobs_of};
 ghost use Rattle.xa_jobs.specs.JobRuns.{AreEnds, Begins, BeginsEnds, RunsFile, RunsJobs};
 ghost use Rattle.xa_jobs.specs.JobRuns.{IsRunFault, IsWorkFault, run_fault_of};
 ghost use Rattle.xa_workers.specs.Jobs.{IsRunnable};
@@ -62,7 +62,7 @@ fn outcomes_of_run<R: Threads + Wait + Clock + Sync, L: DecisionLog + Drop>(
     log: L,
 ) -> Result<Outcomes<L>, RunFault>
     requires { IsRunnable jobs.now }
-    ensures ends { IfOk result (λ done. AreEnds (plan_of jobs.now) done.ends.items) }
+    ensures ends { IfOk result (λ done. AreEnds (job_plan_of jobs.now) done.ends.items) }
     ensures outcome { IfOk result (IsOutcomeOf L.DecisionLog jobs.now log) }
     ensures can_begin { result ≢ Err Log → CanBegin L.DecisionLog log }
     ensures fault { IfErr result IsWorkFault }
@@ -82,7 +82,7 @@ fn run_and_print<R: Threads + Wait + Clock + Sync, L: DecisionLog + Drop, W: Wri
     ensures ends { IfOk result (RunsJobs L.DecisionLog jobs.now (W.contents out.old)
         (W.contents out.new) log) }
     ensures begun { IfErr result (λ e. e ≡ Output →
-        BeginsEnds (plan_of jobs.now) (W.contents out.old) (W.contents out.new)) }
+        BeginsEnds (job_plan_of jobs.now) (W.contents out.old) (W.contents out.new)) }
     ensures kept { IfErr result (λ e. e ≢ Output
         → Keeps (W.contents out.old) (W.contents out.new)) }
     ensures can_begin { result ≢ Err Log → CanBegin L.DecisionLog log }
@@ -114,7 +114,7 @@ pub fn run_job_file<R: Threads + Wait + Clock + Sync, L: DecisionLog + Drop, W: 
 ) -> Result<L, RunFault>
     ensures ok { IfOk result (RunsFile L.DecisionLog text.now (W.contents out.old)
         (W.contents out.new) log) }
-    ensures fault { IfErr result (λ e. Explains e (jobs_of text.now)) }
+    ensures fault { IfErr result (λ e. SaysOfReading e (jobs_of text.now)) }
     ensures refused { (e : RunFault) → jobs_of text.now ≡ Err e →
         IsErrAnd result (λ found. (found ≡ e) ⊎ (found ≡ Memory)) }
     // A log over which no run can begin is told as Log, unless the file is refused or can't be read for want of memory.

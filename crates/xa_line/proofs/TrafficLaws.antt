@@ -11,7 +11,7 @@ use Rattle.xa_base.specs.Xid.{Xid}
 use Rattle.xa_base.specs.declared.answer.Answer.{Answer}
 use Rattle.xa_base.specs.declared.call.Call.{Call}
 use Rattle.xa_line.specs.Histories.{AreAnsweredAs, AreKnownAs, LineStands, known, known_answered}
-use Rattle.xa_line.specs.Traffic.{Traffic, answered, heard, issued, no_traffic, taken}
+use Rattle.xa_line.specs.Traffic.{Traffic, answered, answers_heard, calls_issued, calls_taken, no_traffic}
 
 -- ** lists that are seen through a function that may fail
 
@@ -38,30 +38,31 @@ module _ {A B : Type 0} (f : A → Option B) where
 
 module _ (tr : Trace) (l : Line) (t : Traffic) (stands : LineStands tr l t) where
   -- as many calls were taken as in the history
-  as_many_taken : length (facts.taken tr l) ≡ length (taken t)
+  as_many_taken : length (facts.taken tr l) ≡ length (calls_taken t)
   as_many_taken = sym (same_length known_answered (answered t) (facts.taken tr l) stands.all_answered)
       ∙ sym (ap length stands.each_answered ∙ length-map (answered t) (λ p. p.0))
 
-  as_many_heard : length (facts.heard tr l) ≡ length (heard t)
-  as_many_heard = sym (same_length known_answered (heard t) (facts.heard tr l) stands.all_heard)
+  as_many_heard : length (facts.heard tr l) ≡ length (answers_heard t)
+  as_many_heard = sym (same_length known_answered (answers_heard t) (facts.heard tr l) stands.all_heard)
 
   pub next_call_waits : option_map known (slice_get t.calls.waiting 0) ≡ option_map Some (facts.next_call tr l)
-  next_call_waits = seen_behind known (taken t) t.calls.waiting (facts.issued tr l) (length (facts.taken tr l)) stands.all_issued as_many_taken
+  next_call_waits = seen_behind known (calls_taken t) t.calls.waiting (facts.issued tr l) (length (facts.taken tr l)) stands.all_issued as_many_taken
 
   pub next_answer_waits : option_map known_answered (slice_get t.answers.waiting 0) ≡ option_map Some (facts.next_answer tr l)
-  next_answer_waits = seen_behind known_answered (heard t) t.answers.waiting (facts.taken tr l) (length (facts.heard tr l)) stands.all_answered as_many_heard
+  next_answer_waits = seen_behind known_answered (answers_heard t) t.answers.waiting (facts.taken tr l) (length (facts.heard tr l)) stands.all_answered
+      as_many_heard
 
   pub as_many_calls : length t.calls.waiting ≡ waiting tr l
   as_many_calls =
-      let all = same_length known (issued t) (facts.issued tr l) stands.all_issued in
+      let all = same_length known (calls_issued t) (facts.issued tr l) stands.all_issued in
       let gone = as_many_taken in
-      omega (arith, length-append (taken t) t.calls.waiting)
+      omega (arith, length-append (calls_taken t) t.calls.waiting)
 
   pub as_many_answers : length t.answers.waiting ≡ unheard tr l
   as_many_answers =
       let all = same_length known_answered (answered t) (facts.taken tr l) stands.all_answered in
       let gone = as_many_heard in
-      omega (arith, length-append (heard t) t.answers.waiting)
+      omega (arith, length-append (answers_heard t) t.answers.waiting)
 
 -- ** one happening more
 
@@ -77,14 +78,15 @@ line_renewed tr e l b = record {
 -- one that doesn't break has what was added
 pub line_goes_on : (tr : Trace) (e : Happening) (l : Line) (old new : Traffic) (calls : List (Call Xid)) (answers hearings : List (Call Xid × Answer Xid))
     → LineStands tr l old → facts.breaks tr e l ≡ false
-    → issued new ≡ issued old ++ calls → AreKnownAs calls (facts.new_calls tr e l)
+    → calls_issued new ≡ calls_issued old ++ calls → AreKnownAs calls (facts.new_calls tr e l)
     → answered new ≡ answered old ++ answers → AreAnsweredAs answers (facts.new_taken e l)
-    → heard new ≡ heard old ++ hearings → AreAnsweredAs hearings (facts.new_heard e l)
-    → taken new ≡ map (λ p. p.0) (answered new) → LineStands (Then tr e) l new
+    → answers_heard new ≡ answers_heard old ++ hearings → AreAnsweredAs hearings (facts.new_heard e l)
+    → calls_taken new ≡ map (λ p. p.0) (answered new) → LineStands (Then tr e) l new
 line_goes_on tr e l old new calls answers hearings stands b i ik a ak h hk each = record {
-  all_issued = rw b (ap (map known) i ∙ seen_more known (issued old) calls (facts.issued tr l) (facts.new_calls tr e l) stands.all_issued ik);
+  all_issued = rw b (ap (map known) i ∙ seen_more known (calls_issued old) calls (facts.issued tr l) (facts.new_calls tr e l) stands.all_issued ik);
   all_answered =
       rw b (ap (map known_answered) a ∙ seen_more known_answered (answered old) answers (facts.taken tr l) (facts.new_taken e l) stands.all_answered ak);
-  all_heard = rw b (ap (map known_answered) h ∙ seen_more known_answered (heard old) hearings (facts.heard tr l) (facts.new_heard e l) stands.all_heard hk);
+  all_heard = rw b (ap (map known_answered) h
+      ∙ seen_more known_answered (answers_heard old) hearings (facts.heard tr l) (facts.new_heard e l) stands.all_heard hk);
   each_answered = each;
 }

@@ -20,8 +20,8 @@ abbrev pub HasLine : Grid → (thread rm : ℕ) → Type 0
 HasLine g t r = (t < g.threads) × (r < g.rms)
 
 -- whether the line is there
-abbrev pub has_line : Grid → (thread rm : ℕ) → Bool
-has_line g t r = nat_lt t g.threads && nat_lt r g.rms
+abbrev pub grid_has_line : Grid → (thread rm : ℕ) → Bool
+grid_has_line g t r = nat_lt t g.threads && nat_lt r g.rms
 
 -- the traffic of that line
 abbrev pub line_at : Grid → (thread rm : ℕ) → Traffic

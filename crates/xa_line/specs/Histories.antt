@@ -13,7 +13,7 @@ use Rattle.xa_base.specs.declared.answer.Answer.{Answer}
 use Rattle.xa_base.specs.declared.call.Call.{Call}
 use Rattle.xa_base.specs.declared.state.Standing.TheVariants.{Unstarted}
 use Rattle.xa_line.specs.Grid.{Grid, line_at}
-use Rattle.xa_line.specs.Traffic.{Traffic, answered, heard, issued, taken}
+use Rattle.xa_line.specs.Traffic.{Traffic, answered, answers_heard, calls_issued, calls_taken}
 
 -- a call as a history knows it. None knows a call on another manager's identifier
 abbrev pub known : Call Xid → Option KnownCall
@@ -37,24 +37,24 @@ GrowsBy {A} name old new in_history = (items : List A) × (new ≡ old ++ items)
 
 -- the calls, the answers and the answers heard of a line grow by what a happening adds to them, and each call taken is answered
 pub record HasGrown (tr : Trace) (e : Happening) (l : Line) (old new : Traffic) : Type 0 where
-  pub calls : GrowsBy known (issued old) (issued new) (facts.new_calls tr e l)
+  pub calls : GrowsBy known (calls_issued old) (calls_issued new) (facts.new_calls tr e l)
   pub answers : GrowsBy known_answered (answered old) (answered new) (facts.new_taken e l)
-  pub hearings : GrowsBy known_answered (heard old) (heard new) (facts.new_heard e l)
-  pub each_answered : taken new ≡ map (λ p. p.0) (answered new)
+  pub hearings : GrowsBy known_answered (answers_heard old) (answers_heard new) (facts.new_heard e l)
+  pub each_answered : calls_taken new ≡ map (λ p. p.0) (answered new)
 
 -- the traffic of a line is what a history says of it since it last broke, and each call that was taken was answered
 pub record LineStands (tr : Trace) (l : Line) (t : Traffic) : Type 0 where
-  pub all_issued : AreKnownAs (issued t) (facts.issued tr l)
+  pub all_issued : AreKnownAs (calls_issued t) (facts.issued tr l)
   pub all_answered : AreAnsweredAs (answered t) (facts.taken tr l)
-  pub all_heard : AreAnsweredAs (heard t) (facts.heard tr l)
-  pub each_answered : taken t ≡ map (λ p. p.0) (answered t)
+  pub all_heard : AreAnsweredAs (answers_heard t) (facts.heard tr l)
+  pub each_answered : calls_taken t ≡ map (λ p. p.0) (answered t)
 
 -- What the table of refusals sees of lines. Each resource manager is up, since the lines don't know better; and a recovery and a branch are
 -- nothing to them.
 abbrev pub lines_in : Grid → LineView
 lines_in g = record {
   rm_up = λ r. true;
-  issued = λ l. filter_map known (issued (line_at g l.thread l.rm));
+  issued = λ l. filter_map known (calls_issued (line_at g l.thread l.rm));
   waiting = λ l. length (line_at g l.thread l.rm).calls.waiting;
   unheard = λ l. length (line_at g l.thread l.rm).answers.waiting;
   resolving = λ r. 0;

@@ -53,18 +53,18 @@ abbrev pub no_traffic : Traffic
 no_traffic = record { calls = empty_flow; answers = empty_flow }
 
 -- the calls that were issued, and those of them that were taken
-abbrev pub issued : Traffic → List (Call Xid)
-issued t = all_of t.calls
+abbrev pub calls_issued : Traffic → List (Call Xid)
+calls_issued t = all_of t.calls
 
-abbrev pub taken : Traffic → List (Call Xid)
-taken t = t.calls.gone
+abbrev pub calls_taken : Traffic → List (Call Xid)
+calls_taken t = t.calls.gone
 
 -- the calls with their answers that were answered, and those of them that were heard
 abbrev pub answered : Traffic → List (Call Xid × Answer Xid)
 answered t = all_of t.answers
 
-abbrev pub heard : Traffic → List (Call Xid × Answer Xid)
-heard t = t.answers.gone
+abbrev pub answers_heard : Traffic → List (Call Xid × Answer Xid)
+answers_heard t = t.answers.gone
 
 -- ** the refusal
 
@@ -86,4 +86,4 @@ room_refusal t n = if nat_lt places (length t.calls.waiting + n) then Some Full 
 
 -- why a line refuses a call, the first reason that applies
 abbrev pub refusal : Traffic → Call Xid → Option Refusal
-refusal t call = option_or (barred (issued t) call) (if is_full t then Some Full else None)
+refusal t call = option_or (barred (calls_issued t) call) (if is_full t then Some Full else None)

@@ -1,5 +1,5 @@
 //! Lines, and those of histories.
-ghost use Rattle.std.specs.Prelude.{◌≡◌, ◌++◌, ℕ, length, List, map, slice_get, Some, true, false};
+ghost use Rattle.std.specs.Prelude.{◌≡◌, ◌++◌, ℕ, length, slice_get, Some, true, false};
 ghost use Rattle.std.specs.Option.{option_map};
 ghost use Rattle.xa_model.specs.Facts as facts;
 ghost use Rattle.xa_model.specs.Replies.History.{step_of};
@@ -9,11 +9,10 @@ ghost use Rattle.xa_base.specs.declared.refusal.Refusal.TheVariants.{Closed, Ful
 ghost use Rattle.xa_model.specs.Replies.Rules.{applies};
 ghost use Rattle.xa_model.specs.Trace.{Happening, Line, Origin, Trace, Trace.From, Trace.Then, line};
 ghost use Rattle.xa_base.specs.Xid.{Xid};
-ghost use Rattle.xa_base.specs.declared.answer.Answer.{Answer};
 ghost use Rattle.xa_base.specs.declared.call.Call.{Call};
 ghost use Rattle.xa_base.specs.declared.step.Step.TheVariants.{Issue};
 ghost use Rattle.xa_line.specs.Histories.{AreKnownAs, HasGrown, LineStands, known, known_answered};
-ghost use Rattle.xa_line.specs.Traffic.{Traffic, is_full, issued, no_traffic};
+ghost use Rattle.xa_line.specs.Traffic.{Traffic, calls_issued, is_full, no_traffic};
 
 /// A line refuses a call exactly where a history does. This is a law; the function does nothing:
 ///
@@ -22,11 +21,11 @@ ghost use Rattle.xa_line.specs.Traffic.{Traffic, is_full, issued, no_traffic};
 /// - `full`: if as many calls wait, both are full alike.
 pub fn lines_as_in_histories()
     ensures not_open { (tr : Trace) (t r : ℕ) (c : Call Xid) (l : Traffic) →
-        AreKnownAs (issued l) (facts.issued tr (line t r)) →
-        comes_unopened (issued l) c ≡ applies tr (step_of (Issue t r c)) NotOpen }
+        AreKnownAs (calls_issued l) (facts.issued tr (line t r)) →
+        comes_unopened (calls_issued l) c ≡ applies tr (step_of (Issue t r c)) NotOpen }
     ensures on_closed { (tr : Trace) (t r : ℕ) (c : Call Xid) (l : Traffic) →
-        AreKnownAs (issued l) (facts.issued tr (line t r)) →
-        has_closed (issued l) ≡ applies tr (step_of (Issue t r c)) Closed }
+        AreKnownAs (calls_issued l) (facts.issued tr (line t r)) →
+        has_closed (calls_issued l) ≡ applies tr (step_of (Issue t r c)) Closed }
     ensures full { (tr : Trace) (t r : ℕ) (c : Call Xid) (l : Traffic) →
         length l.calls.waiting ≡ waiting tr (line t r) →
         is_full l ≡ applies tr (step_of (Issue t r c)) Full }

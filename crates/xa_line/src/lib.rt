@@ -6,7 +6,7 @@
 //! of a whole system.
 //!
 //! Contracts see a line as its traffic since it was new or renewed (`specs/Traffic.antt`), and that what was
-//! issued is what was taken followed by what waits is how `issued` is defined there.
+//! issued is what was taken followed by what waits is how `calls_issued` is defined there.
 //!
 //! "XA" in these pages is X/Open CAE Specification C193, "Distributed Transaction Processing: The XA
 //! Specification" (1991).

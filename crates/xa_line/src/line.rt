@@ -40,7 +40,7 @@ impl Line {
     ghost use Rattle.xa_line.specs.Traffic.{PassesOn, no_traffic, places, with_more, with_one_more};
     ghost use Rattle.xa_line.specs.Traffic.{barred, opening_refusal, refusal, room_refusal};
     ghost use Rattle.xa_base.specs.Opening.{has_closed, has_opened};
-    ghost use Rattle.xa_line.specs.Traffic.{answered, heard, issued, taken};
+    ghost use Rattle.xa_line.specs.Traffic.{answered, answers_heard, calls_issued, calls_taken};
 
     /// A line that isn't open, where nothing waits. Takes all the memory that the line ever needs.
     pub fn new(alloc: Global) -> Result<Line, Memory>
@@ -66,7 +66,7 @@ impl Line {
         ensures reason { result_err result ≡ refusal self.old call }
         ensures accepted { OnOk result (self.new ≡
             record self.old { calls = with_one_more self.old.calls call }) }
-        ensures issued { OnOk result (issued self.new ≡ issued self.old ++ call ∷ []) }
+        ensures issued { OnOk result (calls_issued self.new ≡ calls_issued self.old ++ call ∷ []) }
         ensures refused { OnErr result (self.new ≡ self.old) }
     {
         self.latch.check(&call)?;
@@ -81,14 +81,14 @@ impl Line {
     /// Says why a call may not follow those that were issued, however few of them wait: the first reason that applies,
     /// as [`Line::issue`] does.
     pub fn check(&self, call: &Call) -> Result<(), Refusal>
-        ensures { result_err result ≡ barred (issued self.now) call.now }
+        ensures { result_err result ≡ barred (calls_issued self.now) call.now }
     {
         self.latch.check(call)
     }
 
     /// The same for any call but xa_open.
     pub fn check_open(&self) -> Result<(), Refusal>
-        ensures { result_err result ≡ opening_refusal (issued self.now) }
+        ensures { result_err result ≡ opening_refusal (calls_issued self.now) }
     {
         if !self.is_open() {
             return Err(Refusal::NotOpen);
@@ -112,8 +112,8 @@ impl Line {
     /// Lets these calls wait, in turn.
     pub fn issue_all(&mut self, calls: Vec<Call>)
         requires room { length self.old.calls.waiting + vec_len calls ≤ places }
-        requires open { has_opened (issued self.old) ≡ true }
-        requires unclosed { has_closed (issued self.old ++ calls.items) ≡ false }
+        requires open { has_opened (calls_issued self.old) ≡ true }
+        requires unclosed { has_closed (calls_issued self.old ++ calls.items) ≡ false }
         ensures { self.new ≡ record self.old { calls = with_more self.old.calls calls.items } }
     {
         for call in calls {
@@ -127,8 +127,8 @@ impl Line {
         ensures some { IfSome result (λ call. PassesOn self.old.calls call self.new.calls) }
         ensures none { IfNone result ((self.old.calls.waiting ≡ []) × (self.new ≡ self.old)) }
         ensures answers { self.new.answers ≡ self.old.answers }
-        ensures issued { issued self.new ≡ issued self.old }
-        ensures all_taken { IfNone result (taken self.new ≡ issued self.new) }
+        ensures issued { calls_issued self.new ≡ calls_issued self.old }
+        ensures all_taken { IfNone result (calls_taken self.new ≡ calls_issued self.new) }
     {
         self.calls.pop()
     }
@@ -158,7 +158,7 @@ impl Line {
         ensures none { IfNone result ((self.old.answers.waiting ≡ []) × (self.new ≡ self.old)) }
         ensures calls { self.new.calls ≡ self.old.calls }
         ensures answered { answered self.new ≡ answered self.old }
-        ensures all_heard { IfNone result (heard self.new ≡ answered self.new) }
+        ensures all_heard { IfNone result (answers_heard self.new ≡ answered self.new) }
     {
         self.answers.pop()
     }
@@ -188,14 +188,14 @@ impl Line {
 
     /// Whether an xa_open was issued since the line was new or renewed. A closed line is open too.
     pub fn is_open(&self) -> bool
-        ensures { result ≡ has_opened (issued self.now) }
+        ensures { result ≡ has_opened (calls_issued self.now) }
     {
         self.latch.opened
     }
 
     /// Whether an xa_close was issued since the line was new or renewed.
     pub fn is_closed(&self) -> bool
-        ensures { result ≡ has_closed (issued self.now) }
+        ensures { result ≡ has_closed (calls_issued self.now) }
     {
         self.latch.closed
     }
@@ -225,9 +225,9 @@ impl Line {
     pub fn split(self) -> (Issuer, Taker)
         ensures ends { AreEndsOfOne result.0 result.1 }
         // What each end has done.
-        ensures issued { issued_by result.0 ≡ issued self }
-        ensures heard { heard_by result.0 ≡ heard self }
-        ensures taken { taken_by result.1 ≡ taken self }
+        ensures issued { issued_by result.0 ≡ calls_issued self }
+        ensures heard { heard_by result.0 ≡ answers_heard self }
+        ensures taken { taken_by result.1 ≡ calls_taken self }
         ensures answered { answered_by result.1 ≡ answered self }
         // What each end sees of the other.
         ensures free_calls { places ≤ free_calls_of result.0 + length self.calls.waiting }
@@ -259,9 +259,9 @@ impl Line {
     /// That they are the ends of one line has to be proved: rings can't be asked at run time whose ends they are.
     pub fn meet(issuer: Issuer, taker: Taker) -> Line
         requires { AreEndsOfOne issuer taker }
-        ensures issued { issued result ≡ issued_by issuer }
-        ensures heard { heard result ≡ heard_by issuer }
-        ensures taken { taken result ≡ taken_by taker }
+        ensures issued { calls_issued result ≡ issued_by issuer }
+        ensures heard { answers_heard result ≡ heard_by issuer }
+        ensures taken { calls_taken result ≡ taken_by taker }
         ensures answered { answered result ≡ answered_by taker }
     {
         let Issuer {

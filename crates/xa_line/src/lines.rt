@@ -27,7 +27,7 @@ impl Model for Lines {
 impl Lines {
     ghost use Rattle.std.specs.Prelude.{◌≡◌, ◌+◌, ◌*◌, ◌<◌, length, IfOk};
     ghost use Rattle.std.specs.Borrow.{sem};
-    ghost use Rattle.xa_line.specs.Grid.{HasLine, IsWhole, RenewsRm, has_line, line_at, new_grid, place};
+    ghost use Rattle.xa_line.specs.Grid.{HasLine, IsWhole, RenewsRm, grid_has_line, line_at, new_grid, place};
     ghost use Rattle.xa_line.specs.Lending.{LendsLine};
 
     /// The lines of so many threads to so many resource managers, all of them new. Takes all the memory that they
@@ -65,7 +65,7 @@ impl Lines {
 
     /// Whether there is a line of the thread to the resource manager.
     pub fn has(&self, thread: u32, rm: u32) -> bool
-        ensures value { result ≡ has_line self.now thread rm }
+        ensures value { result ≡ grid_has_line self.now thread rm }
         ensures whole { IsWhole self.now }
     {
         thread < self.threads && rm < self.rms

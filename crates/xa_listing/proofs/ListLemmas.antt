@@ -17,7 +17,7 @@ use Rattle.xa_base.proofs.Orders.{less_differs, all_among}
 use Rattle.xa_files.specs.Outputs.{AppendsBeginning}
 use Rattle.xa_files.specs.declared.fault.RunFault.{RunFault}
 use Rattle.xa_files.specs.declared.fault.RunFault.TheVariants.{Output}
-use Rattle.xa_listing.specs.Lines.{decision_lines, heuristic_lines, is_of, own_count, rows_text}
+use Rattle.xa_listing.specs.Lines.{decision_lines, heuristic_lines, is_of_transaction, own_count, rows_text}
 use Rattle.xa_listing.specs.Texts.{BeginsLog, PrintsLog, count_line, decision_line, log_text}
 use Rattle.xa_log.specs.Content.{AreOwn, Content, all_listed}
 use Rattle.xa_log.specs.KeySet.{KeySet, contains-items, items}
@@ -30,7 +30,7 @@ Row = Gtrid × KeySet branch_cmp
 
 -- ** the branches of a transaction stand before those of others
 
-first_count : (g : Gtrid) (xs ys : List Branch) → AllByRecursion (λ b. is_of g b ≡ true) xs → AllByRecursion (λ b. is_of g b ≡ false) ys
+first_count : (g : Gtrid) (xs ys : List Branch) → AllByRecursion (λ b. is_of_transaction g b ≡ true) xs → AllByRecursion (λ b. is_of_transaction g b ≡ false) ys
     → own_count g (xs ++ ys) ≡ length xs
 first_count g [] [] own others = refl
 first_count g [] (y ∷ ys) own others = rw (others.0) refl
@@ -45,11 +45,11 @@ parts : (a b : Bool) → T (a && b) → T a × T b
 parts true b p = (tt, p)
 parts false b p = absurd p
 
-own_first : (row : Row) → IsOwn row → AllByRecursion (λ b. is_of row.0 b ≡ true) (items row.1)
+own_first : (row : Row) → IsOwn row → AllByRecursion (λ b. is_of_transaction row.0 b ≡ true) (items row.1)
 own_first row own = all_map _ _ (λ (b : Branch) (is : b.gtrid ≡ row.0). ap (λ g. gtrid_eq g row.0) is ∙ gtrid_eq-refl row.0) (items row.1) own
 
 others_after : (g : Gtrid) (rows : List Row) → T (below_all gtrid_cmp g rows) → AllByRecursion IsOwn rows
-    → AllByRecursion (λ b. is_of g b ≡ false) (all_listed rows)
+    → AllByRecursion (λ b. is_of_transaction g b ≡ false) (all_listed rows)
 others_after g [] below own = tt
 others_after g (row ∷ rows) below own =
     let p = parts _ _ below in

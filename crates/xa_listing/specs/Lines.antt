@@ -8,12 +8,12 @@ use Rattle.xa_base.specs.declared.code.How.{How}
 use Rattle.xa_listing.specs.Texts.{count_line, heuristic_line}
 
 -- whether a branch is one of the transaction
-abbrev pub is_of : Gtrid → Branch → Bool
-is_of g b = gtrid_eq b.gtrid g
+abbrev pub is_of_transaction : Gtrid → Branch → Bool
+is_of_transaction g b = gtrid_eq b.gtrid g
 
 -- how many of the branches, from the first on, are of the transaction
 abbrev pub own_count : Gtrid → List Branch → ℕ
-own_count g branches = prefix_len (is_of g) branches
+own_count g branches = prefix_len (is_of_transaction g) branches
 
 -- a line for each decision, which takes as many of the participants as are its own
 abbrev pub decision_lines : List Gtrid → List Branch → List ℕ

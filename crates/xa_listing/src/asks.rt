@@ -42,7 +42,8 @@ fn branch_text(alloc: Global, manager: &[u8], branch: &Branch) -> Result<String,
     let postgresql = postgresql_commit(alloc, manager, &xid)?;
     let mariadb = mariadb_commit(alloc, manager, &xid)?;
     Ok(format!(in alloc;
-        "    {name} at resource manager {rm}\n        PostgreSQL: {postgresql}\n        MariaDB: {mariadb}\n"
+        "    {name} at resource manager {rm}\n        \
+        PostgreSQL: {postgresql}\n        MariaDB: {mariadb}\n"
     )?)
 }
 

@@ -6,7 +6,7 @@ ghost use Rattle.xa_files.specs.declared.fault.RunFault.TheVariants.{Log, Memory
 ghost use Rattle.xa_listing.specs.Faults.{CountsFault, IsListFault, TellsFault};
 ghost use Rattle.xa_log.specs.Content.{unchanged};
 ghost use Rattle.xa_log.specs.Contract.{Honestly, LeavesNoMore};
-ghost use Rattle.xa_log.specs.Contract.{Keeps as IsKept};
+ghost use Rattle.xa_log.specs.Contract.{IsShutOrSame as IsKept};
 ghost use Rattle.xa_log.specs.declared.fail_plan.LogCall.{LogCall};
 
 use crate::asks::asks_text;

@@ -11,7 +11,7 @@ use Rattle.xa_base.specs.declared.branch.Branch.{Branch}
 use Rattle.xa_base.specs.declared.code.How.{How}
 use Rattle.xa_base.specs.Branch.{gtrid_cmp, branch_cmp}
 use Rattle.xa_base.proofs.BranchOrder.{gtrids_total, exact_gtrids, branches_total, exact_branches}
-use Rattle.xa_log.specs.Content.{Content, AreOwn, with_bump, with_commit, with_decision, without_decision, with_heuristic, with_record, nothing}
+use Rattle.xa_log.specs.Content.{Content, AreOwn, with_bump, with_commit, with_decision, without_decision, with_heuristic, with_heuristic_record, nothing}
 use Rattle.xa_log.specs.Contract.{AllFit, Changes, FitsRow, faults_after}
 use Rattle.xa_log.specs.Memory.{IsInOrder, content_held, memory_moment}
 use Rattle.xa_log.specs.declared.log_fault.LogFault.{LogFault}
@@ -100,7 +100,7 @@ fits_with_heuristic c b how own fits = record {
   ];
 }
 
-fits_recorded : (c : Content) (b : Branch) (how : How) → FitsRow b.gtrid → AllFit c → AllFit (with_record b how c)
+fits_recorded : (c : Content) (b : Branch) (how : How) → FitsRow b.gtrid → AllFit c → AllFit (with_heuristic_record b how c)
 fits_recorded c b how own fits = elim (contains_key c.heuristics b) as (λ t. AllFit (cond t c (with_heuristic b how c))) [
   | true ↦ fits
   | false ↦ fits_with_heuristic c b how own fits
@@ -122,11 +122,11 @@ order_after_commit (Ok x) old new g list fits all ok err order =
 order_after_commit (Err e) old new g list fits all ok err order = subst IsInOrder (sym err) order
 
 -- no participants change
-own_recorded : (c : Content) (b : Branch) (how : How) → AreOwn c → AreOwn (with_record b how c)
+own_recorded : (c : Content) (b : Branch) (how : How) → AreOwn c → AreOwn (with_heuristic_record b how c)
 own_recorded c b how own = elim (contains_key c.heuristics b) as (λ t. AreOwn (cond t c (with_heuristic b how c))) [ true ↦ own | false ↦ own ]
 
 pub order_after_note : {A E : Type 0} (result : Result A E) (old new : Content) (b : Branch) (how : How) → FitsRow b.gtrid
-    → OnOk result (new ≡ with_record b how old) → OnErr result (new ≡ old) → IsInOrder old → IsInOrder new
+    → OnOk result (new ≡ with_heuristic_record b how old) → OnErr result (new ≡ old) → IsInOrder old → IsInOrder new
 order_after_note (Ok x) old new b how fits ok err order =
     subst IsInOrder (sym ok) (record { own = own_recorded old b how order.own; fits = fits_recorded old b how fits order.fits })
 order_after_note (Err e) old new b how fits ok err order = subst IsInOrder (sym err) order

@@ -4,7 +4,7 @@ use Rattle.std.specs.FinMap.{contains_key, entries, get, keys}
 use Rattle.std.specs.List.{AllByRecursion}
 use Rattle.xa_base.specs.declared.branch.Branch.{Branch}
 use Rattle.xa_log.specs.KeySet.{from_list, items}
-use Rattle.xa_log.specs.Content.{Content, all_listed, with_bump, with_commit, logged_as, participants_of, with_record, without_decision}
+use Rattle.xa_log.specs.Content.{Content, all_listed, with_bump, with_commit, logged_as, participants_of, with_heuristic_record, without_decision}
 use Rattle.xa_log.specs.Contract.{FitsRow, Moment, one_more_fault}
 use Rattle.xa_log.specs.declared.fail_plan.LogCall.{LogCall}
 use Rattle.xa_log.specs.declared.fail_plan.LogCall.TheVariants as kind
@@ -32,7 +32,7 @@ Fits Rows = Unit {0}
 abbrev pub content_after : Command → Content → Content
 content_after (Commit g participants) c = with_commit g (from_list participants.items) c
 content_after (Done g) c = without_decision g c
-content_after (NoteHeuristic b how) c = with_record b how c
+content_after (NoteHeuristic b how) c = with_heuristic_record b how c
 content_after Bump c = with_bump c
 content_after (Contains g) c = c
 content_after (Participants g) c = c
@@ -50,34 +50,34 @@ kind_of (HeuristicOf b) = kind.HeuristicOf
 kind_of Rows = kind.Rows
 
 -- what it is told of a log with this content
-abbrev pub Tells : Content → Command → Told → Type 0
-Tells c (Commit g participants) answer = answer ≡ told.Logged (logged_as c g)
-Tells c (Contains g) answer = answer ≡ told.Found (contains_key c.decisions g)
-Tells c (Done g) answer = answer ≡ told.Found (contains_key c.decisions g)
-Tells c (NoteHeuristic b how) answer = answer ≡ told.Noted
-Tells c (HeuristicOf b) answer = answer ≡ told.Ended (get c.heuristics b)
-Tells c Bump answer = answer ≡ told.Incarnation (c.incarnation + 1)
-Tells c (Participants g) (told.Waiting list) = list.items ≡ items (participants_of c g)
-Tells c (Participants g) _ = ⊥
-Tells c Rows (told.Rows rows) =
+abbrev pub AnswersCommand : Content → Command → Told → Type 0
+AnswersCommand c (Commit g participants) answer = answer ≡ told.Logged (logged_as c g)
+AnswersCommand c (Contains g) answer = answer ≡ told.Found (contains_key c.decisions g)
+AnswersCommand c (Done g) answer = answer ≡ told.Found (contains_key c.decisions g)
+AnswersCommand c (NoteHeuristic b how) answer = answer ≡ told.Noted
+AnswersCommand c (HeuristicOf b) answer = answer ≡ told.Ended (get c.heuristics b)
+AnswersCommand c Bump answer = answer ≡ told.Incarnation (c.incarnation + 1)
+AnswersCommand c (Participants g) (told.Waiting list) = list.items ≡ items (participants_of c g)
+AnswersCommand c (Participants g) _ = ⊥
+AnswersCommand c Rows (told.Rows rows) =
     (rows.decisions.items ≡ keys c.decisions)
     × (rows.participants.items ≡ all_listed (entries c.decisions))
     × (rows.heuristics.items ≡ entries c.heuristics)
-Tells c Rows _ = ⊥
+AnswersCommand c Rows _ = ⊥
 
 -- ** a list of calls
 
-abbrev pub after_all : List Command → Content → Content
-after_all [] c = c
-after_all (call ∷ calls) c = after_all calls (content_after call c)
+abbrev pub content_after_all : List Command → Content → Content
+content_after_all [] c = c
+content_after_all (call ∷ calls) c = content_after_all calls (content_after call c)
 
 -- the log is shut, or holds what some first calls leave
 abbrev pub LeavesFirst : List Command → Content → Option Content → Type 0
-LeavesFirst calls c new = (new ≡ None) ⊎ ((n : ℕ) × (new ≡ Some (after_all (take n calls) c)))
+LeavesFirst calls c new = (new ≡ None) ⊎ ((n : ℕ) × (new ≡ Some (content_after_all (take n calls) c)))
 
 abbrev pub AreTold : Content → List Command → List Told → Type 0
 AreTold c [] [] = Unit {0}
-AreTold c (call ∷ calls) (answer ∷ answers) = Tells c call answer × AreTold (content_after call c) calls answers
+AreTold c (call ∷ calls) (answer ∷ answers) = AnswersCommand c call answer × AreTold (content_after call c) calls answers
 AreTold c _ _ = ⊥
 
 -- one of the calls failed, and this is its fault; none was made after it

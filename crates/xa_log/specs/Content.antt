@@ -81,8 +81,8 @@ abbrev pub with_heuristic : Branch → How → Content → Content
 with_heuristic b how c = record c { heuristics = insert c.heuristics b how }
 
 -- the first record of a branch stays
-abbrev pub with_record : Branch → How → Content → Content
-with_record b how c = if contains_key c.heuristics b then c else with_heuristic b how c
+abbrev pub with_heuristic_record : Branch → How → Content → Content
+with_heuristic_record b how c = if contains_key c.heuristics b then c else with_heuristic b how c
 
 abbrev pub with_incarnation : ℕ → Content → Content
 with_incarnation n c = record c { incarnation = n }

@@ -18,8 +18,8 @@ abbrev pub MayMake : (Content → Content) → Option Content → Option Content
 MayMake change old new = (new ≡ None) ⊎ ((new ≡ old) ⊎ Makes change old new)
 
 -- the log is shut or as before
-abbrev pub Keeps : Option Content → Option Content → Type 0
-Keeps old new = (new ≡ None) ⊎ (new ≡ old)
+abbrev pub IsShutOrSame : Option Content → Option Content → Type 0
+IsShutOrSame old new = (new ≡ None) ⊎ (new ≡ old)
 
 -- a crash leaves what it might have left before, or the content with the change
 abbrev pub LeavesAlso : (Content → Content) → Option Content → (Content → Type 0) → (Content → Type 0) → Type 0
@@ -85,7 +85,7 @@ pub record Changes {A : Type 0} (change : Content → Content) (old new : Moment
 -- A call that changes nothing.
 pub record Reads {A : Type 0} (old new : Moment) (result : Result A LogFault) : Type 0 where
   pub ok : Honestly old new (OnOk result (Makes unchanged old.content new.content))
-  pub err : old.is_in_order → OnErr result (Keeps old.content new.content)
+  pub err : old.is_in_order → OnErr result (IsShutOrSame old.content new.content)
   pub crash : Honestly old new (LeavesNoMore old.may_leave new.may_leave)
   pub order : old.is_in_order → new.is_in_order
   pub honest : new.is_honest → old.is_honest

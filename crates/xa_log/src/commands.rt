@@ -1,7 +1,7 @@
 //! Calls of a log, made in turn: what any list of them leaves, and what they are told.
 ghost use Rattle.std.specs.Prelude.{◌≡◌, IfErr, IfOk, OnOk, OnErr, Some, IsSomeAnd};
 ghost use Rattle.std.specs.List.{AllByRecursion};
-ghost use Rattle.xa_log.specs.Commands.{AreTold, EndsBy, Fits, LeavesFirst, Tells, content_after, after_all, kind_of};
+ghost use Rattle.xa_log.specs.Commands.{AreTold, EndsBy, Fits, LeavesFirst, AnswersCommand, content_after, content_after_all, kind_of};
 ghost use Rattle.xa_log.specs.Content.{Content};
 ghost use Rattle.xa_log.specs.Contract.{Changes, Honestly};
 
@@ -47,7 +47,7 @@ fn run_one<L: DecisionLog>(log: &mut L, command: &Command) -> Result<Told, LogFa
     requires { Fits command.now }
     ensures told { Honestly (L.moment log.old) (L.moment log.new)
         (IfOk result (λ told. IsSomeAnd (L.moment log.old).content (λ c.
-        Tells c command.now told))) }
+        AnswersCommand c command.now told))) }
     ensures changes { Changes (content_after command.now) (L.moment log.old)
         (L.moment log.new) result }
     ensures cause { IfErr result (λ e. L.says (kind_of command.now) (content_after command.now)
@@ -86,7 +86,7 @@ pub fn run_commands<L: DecisionLog>(
         IfOk result (λ list. AreTold c commands.now list.items)) }
     ensures ok { (c : Content) → Honestly (L.moment log.old)
         (L.moment log.new) ((L.moment log.old).content ≡ Some c →
-        OnOk result ((L.moment log.new).content ≡ Some (after_all commands.now c))) }
+        OnOk result ((L.moment log.new).content ≡ Some (content_after_all commands.now c))) }
     ensures err { (c : Content) → Honestly (L.moment log.old)
         (L.moment log.new) ((L.moment log.old).content ≡ Some c →
         OnErr result (LeavesFirst commands.now c (L.moment log.new).content)) }

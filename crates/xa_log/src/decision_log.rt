@@ -3,7 +3,7 @@ ghost use Rattle.std.specs.Prelude.{◌≡◌, ◌≤◌, ◌+◌, Err, Option, 
 ghost use Rattle.std.specs.FinMap.{contains_key, entries, get, keys};
 ghost use Rattle.xa_log.specs.KeySet.{from_list, items};
 ghost use Rattle.std.specs.List.{AllByRecursion};
-ghost use Rattle.xa_log.specs.Content.{AreOwn, Content, all_listed, with_bump, with_commit, with_commits, last_number, logged_as, logged_each, participants_of, with_record, unchanged, without_decision, without_decisions};
+ghost use Rattle.xa_log.specs.Content.{AreOwn, Content, all_listed, with_bump, with_commit, with_commits, last_number, logged_as, logged_each, participants_of, with_heuristic_record, unchanged, without_decision, without_decisions};
 ghost use Rattle.xa_log.specs.Contract.{AllFit, Changes, FitsRow, Honestly, Moment, Reads, fault_of};
 
 use crate::decision::Decision;
@@ -126,8 +126,9 @@ pub trait DecisionLog {
     /// Completion). The first record of a branch stays.
     fn note_heuristic(&mut self, b: Branch, how: How) -> Result<(), LogFault>
         requires { FitsRow b.gtrid }
-        ensures changes { Changes (with_record b how) (moment self.old) (moment self.new) result }
-        ensures cause { says LogCall.NoteHeuristic (with_record b how)
+        ensures changes { Changes (with_heuristic_record b how) (moment self.old) (moment self.new)
+            result }
+        ensures cause { says LogCall.NoteHeuristic (with_heuristic_record b how)
             self.old self.new (fault_of result) };
 
     /// How a branch is recorded as heuristic, or none where it isn't.

@@ -38,7 +38,7 @@ impl MemLog {
     ghost use Rattle.std.specs.Prelude.{◌≡◌, ◌≤◌, ◌+◌, Some, IfOk, IfErr, OnOk, OnErr};
     ghost use Rattle.std.specs.FinMap.{contains_key, entries, get, keys};
     ghost use Rattle.xa_log.specs.KeySet.{from_list, items};
-    ghost use Rattle.xa_log.specs.Content.{all_listed, with_commit, last_number, logged_as, nothing, participants_of, with_record, without_decision};
+    ghost use Rattle.xa_log.specs.Content.{all_listed, with_commit, last_number, logged_as, nothing, participants_of, with_heuristic_record, without_decision};
     ghost use Rattle.xa_log.specs.Memory.{content_held};
     ghost use Rattle.xa_log.specs.declared.log_fault.LogFault.TheVariants.{Memory, Spent};
 
@@ -82,7 +82,7 @@ impl MemLog {
     /// Puts how a branch was ended, where it has no record.
     pub(crate) fn put_heuristic(&mut self, b: Branch, how: How) -> Result<(), LogFault>
         ensures ok { OnOk result
-            (content_held self.new ≡ with_record b how (content_held self.old)) }
+            (content_held self.new ≡ with_heuristic_record b how (content_held self.old)) }
         ensures err { OnErr result (content_held self.new ≡ content_held self.old) }
         ensures memory { IfErr result (λ e. e ≡ Memory) }
         ensures faults { self.new.faults ≡ self.old.faults }

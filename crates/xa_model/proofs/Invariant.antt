@@ -12,6 +12,7 @@ pub mod NewFacts
 pub mod Now
 pub mod Preservation
 pub mod PreservedRows
+pub mod PreservedTransactions
 pub mod Records
 pub mod Rows
 use Rattle.std.proofs.Common.{◌≡◌, ℕ, ◌<◌, ◌≤◌, List, length, true, false, ◌⊎◌}

@@ -3,3 +3,4 @@ pub mod Pages
 pub mod WholeRecovery
 pub mod RecoveredNext
 pub mod RecoveredStart
+pub mod RecoveryCalls

@@ -7,8 +7,8 @@ abbrev pub Names : Type 0
 Names = List (Bor (List ℕ))
 
 -- where both have a name, it is the same
-abbrev pub Agree : Names → Names → Type 0
-Agree kept given = (i : ℕ) (a b : Bor (List ℕ)) → slice_get kept i ≡ Some a → slice_get given i ≡ Some b → a.now ≡ b.now
+abbrev pub AgreeInNames : Names → Names → Type 0
+AgreeInNames kept given = (i : ℕ) (a b : Bor (List ℕ)) → slice_get kept i ≡ Some a → slice_get given i ≡ Some b → a.now ≡ b.now
 
 -- both have a name at this place, and not the same
 abbrev pub DifferAt : ℕ → Names → Names → Type 0

@@ -8,17 +8,17 @@ use Rattle.xa_base.specs.declared.branch.Branch.{Branch}
 use Rattle.xa_names.specs.declared.manager_name.TheConstants.{NAME_LEN}
 
 -- a letter, a digit, `_` or `-`
-abbrev pub is_name_byte : ℕ → Bool
-is_name_byte c = (nat_le 48 c && nat_le c 57) || (nat_le 65 c && nat_le c 90) || (nat_le 97 c && nat_le c 122) || (c == 95) || (c == 45)
+abbrev pub is_manager_name_byte : ℕ → Bool
+is_manager_name_byte c = (nat_le 48 c && nat_le c 57) || (nat_le 65 c && nat_le c 90) || (nat_le 97 c && nat_le c 122) || (c == 95) || (c == 45)
 
 -- a name; a manager without one has the empty name
 pub record IsName (name : List ℕ) : Type 0 where
   pub short : length name ≤ NAME_LEN
-  pub bytes : list_all is_name_byte name ≡ true
+  pub bytes : list_all is_manager_name_byte name ≡ true
 
 -- the text is a name: it isn't empty
-abbrev pub is_name : List ℕ → Bool
-is_name text = nat_le 1 (length text) && (nat_le (length text) NAME_LEN && list_all is_name_byte text)
+abbrev pub is_manager_name : List ℕ → Bool
+is_manager_name text = nat_le 1 (length text) && (nat_le (length text) NAME_LEN && list_all is_manager_name_byte text)
 
 -- ** identifiers
 

@@ -2,7 +2,7 @@
 //! it has none, and goes on with those of its resource managers, from number 0.
 
 ghost use Rattle.std.specs.Prelude.{◌≡◌, ◌+◌, ◌≢◌, ℕ, Err, IfNone, IfSome, OnOk, false, true};
-ghost use Rattle.xa_names.specs.KeptNames.{Agree, DifferAt, has_rms};
+ghost use Rattle.xa_names.specs.KeptNames.{AgreeInNames, DifferAt, has_rms};
 
 /// Why a log isn't that of the manager and the resource managers that it is opened with.
 #[derive(Clone, Copy, Debug, PartialEq, Eq)]
@@ -19,7 +19,7 @@ pub enum NameFault {
 
 /// The first place at which both have a name, and not the same.
 fn first_difference(kept: &[&str], given: &[&str]) -> Option<usize>
-    ensures same { IfNone result (Agree kept.now given.now) }
+    ensures same { IfNone result (AgreeInNames kept.now given.now) }
     ensures other { IfSome result (λ place. DifferAt place kept.now given.now) }
 {
     let both = kept.len().min(given.len());
@@ -34,7 +34,7 @@ fn first_difference(kept: &[&str], given: &[&str]) -> Option<usize>
 /// Refuses a log that keeps other names than those given. One of the two lists may go on where the other has ended: resource
 /// managers may be left out at the end, and added there; but a log of which either has none at all is refused.
 pub fn check_names(kept: &[&str], given: &[&str]) -> Result<(), NameFault>
-    ensures agree { OnOk result (Agree kept.now given.now) }
+    ensures agree { OnOk result (AgreeInNames kept.now given.now) }
     ensures both { OnOk result (has_rms kept.now ≡ has_rms given.now) }
     ensures manager { result ≡ Err NameFault.Manager → DifferAt 0 kept.now given.now }
     ensures rm { (number : ℕ) → result ≡ Err (NameFault.ResourceManager number) →

@@ -3,7 +3,7 @@
 ghost use Rattle.std.specs.Prelude.{◌≡◌, [], true};
 ghost use Rattle.std.specs.List.{list_all};
 ghost use Rattle.std.specs.Option.{SomeIff};
-ghost use Rattle.xa_names.specs.Names.{IsName, is_bare_of, is_name, is_name_byte};
+ghost use Rattle.xa_names.specs.Names.{IsName, is_bare_of, is_manager_name, is_manager_name_byte};
 
 use arrayvec::ArrayVec;
 use std::marker::Model;
@@ -43,7 +43,7 @@ impl Model for ManagerName {
 
 /// Whether each byte may stand in a name.
 fn are_name_bytes(bytes: &[u8]) -> bool
-    ensures { result ≡ list_all is_name_byte bytes.now }
+    ensures { result ≡ list_all is_manager_name_byte bytes.now }
 {
     bytes.iter().all(|byte| matches!(*byte, b'0'..=b'9' | b'A'..=b'Z' | b'a'..=b'z' | b'_' | b'-'))
 }
@@ -56,7 +56,7 @@ fn is_bare(format: i32, gtrid: &[u8], bqual: &[u8]) -> bool
 }
 
 impl ManagerName {
-    ghost use Rattle.xa_names.specs.Names.{is_bare, renamed, with_name, without_name};
+    ghost use Rattle.xa_names.specs.Names.{is_bare, renamed, with_name};
 
     /// No name. No memory is taken.
     pub fn none() -> ManagerName
@@ -69,7 +69,7 @@ impl ManagerName {
 
     /// The name that a text is, if it is one. No memory is taken.
     pub fn of_text(text: &str) -> Option<ManagerName>
-        ensures { SomeIff result (is_name text.now ≡ true) text.now }
+        ensures { SomeIff result (is_manager_name text.now ≡ true) text.now }
     {
         let bytes = text.as_bytes();
         if bytes.is_empty() || !are_name_bytes(bytes) {
@@ -81,7 +81,7 @@ impl ManagerName {
 
     /// Whether a text, however long, has only what may stand in a name: letters, digits, `_` and `-`.
     pub fn has_letters(text: &str) -> bool
-        ensures { result ≡ list_all is_name_byte text.now }
+        ensures { result ≡ list_all is_manager_name_byte text.now }
     {
         are_name_bytes(text.as_bytes())
     }

@@ -1,28 +1,26 @@
 -- The identifiers in what a line asks for are identifiers.
-use Rattle.std.proofs.Common.{◌≡◌, ◌∙◌, ℕ, zero, suc, ◌<◌, ◌-◌, ◌==◌, Bool, true, false, ℤ, List, [], ◌∷◌, ◌++◌, length, take, Option, Some, None, IfSome, refl, sym, ap, subst, arith, w32, w64, if◌then◌else◌}
+use Rattle.std.proofs.Common.{◌≡◌, ◌∙◌, ℕ, ◌<◌, ◌-◌, ◌==◌, Bool, true, false, ℤ, List, [], ◌∷◌, ◌++◌, length, take, Option, Some, None, IfSome, refl, sym, subst, arith, w32, w64, if◌then◌else◌}
 use Rattle.std.proofs.lemmas.List.Elements.{All-cons, All-nil}
-use Rattle.std.specs.Int.{byte_at, bytes_high_first, to_be_bytes}
+use Rattle.std.specs.Int.{to_be_bytes}
 use Rattle.std.specs.Prelude.{All, FitsSigned, codes, pos, option_and_then, slice_get}
 use Rattle.std.specs.Str.{bytes_eq}
-use Rattle.hex.specs.Hex.{IsBytes}
 use Rattle.xa_base.proofs.CallLemmas.{with_is_made}
 use Rattle.xa_base.specs.Branch.{xid_of_branch}
 use Rattle.xa_base.specs.Call.{call_with, xid_in}
 use Rattle.xa_base.specs.Xid.{Xid, IsXid}
-use Rattle.xa_base.specs.declared.answer.Answer.TheVariants.{Page, Ret}
 use Rattle.xa_base.specs.declared.branch.Branch.{Branch}
 use Rattle.xa_base.specs.declared.branch.Gtrid.{Gtrid}
 use Rattle.xa_base.specs.declared.call.Call.{Call}
 use Rattle.xa_base.specs.declared.call.CallKind.{CallKind}
 use Rattle.xa_base.specs.declared.call.CallKind.TheVariants as kinds
 use Rattle.xa_files.specs.Words.{call_named}
-use Rattle.xa_requests.specs.Answers.{Answered, answer_behind, answer_request, bare_answer, branch_answer, page_answer, recover_answer}
+use Rattle.xa_requests.specs.Answers.{Answered, answer_behind, answer_request, bare_answer, branch_answer, page_answered, recover_answer}
 use Rattle.xa_requests.specs.Calls.{bare_call, branch_call, call_behind, call_in, flags_in, issue_request, recover_call}
 use Rattle.xa_requests.specs.Decisions.{begin_request, decide_request, only_gtrid, some_gtrids}
 use Rattle.xa_requests.specs.Identifiers.{HasXids, ListsXids, RequestsHaveXids}
-use Rattle.xa_requests.specs.Names.{branch_named, each, gtrid_named, xid_named}
+use Rattle.xa_requests.specs.Names.{branch_named, each_named, gtrid_named, xid_named}
 use Rattle.xa_requests.specs.Numbers.{index_of, integer_of}
-use Rattle.xa_requests.specs.Recoveries.{bare_request, crash_request, only_index, only_line}
+use Rattle.xa_requests.specs.Recoveries.{bare_request, crash_request, line_in_words, only_index}
 use Rattle.xa_requests.specs.Requests.{request_in, request_with}
 use Rattle.xa_requests.specs.Verbs.{code_named, outcome_named, verb_named}
 use Rattle.xa_requests.specs.Words.{Word, words_of}
@@ -66,7 +64,8 @@ branch_is : (b : Branch) → IsXid (xid_of_branch b)
 branch_is b = record {
   in_range = record {
     format = seven_fits;
-    gtrid = append_bytes (to_be_bytes w64 b.gtrid.incarnation) (to_be_bytes w64 b.gtrid.sequence) (number_bytes 8 b.gtrid.incarnation) (number_bytes 8 b.gtrid.sequence);
+    gtrid = append_bytes (to_be_bytes w64 b.gtrid.incarnation) (to_be_bytes w64 b.gtrid.sequence) (number_bytes 8 b.gtrid.incarnation)
+        (number_bytes 8 b.gtrid.sequence);
     bqual = append_bytes (to_be_bytes w32 b.thread) (to_be_bytes w32 b.rm) (number_bytes 4 b.thread) (number_bytes 4 b.rm);
   };
   faultless = refl;
@@ -86,12 +85,13 @@ branch_named_is thread rm word = by (gtrid_named word)
     by (Some gtrid) = branch_is (record { gtrid = gtrid; thread = thread; rm = rm })
     by None = named_is word
 
-each_is : (words : List Word) → IfSome (each xid_named words) (All IsXid)
-unfolding each
+each_is : (words : List Word) → IfSome (each_named xid_named words) (All IsXid)
+unfolding each_named
 each_is [] = All-nil IsXid
 each_is (word ∷ words) =
     if_then IsXid (All IsXid) (xid_named word) _ (named_is word)
-    (λ x is. if_then (All IsXid) (All IsXid) (each xid_named words) (λ others. Some (x ∷ others)) (each_is words) (λ others are. All-cons IsXid x others is are))
+    (λ x is. if_then (All IsXid) (All IsXid) (each_named xid_named words) (λ others. Some (x ∷ others)) (each_is words)
+    (λ others are. All-cons IsXid x others is are))
 
 -- ** calls
 
@@ -161,8 +161,8 @@ branch_answer_has kind thread rm (branch ∷ number ∷ []) =
     (λ x is. any_then AnswerHas (code_named number) _ (λ code. (is, tt)))
 branch_answer_has kind thread rm (branch ∷ number ∷ more ∷ words) = tt
 
-page_has : (words : List Word) → IfSome (page_answer words) AnswerHas
-page_has words = if_then (All IsXid) AnswerHas (each xid_named words) _ (each_is words) (λ xids are. (tt, are))
+page_has : (words : List Word) → IfSome (page_answered words) AnswerHas
+page_has words = if_then (All IsXid) AnswerHas (each_named xid_named words) _ (each_is words) (λ xids are. (tt, are))
 
 recover_answer_has : (words : List Word) → IfSome (recover_answer words) AnswerHas
 unfolding recover_answer
@@ -170,10 +170,10 @@ recover_answer_has [] = tt
 recover_answer_has (number ∷ words) = by (index_of number)
   where
     by : (o : Option ℕ) → IfSome (elim o [
-      | Some count ↦ if count == length words then page_answer words else None
+      | Some count ↦ if count == length words then page_answered words else None
       | None ↦ bare_answer kinds.Recover (number ∷ words)
     ]) AnswerHas
-    by (Some count) = if_choice AnswerHas (count == length words) (page_answer words) None (page_has words) tt
+    by (Some count) = if_choice AnswerHas (count == length words) (page_answered words) None (page_has words) tt
     by None = bare_answer_has kinds.Recover (number ∷ words)
 
 answer_has : (kind : CallKind) (thread rm : ℕ) (words : List Word) → IfSome (answer_behind kind thread rm words) AnswerHas
@@ -208,7 +208,7 @@ decides_have words =
 crashes_have : (words : List Word) → IfSome (crash_request words) HasXids
 crashes_have [] = tt
 crashes_have (part ∷ words) =
-    if_choice HasXids (bytes_eq part (codes "line")) _ _ (any_then HasXids (only_line words) _ (λ line. tt))
+    if_choice HasXids (bytes_eq part (codes "line")) _ _ (any_then HasXids (line_in_words words) _ (λ line. tt))
     (if_choice HasXids (bytes_eq part (codes "rm")) _ None (any_then HasXids (only_index words) _ (λ rm. tt)) tt)
 
 bare_have : (request : Request) (words : List Word) → HasXids request → IfSome (bare_request request words) HasXids
@@ -228,7 +228,7 @@ with_verb verbs.Abandon words = any_then HasXids (only_gtrid words) _ (λ g. tt)
 with_verb verbs.Done words = any_then HasXids (some_gtrids words) _ (λ gs. tt)
 with_verb verbs.Resolve words = any_then HasXids (only_index words) _ (λ rm. tt)
 with_verb verbs.ResolveOpen words = any_then HasXids (only_index words) _ (λ rm. tt)
-with_verb verbs.Waiting words = any_then HasXids (only_line words) _ (λ line. tt)
+with_verb verbs.Waiting words = any_then HasXids (line_in_words words) _ (λ line. tt)
 with_verb verbs.Owed words = any_then HasXids (only_index words) _ (λ rm. tt)
 with_verb verbs.Crash words = crashes_have words
 with_verb verbs.Status words = bare_have requests.Status words tt

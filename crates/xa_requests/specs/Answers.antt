@@ -33,14 +33,14 @@ branch_answer kind thread rm (branch ∷ number ∷ []) = do
 branch_answer kind thread rm _ = None
 
 -- XID ..
-abbrev pub page_answer : List Word → Option Answered
-page_answer words = xids_named words >>= λ xids. Some (record { kind = kinds.Recover; xid = None }, Page xids)
+abbrev pub page_answered : List Word → Option Answered
+page_answered words = xids_named words >>= λ xids. Some (record { kind = kinds.Recover; xid = None }, Page xids)
 
 -- NUMBER XID .., where the number is how many identifiers follow; or a number that is below 0
 unfoldable pub recover_answer : List Word → Option Answered
 recover_answer [] = None
 recover_answer (number ∷ words) = elim (index_of number) [
-  | Some count ↦ if count == length words then page_answer words else None
+  | Some count ↦ if count == length words then page_answered words else None
   | None ↦ bare_answer kinds.Recover (number ∷ words)
 ]
 

@@ -38,15 +38,15 @@ branch_named thread rm word = elim (gtrid_named word) [
 ]
 
 -- what each word names, where each names something
-unfoldable pub each : {A : Type 0} → (Word → Option A) → List Word → Option (List A)
-each named [] = Some []
-each named (word ∷ words) = do
+unfoldable pub each_named : {A : Type 0} → (Word → Option A) → List Word → Option (List A)
+each_named named [] = Some []
+each_named named (word ∷ words) = do
   first ← named word
-  others ← each named words
+  others ← each_named named words
   Some (first ∷ others)
 
 abbrev pub gtrids_named : List Word → Option (List Gtrid)
-gtrids_named words = each gtrid_named words
+gtrids_named words = each_named gtrid_named words
 
 abbrev pub xids_named : List Word → Option (List Xid)
-xids_named words = each xid_named words
+xids_named words = each_named xid_named words

@@ -13,12 +13,12 @@ only_index (r ∷ []) = index_of r
 only_index _ = None
 
 -- T R
-unfoldable pub only_line : List Word → Option (ℕ × ℕ)
-only_line (t ∷ r ∷ []) = do
+unfoldable pub line_in_words : List Word → Option (ℕ × ℕ)
+line_in_words (t ∷ r ∷ []) = do
   thread ← index_of t
   rm ← index_of r
   Some (thread, rm)
-only_line _ = None
+line_in_words _ = None
 
 -- resolve R
 abbrev pub resolve_request : List Word → Option Request
@@ -34,13 +34,13 @@ owed_request words = only_index words >>= λ rm. Some (requests.Owed rm)
 
 -- waiting T R
 abbrev pub waiting_request : List Word → Option Request
-waiting_request words = only_line words >>= λ line. Some (requests.Waiting line.0 line.1)
+waiting_request words = line_in_words words >>= λ line. Some (requests.Waiting line.0 line.1)
 
 -- crash line T R, crash rm R
 abbrev pub crash_request : List Word → Option Request
 crash_request [] = None
 crash_request (part ∷ words) =
-    if bytes_eq part (codes "line") then (only_line words >>= λ line. Some (requests.CrashLine line.0 line.1))
+    if bytes_eq part (codes "line") then (line_in_words words >>= λ line. Some (requests.CrashLine line.0 line.1))
     else if bytes_eq part (codes "rm") then (only_index words >>= λ rm. Some (requests.CrashRm rm))
     else None
 

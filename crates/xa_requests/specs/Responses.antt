@@ -80,12 +80,12 @@ status_text up happened = codes "status " ++ (if up then codes "up" else codes "
 abbrev pub refused_text : Refusal → List ℕ
 refused_text refusal = codes "refused " ++ decimal (refusal_number refusal) ++ codes " " ++ refusal_name refusal
 
-abbrev pub fault_text : RequestFault → List ℕ
-fault_text faults.NoRequest = codes "error not a request"
-fault_text faults.NothingWaits = codes "error nothing waits"
-fault_text faults.OtherCall = codes "error another call waits first"
-fault_text faults.NoSuchAnswer = codes "error no such answer"
-fault_text faults.NoSuchState = codes "error the branch is in no such state"
+abbrev pub error_text : RequestFault → List ℕ
+error_text faults.NoRequest = codes "error not a request"
+error_text faults.NothingWaits = codes "error nothing waits"
+error_text faults.OtherCall = codes "error another call waits first"
+error_text faults.NoSuchAnswer = codes "error no such answer"
+error_text faults.NoSuchState = codes "error the branch is in no such state"
 
 -- the line of a reply
 abbrev pub response_text : Response → List ℕ
@@ -104,4 +104,4 @@ response_text responses.Crashed = codes "crashed"
 response_text (responses.Status up happened) = status_text up happened
 response_text responses.Bye = codes "bye"
 response_text (responses.Refused refusal) = refused_text refusal
-response_text (responses.Fault fault) = fault_text fault
+response_text (responses.Fault fault) = error_text fault

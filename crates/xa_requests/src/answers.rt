@@ -1,7 +1,7 @@
 //! The requests that tell what was answered.
 
 ghost use Rattle.std.specs.Prelude.{◌≡◌, map, IfOk};
-ghost use Rattle.xa_requests.specs.Answers.{answer_behind, answer_request, bare_answer, branch_answer, page_answer, recover_answer};
+ghost use Rattle.xa_requests.specs.Answers.{answer_behind, answer_request, bare_answer, branch_answer, page_answered, recover_answer};
 
 use crate::names::{branch_named, xids_named};
 use crate::numbers::index_of;
@@ -44,7 +44,7 @@ fn branch_answer(kind: CallKind, thread: u32, rm: u32, words: &[&str]) -> Option
 
 /// A page that lists the identifiers that the words spell.
 fn page_answer(alloc: Global, words: &[&str]) -> Result<Option<(CallName, Answer)>, AllocError>
-    ensures { IfOk result (λ answer. answer ≡ page_answer (map (λ word. word.now) words.now)) }
+    ensures { IfOk result (λ answer. answer ≡ page_answered (map (λ word. word.now) words.now)) }
 {
     Ok(match xids_named(alloc, words)? {
         Some(page) => {

@@ -1,7 +1,7 @@
 //! The requests of recovery, of crashes, and about the session.
 
 ghost use Rattle.std.specs.Prelude.{◌≡◌, map};
-ghost use Rattle.xa_requests.specs.Recoveries.{bare_request, crash_request, only_index, only_line, owed_request, resolve_open_request, resolve_request, waiting_request};
+ghost use Rattle.xa_requests.specs.Recoveries.{bare_request, crash_request, line_in_words, only_index, owed_request, resolve_open_request, resolve_request, waiting_request};
 
 use crate::numbers::index_of;
 use crate::request::Request;
@@ -17,9 +17,9 @@ fn only_index(words: &[&str]) -> Option<u32>
 }
 
 /// The line of a thread to a resource manager, which are the only two words.
-#[tactic(auto, unfolding(crate::specs::Recoveries::only_line))]
+#[tactic(auto, unfolding(crate::specs::Recoveries::line_in_words))]
 fn only_line(words: &[&str]) -> Option<(u32, u32)>
-    ensures { result ≡ only_line (map (λ word. word.now) words.now) }
+    ensures { result ≡ line_in_words (map (λ word. word.now) words.now) }
 {
     let [thread, rm] = words else {
         return None;

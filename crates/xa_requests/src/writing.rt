@@ -3,7 +3,7 @@
 ghost use Rattle.std.specs.Prelude.{◌≡◌, ◌++◌, [], if◌then◌else◌, IfOk, OnOk};
 ghost use Rattle.std.specs.List.{flat_map};
 ghost use Rattle.std.specs.String.{string_bytes};
-ghost use Rattle.xa_requests.specs.Responses.{begun_text, branch_text, call_text, fault_text, heard_text, kind_text, listed_xid, owed_text, recover_text, refused_text, response_text, restarted_text, scan_text, status_text};
+ghost use Rattle.xa_requests.specs.Responses.{begun_text, branch_text, call_text, error_text, heard_text, kind_text, listed_xid, owed_text, recover_text, refused_text, response_text, restarted_text, scan_text, status_text};
 
 use crate::response::{RequestFault, Response};
 use std::alloc::Global;
@@ -175,7 +175,7 @@ fn refused_text(alloc: Global, refusal: Refusal) -> Result<String, Memory>
 
 /// A fault in words.
 fn fault_text(fault: RequestFault) -> &'static str
-    ensures { result.now ≡ fault_text fault }
+    ensures { result.now ≡ error_text fault }
 {
     match fault {
         RequestFault::NoRequest => "error not a request",

@@ -3,7 +3,7 @@ use Rattle.std.proofs.Common.{◌≡◌, ℕ, ◌+◌, ◌-◌, ◌<◌, List, [
 use Rattle.std.specs.Borrow.{Bor}
 use Rattle.std.proofs.lemmas.Bool.{true≢false}
 use Rattle.std.proofs.lemmas.List.{length-map, map-append, take-append-drop, take_all, take_more}
-use Rattle.xa_names.specs.Names.{is_name}
+use Rattle.xa_names.specs.Names.{is_manager_name}
 use Rattle.xa_restore.specs.Headings.{IsHeadingOf, name_line, name_lines, rm_line, rm_lines, rm_lines_from}
 
 -- what lines say
@@ -47,12 +47,12 @@ first_and_rest [] d some = absurd (omega arith)
 first_and_rest (line ∷ lines) d some = ap (λ rest. line ∷ rest) (sym (take_all (length (line ∷ lines) - 1) lines (omega arith)))
 
 -- a name has one line
-name_has_line : (name : List ℕ) → is_name name ≡ true → name_lines name ≡ name_line name ∷ []
+name_has_line : (name : List ℕ) → is_manager_name name ≡ true → name_lines name ≡ name_line name ∷ []
 name_has_line [] is = absurd (true≢false (sym is))
 name_has_line (c ∷ cs) is = refl
 
 module _ (lines : List (Bor (List ℕ))) (name : List ℕ) (rms : List (List ℕ)) (k : ℕ) where
-  pub heading_named : (d : Bor (List ℕ)) → 0 < length lines → (get_or lines 0 d).now ≡ name_line name → is_name name ≡ true
+  pub heading_named : (d : Bor (List ℕ)) → 0 < length lines → (get_or lines 0 d).now ≡ name_line name → is_manager_name name ≡ true
       → texts (take k (take (length lines - 1) (drop 1 lines))) ≡ rm_lines rms → IsHeadingOf name rms (texts lines)
   heading_named d some first is others =
       let rest = take (length lines - 1) (drop 1 lines) in

@@ -8,7 +8,7 @@ use Rattle.std.proofs.lemmas.Slice.Eq.{bytes_eq-Decides}
 use Rattle.std.specs.Str.{bytes_eq}
 use Rattle.xa_log.specs.declared.decision.Decision.{Decision}
 use Rattle.xa_names.specs.Lines.{line_renamed}
-use Rattle.xa_restore.specs.LogLines.{AreLinesOf, decision_line, incarnation_line}
+use Rattle.xa_restore.specs.LogLines.{AreLogLinesOf, decision_row_line, incarnation_line}
 use Rattle.xa_restore.proofs.HeadingLemmas.{texts}
 
 not_true : (b : Bool) → false ≡ not b → b ≡ true
@@ -42,15 +42,15 @@ module _ (line : Bor (List ℕ)) (lines : List (Bor (List ℕ))) (d e : Bor (Lis
 
 pub lines_are : (lines : List (Bor (List ℕ))) (d e : Bor (List ℕ)) (name : List ℕ) (n : ℕ) (decisions : List Decision) → 1 < length lines
     → (get_or lines 0 d).now ≡ incarnation_line n → (get_or lines (length lines - 1) e).now ≡ codes "end"
-    → map (λ line. line_renamed name line.now) (take ((length lines - 1) - 1) (drop 1 lines)) ≡ map decision_line decisions
-    → AreLinesOf name (texts lines) n decisions
+    → map (λ line. line_renamed name line.now) (take ((length lines - 1) - 1) (drop 1 lines)) ≡ map decision_row_line decisions
+    → AreLogLinesOf name (texts lines) n decisions
 lines_are [] d e name n decisions some first last meant = absurd (omega arith)
 lines_are (line ∷ lines) d e name n decisions some first last meant =
     let more : 0 < length lines = omega arith in
     let last_place : length (line ∷ lines) - 1 ≡ suc (length lines - 1) = omega arith in
     let rows_count : (length (line ∷ lines) - 1) - 1 ≡ length lines - 1 = omega arith in
     let LastIs : ℕ → Type 0 = λ i. (get_or (line ∷ lines) i e).now ≡ codes "end" in
-    let HaveMeant : ℕ → Type 0 = λ i. map (λ line. line_renamed name line.now) (take i lines) ≡ map decision_line decisions in
+    let HaveMeant : ℕ → Type 0 = λ i. map (λ line. line_renamed name line.now) (take i lines) ≡ map decision_row_line decisions in
     record {
       rows = texts (take (length lines - 1) lines);
       whole = whole_is line lines d e name n decisions more first (subst LastIs last_place last);

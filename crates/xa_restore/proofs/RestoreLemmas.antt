@@ -1,11 +1,9 @@
 -- A log that is started again and again, and then given rows.
-use Rattle.std.proofs.Common.{◌≡◌, ℕ, ◌+◌, List, ap, subst, sym, ◌∙◌, arith, add-zero}
-use Rattle.std.specs.Prelude.{Some, Ok, Result, IsSomeAnd}
-use Rattle.xa_log.specs.Content.{Content, with_bump, with_commits, with_incarnation}
+use Rattle.std.proofs.Common.{◌≡◌, ℕ, ◌+◌, ap, subst, sym, ◌∙◌, arith, add-zero}
+use Rattle.std.specs.Prelude.{Some, Ok, IsSomeAnd}
+use Rattle.xa_log.specs.Content.{Content, with_bump, with_incarnation}
 use Rattle.xa_log.specs.Contract.{Changes, Moment}
-use Rattle.xa_log.specs.declared.decision.Decision.{Decision}
-use Rattle.xa_log.specs.declared.log_fault.LogFault.{LogFault}
-use Rattle.xa_restore.specs.Restored.{HasRaised, restored}
+use Rattle.xa_restore.specs.Restored.{HasRaised}
 
 -- what a log holds that was made of one that held this
 made_of : (change : Content → Content) (old new : _) (c : Content) → old ≡ Some c → IsSomeAnd old (λ c. new ≡ Some (change c)) → new ≡ Some (change c)

@@ -2,12 +2,12 @@
 use Rattle.std.specs.Prelude.{◌≡◌, ◌&&◌, ℕ, ◌+◌, Bool, nat_le, List, [], ◌∷◌, ◌++◌, codes, length}
 use Rattle.std.specs.Fmt.{decimal}
 use Rattle.std.specs.List.{list_all}
-use Rattle.xa_names.specs.Names.{is_name_byte}
+use Rattle.xa_names.specs.Names.{is_manager_name_byte}
 use Rattle.xa_restore.specs.declared.heading.TheConstants.{RM_NAME_LEN}
 
 -- a text that may be the name of a resource manager
 abbrev pub is_rm_name : List ℕ → Bool
-is_rm_name text = nat_le 1 (length text) && (nat_le (length text) RM_NAME_LEN && list_all is_name_byte text)
+is_rm_name text = nat_le 1 (length text) && (nat_le (length text) RM_NAME_LEN && list_all is_manager_name_byte text)
 
 abbrev pub name_line : List ℕ → List ℕ
 name_line name = codes "name " ++ name

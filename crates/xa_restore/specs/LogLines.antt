@@ -21,8 +21,8 @@ abbrev pub branch_words : List Branch → List ℕ
 branch_words = flat_map branch_word
 
 -- a transaction that is decided to commit, how many branches it waits for, and these
-abbrev pub decision_line : Decision → List ℕ
-decision_line d = gtrid_text d.gtrid ++ codes " " ++ decimal (length d.participants.items) ++ branch_words d.participants.items
+abbrev pub decision_row_line : Decision → List ℕ
+decision_row_line d = gtrid_text d.gtrid ++ codes " " ++ decimal (length d.participants.items) ++ branch_words d.participants.items
 
 -- the participants are branches of the transaction
 abbrev pub OwnsBranches : Decision → Type 0
@@ -30,7 +30,7 @@ OwnsBranches d = AllByRecursion (λ b. b.gtrid ≡ d.gtrid) d.participants.items
 
 -- These are the lines of a log of this incarnation with these decisions, whose manager has this name: the incarnation; a line for each
 -- decision, as this manager means it; and `end`, so that lines that were cut off are those of no log.
-pub record AreLinesOf (name : List ℕ) (lines : List (List ℕ)) (n : ℕ) (decisions : List Decision) : Type 0 where
+pub record AreLogLinesOf (name : List ℕ) (lines : List (List ℕ)) (n : ℕ) (decisions : List Decision) : Type 0 where
   pub rows : List (List ℕ)
   pub whole : lines ≡ incarnation_line n ∷ rows ++ codes "end" ∷ []
-  pub meant : map (line_renamed name) rows ≡ map decision_line decisions
+  pub meant : map (line_renamed name) rows ≡ map decision_row_line decisions

@@ -5,7 +5,7 @@ ghost use Rattle.std.specs.List.{AllByRecursion};
 ghost use Rattle.xa_files.specs.Gtrids.{gtrid_text};
 ghost use Rattle.std.specs.String.{string_bytes};
 ghost use Rattle.xa_log.specs.Contract.{FitsRow};
-ghost use Rattle.xa_restore.specs.LogLines.{OwnsBranches, branch_word, branch_words, decision_line};
+ghost use Rattle.xa_restore.specs.LogLines.{OwnsBranches, branch_word, branch_words, decision_row_line};
 
 use crate::spelling::is_written;
 use std::alloc::Global;
@@ -34,7 +34,7 @@ fn push_branches(line: &mut String, alloc: Global, branches: &[Branch]) -> Resul
 
 /// The line of a decision.
 fn decision_line(alloc: Global, decision: &Decision) -> Result<String, Memory>
-    ensures { IfOk result (λ line. string_bytes line ≡ decision_line decision.now) }
+    ensures { IfOk result (λ line. string_bytes line ≡ decision_row_line decision.now) }
 {
     let name = gtrid_text(alloc, decision.gtrid)?;
     let mut line = format!(in alloc; "{name} {}", decision.participants.len())?;
@@ -108,7 +108,7 @@ fn fits_row(gtrid: Gtrid) -> bool
 ///
 /// What the words say is written again, and has to be that line: so each decision has one line.
 pub(crate) fn read_decision(alloc: Global, line: &str) -> Result<Option<Decision>, Memory>
-    ensures line { IfOk result (λ decision. IfSome decision (λ d. line.now ≡ decision_line d)) }
+    ensures line { IfOk result (λ decision. IfSome decision (λ d. line.now ≡ decision_row_line d)) }
     ensures own { IfOk result (λ decision. IfSome decision OwnsBranches) }
     ensures fits { IfOk result (λ decision. IfSome decision (λ d. FitsRow d.gtrid)) }
 {

@@ -11,14 +11,15 @@ pub enum LineFault {
     #[error("a name has 1 to 16 letters, digits, _ and -")]
     Name,
     /// It isn't the line of a resource manager's name that comes here.
-    #[error("`rm NUMBER NAME` is wanted, from number 0 on, with another name for each: 1 to 64 letters, digits, _ and -")]
+    #[error("`rm NUMBER NAME` is wanted, from number 0 on, with another name for each: \
+        1 to 64 letters, digits, _ and -")]
     Rm,
     /// It isn't the line of the incarnation, which comes first.
     #[error("`incarnation N` is wanted, with N at most 1000000")]
     Incarnation,
     /// It isn't the line of a decision.
-    #[error("a decision is wanted: its transaction, how many participants it has, and these, each a branch of it by its \
-        identifier, all as `xatm log` prints them")]
+    #[error("a decision is wanted: its transaction, how many participants it has, and these, \
+        each a branch of it by its identifier, all as `xatm log` prints them")]
     Decision,
     /// Its transaction doesn't come behind that of the line before it.
     #[error("its transaction is to come behind that of the line before it")]

@@ -1,7 +1,7 @@
 //! The names that the lines of a log begin with.
 
 ghost use Rattle.std.specs.Prelude.{◌≡◌, ◌≤◌, true, length, map, IfOk, IfSome, take};
-ghost use Rattle.xa_names.specs.Names.{is_name};
+ghost use Rattle.xa_names.specs.Names.{is_manager_name};
 ghost use Rattle.xa_restore.specs.Headings.{IsHeadingOf, is_rm_name, name_line, rm_line, rm_lines};
 
 use crate::faults::{LineFault, RestoreFault};
@@ -30,7 +30,7 @@ pub struct Heading<'a> {
 /// The name of the manager in the line that gives it, where this is one.
 fn read_name(line: &str) -> Result<Option<ManagerName>, LineFault>
     ensures line { IfOk result (λ name. IfSome name (λ name. line.now ≡ name_line name)) }
-    ensures named { IfOk result (λ name. IfSome name (λ name. is_name name ≡ true)) }
+    ensures named { IfOk result (λ name. IfSome name (λ name. is_manager_name name ≡ true)) }
 {
     let Some(word) = line.strip_prefix("name ") else {
         return Ok(None);

@@ -4,7 +4,7 @@ ghost use Rattle.std.specs.Prelude.{◌≡◌, ◌≤◌, map, IfNone, IfOk, IfS
 ghost use Rattle.std.specs.List.{AllByRecursion};
 ghost use Rattle.xa_log.specs.Contract.{FitsRow};
 ghost use Rattle.xa_names.specs.Lines.{line_renamed};
-ghost use Rattle.xa_restore.specs.LogLines.{AreLinesOf, OwnsBranches, decision_line, incarnation_line};
+ghost use Rattle.xa_restore.specs.LogLines.{AreLogLinesOf, OwnsBranches, decision_row_line, incarnation_line};
 
 use crate::decision_line::read_decision;
 use crate::faults::{LineFault, RestoreFault};
@@ -69,7 +69,7 @@ fn read_decisions(
     lines: &[&str],
 ) -> Result<Vec<Decision>, RestoreFault>
     ensures lines { IfOk result (λ decisions. map (λ line. line_renamed name.now line.now) lines.now
-        ≡ map decision_line decisions.items) }
+        ≡ map decision_row_line decisions.items) }
     ensures own { IfOk result (λ decisions. AllByRecursion OwnsBranches decisions.items) }
     ensures fits { IfOk result (λ decisions.
         AllByRecursion (λ d. FitsRow d.gtrid) decisions.items) }
@@ -98,7 +98,7 @@ fn read_decisions(
 /// What is told of a fault is the first line that is wrong, from 1; without a line `end` it is the place where that is to
 /// stand.
 pub fn read_log(alloc: Global, name: &ManagerName, lines: &[&str]) -> Result<LogLines, RestoreFault>
-    ensures lines { IfOk result (λ log. AreLinesOf name.now (map (λ line. line.now) lines.now)
+    ensures lines { IfOk result (λ log. AreLogLinesOf name.now (map (λ line. line.now) lines.now)
         log.incarnation log.decisions.items) }
     ensures own { IfOk result (λ log. AllByRecursion OwnsBranches log.decisions.items) }
     ensures fits { IfOk result (λ log. AllByRecursion (λ d. FitsRow d.gtrid) log.decisions.items) }

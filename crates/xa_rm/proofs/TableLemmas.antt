@@ -28,7 +28,7 @@ use Rattle.xa_base.specs.declared.state.Fate.TheVariants as Fates
 use Rattle.xa_base.specs.declared.state.Standing.{Standing}
 use Rattle.xa_base.specs.declared.state.Standing.TheVariants.{Unstarted, Active, Idle, Prepared, RollbackOnly, Completed, Committed, RolledBack, Lost, ReadOnly, Forgotten}
 use Rattle.xa_base.proofs.StateLemmas.{broken_in_doubt}
-use Rattle.xa_rm.specs.Branches.{IsIndex, Lists, held_at, branch_or_new}
+use Rattle.xa_rm.specs.Branches.{IsIndex, ListsIf, held_at, branch_or_new}
 use Rattle.xa_rm.specs.TableEntries.{held_branch, was_started}
 use Rattle.xa_rm.specs.ResourceManager.{HoldsFormat, HoldsNewer, HoldsNoFormat, HoldsPast, is_past, is_past_as, names_newer}
 use Rattle.xa_rm.specs.declared.table_entry.TableEntry.{TableEntry}
@@ -56,8 +56,9 @@ put_at true b had h o e f = e
 put_at false b had h o e f = f
 
 -- the index goes along
-pub index_after_put : {S : Type 0} (table new_table : HashMap Xid TableEntry S) (index new_index : BTreeSet Xid) (x : Xid) (h : TableEntry) (b : Bool) → IsIndex table index
-    → hashed.Updates xid_eq table new_table x (Some h) → Lists index new_index x b → b ≡ is_in_doubt h.standing
+pub index_after_put : {S : Type 0} (table new_table : HashMap Xid TableEntry S) (index new_index : BTreeSet Xid) (x : Xid) (h : TableEntry) (b : Bool)
+    → IsIndex table index
+    → hashed.Updates xid_eq table new_table x (Some h) → ListsIf index new_index x b → b ≡ is_in_doubt h.standing
     → IsIndex new_table new_index
 index_after_put table new_table index new_index x h b is_index put listed e = record {
   indexed = λ q.
@@ -67,7 +68,7 @@ index_after_put table new_table index new_index x h b is_index put listed e = re
 }
 
 -- an index lists what it lists
-pub lists_same : (index : BTreeSet Xid) (x : Xid) (b : Bool) → contains xid_cmp index x ≡ b → Lists index index x b
+pub lists_same : (index : BTreeSet Xid) (x : Xid) (b : Bool) → contains xid_cmp index x ≡ b → ListsIf index index x b
 lists_same index x b e y =
     elim (xid_eq x y) as (λ t. xid_eq x y ≡ t → contains xid_cmp index y ≡ (if t then b else contains xid_cmp index y)) [
       | true ↦ λ same. ap (contains xid_cmp index) (sym (xid_eq-same x y same)) ∙ e
@@ -200,7 +201,8 @@ and-second true b h e = e
 and-second false b h e = let no : ⊥ = cc in absurd no
 
 -- an entry of the format that was started is of a branch that was
-pub format_held : {S : Type 0} (table : HashMap Xid TableEntry S) → All (λ (p : Xid × TableEntry). hashed.get xid_eq table p.0 ≡ Some p.1) table.entries → (z : ℤ)
+pub format_held : {S : Type 0} (table : HashMap Xid TableEntry S) → All (λ (p : Xid × TableEntry). hashed.get xid_eq table p.0 ≡ Some p.1) table.entries
+    → (z : ℤ)
     → list_any (is_of_format z) table.entries ≡ true → HoldsFormat (held_at table) z
 format_held table found_each z e =
     let some = Any-from_list_any (is_of_format z) table.entries e in
@@ -230,7 +232,8 @@ unstarted_at x z of (e ∷ es) none =
     ] refl
 
 -- where there is no such entry, no branch of the format ever was
-pub format_not_held : {S : Type 0} (table : HashMap Xid TableEntry S) (z : ℤ) → list_any (is_of_format z) table.entries ≡ false → HoldsNoFormat (held_at table) z
+pub format_not_held : {S : Type 0} (table : HashMap Xid TableEntry S) (z : ℤ) → list_any (is_of_format z) table.entries ≡ false
+    → HoldsNoFormat (held_at table) z
 format_not_held table z none = record { unstarted = λ x of. unstarted_at x z of table.entries none }
 
 -- ** what earlier processes left
@@ -249,7 +252,8 @@ newer_by_branch r i x b valid read is = sym (λ j. not (own j && is_past r i b))
 abbrev pub is_newer_entry : (rm incarnation : ℕ) → Xid × TableEntry → Bool
 is_newer_entry r i e = names_newer r i e.0 && was_started e.1.standing
 
-pub newer_held : {S : Type 0} (table : HashMap Xid TableEntry S) → All (λ (p : Xid × TableEntry). hashed.get xid_eq table p.0 ≡ Some p.1) table.entries → (r i : ℕ)
+pub newer_held : {S : Type 0} (table : HashMap Xid TableEntry S) → All (λ (p : Xid × TableEntry). hashed.get xid_eq table p.0 ≡ Some p.1) table.entries
+    → (r i : ℕ)
     → list_any (is_newer_entry r i) table.entries ≡ true → HoldsNewer (held_at table) r i
 newer_held table found_each r i e =
     let some = Any-from_list_any (is_newer_entry r i) table.entries e in
@@ -278,5 +282,6 @@ past_at x r i of (e ∷ es) none =
       | false ↦ λ at. past_at x r i of es neither.1
     ] refl
 
-pub newer_not_held : {S : Type 0} (table : HashMap Xid TableEntry S) (r i : ℕ) → list_any (is_newer_entry r i) table.entries ≡ false → HoldsPast (held_at table) r i
+pub newer_not_held : {S : Type 0} (table : HashMap Xid TableEntry S) (r i : ℕ) → list_any (is_newer_entry r i) table.entries ≡ false
+    → HoldsPast (held_at table) r i
 newer_not_held table r i none = record { unstarted = λ x of. past_at x r i of table.entries none }

@@ -22,5 +22,5 @@ pub record IsIndex {S : Type 0} (table : HashMap Xid TableEntry S) (index : BTre
   pub indexed : (x : Xid) → contains xid_cmp index x ≡ is_in_doubt (held_at table x).standing
 
 -- the index lists x if this holds, and every other identifier as before
-abbrev pub Lists : (old new : BTreeSet Xid) → Xid → Bool → Type 0
-Lists old new x is_listed = (y : Xid) → contains xid_cmp new y ≡ (if xid_eq x y then is_listed else contains xid_cmp old y)
+abbrev pub ListsIf : (old new : BTreeSet Xid) → Xid → Bool → Type 0
+ListsIf old new x is_listed = (y : Xid) → contains xid_cmp new y ≡ (if xid_eq x y then is_listed else contains xid_cmp old y)

@@ -6,7 +6,7 @@ ghost use Rattle.xa_base.specs.HeldBranch.{answer_of, called};
 ghost use Rattle.xa_base.specs.StateTable.{Kind, asks_of};
 ghost use Rattle.xa_base.specs.Standing.{is_in_doubt};
 ghost use Rattle.xa_base.specs.Xid.{Xid, xid_cmp};
-ghost use Rattle.xa_rm.specs.Branches.{IsIndex, Lists};
+ghost use Rattle.xa_rm.specs.Branches.{IsIndex, ListsIf};
 ghost use Rattle.xa_rm.specs.TableEntries.{held_branch};
 ghost use Rattle.xa_rm.specs.ResourceManager.{names_newer};
 
@@ -47,13 +47,15 @@ fn apply_held(
     call: &Call,
 ) -> Result<Code, Memory>
     requires { contains xid_cmp index.old xid.now ≡ is_in_doubt held.old.standing }
-    ensures answer { IfOk result (λ code. (kind : Kind) (x : Xid) → asks_of call.now ≡ Some (kind, x) →
+    ensures answer { IfOk result (λ code. (kind : Kind) (x : Xid) →
+        asks_of call.now ≡ Some (kind, x) →
         code ≡ answer_of (held_branch held.old) kind) }
     ensures held { OnOk result ((kind : Kind) (x : Xid) → asks_of call.now ≡ Some (kind, x) →
         held_branch held.new ≡ called thread kind (held_branch held.old)) }
-    ensures index { Lists index.old index.new xid.now (is_in_doubt held.new.standing) }
+    ensures index { ListsIf index.old index.new xid.now (is_in_doubt held.new.standing) }
     ensures err { OnErr result (held.new ≡ held.old) }
-    ensures goes_in_doubt { OnErr result ((kind : Kind) (x : Xid) → asks_of call.now ≡ Some (kind, x) →
+    ensures goes_in_doubt { OnErr result ((kind : Kind) (x : Xid) →
+        asks_of call.now ≡ Some (kind, x) →
         is_in_doubt (called thread kind (held_branch held.old)).standing
         ≢ is_in_doubt held.old.standing) }
 {
@@ -72,8 +74,8 @@ fn list_in_doubt(
     is_in_doubt: bool,
 ) -> Result<(), Memory>
     requires { contains xid_cmp index.old xid.now ≡ was_in_doubt }
-    ensures ok { OnOk result (Lists index.old index.new xid.now is_in_doubt) }
-    ensures err { OnErr result (Lists index.old index.new xid.now was_in_doubt) }
+    ensures ok { OnOk result (ListsIf index.old index.new xid.now is_in_doubt) }
+    ensures err { OnErr result (ListsIf index.old index.new xid.now was_in_doubt) }
     ensures goes_in_doubt { OnErr result (is_in_doubt ≢ was_in_doubt) }
 {
     match (was_in_doubt, is_in_doubt) {

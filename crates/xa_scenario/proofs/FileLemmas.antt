@@ -7,8 +7,8 @@ use Rattle.toml.specs.Data.{item}
 use Rattle.toml.specs.View.{view, items_view}
 use Rattle.toml.specs.declared.value.Value.{Value}
 use Rattle.toml.proofs.Views.{items_view-drop}
-use Rattle.xa_scenario.specs.Branches.{Names}
-use Rattle.xa_scenario.specs.Files.{AreAlike, Earlier, file_after, file_then, files_from, is_alike, names_with, with_plan}
+use Rattle.xa_scenario.specs.Branches.{BegunNames}
+use Rattle.xa_scenario.specs.Files.{AreOfOneSize, Earlier, file_after, file_then, files_from, is_alike, names_with, with_plan}
 use Rattle.xa_scenario.specs.Scenarios.{IsSize, IsSized, Plan, names_after}
 use Rattle.xa_files.specs.Reading.{Fails}
 use Rattle.xa_files.specs.declared.fault.RunFault.{RunFault}
@@ -18,13 +18,13 @@ use Rattle.xa_scenario.specs.declared.files.FileFault.{FileFault}
 -- ** the names of one file
 
 -- those of an item in the list, and those after it
-pub names_more : (begun : Names) (vs : List Value) (i : ℕ) (v : Value) → i < length vs → v ≡ get_or vs i v
+pub names_more : (begun : BegunNames) (vs : List Value) (i : ℕ) (v : Value) → i < length vs → v ≡ get_or vs i v
     → names_with (names_after begun (view v)) (items_view (drop (i + 1) vs)) ≡ names_with begun (items_view (drop i vs))
 unfolding names_with
 names_more begun vs i v within is =
     sym (ap (names_with begun) (items_view-drop vs i v within ∙ ap (λ w. item (view w) (items_view (drop (i + 1) vs))) (sym is)))
 
-pub names_end : (begun : Names) (vs : List Value) (i : ℕ) → length vs ≤ i → names_with begun (items_view (drop i vs)) ≡ begun
+pub names_end : (begun : BegunNames) (vs : List Value) (i : ℕ) → length vs ≤ i → names_with begun (items_view (drop i vs)) ≡ begun
 unfolding names_with
 names_end begun vs i past = ap (λ ds. names_with begun (items_view ds)) (drop_of_length-le vs past)
 
@@ -97,7 +97,7 @@ of_size_more (Some size) plans plan each same sized =
     (sized.threads, sized.rms, All-push (Q (plan.threads, plan.rms)) plans plan all (refl, refl))
 
 -- so they are for one system; no plan at all is for any
-pub are_alike : (size : Option (ℕ × ℕ)) (plans : List Plan) → AreOfSize size plans → AreAlike plans
+pub are_alike : (size : Option (ℕ × ℕ)) (plans : List Plan) → AreOfSize size plans → AreOfOneSize plans
 are_alike None plans none = record {
   threads = 1;
   rms = 1;
@@ -112,12 +112,12 @@ sized_by : (threads rms : ℕ) → IsSize threads → IsSize rms → (plan : Pla
 sized_by threads rms some_threads some_rms plan is =
     record { threads = subst IsSize (sym is.0) some_threads; rms = subst IsSize (sym is.1) some_rms }
 
-pub sized_first : (plan : Plan) (plans : List Plan) → AreAlike (plan ∷ plans) → IsSized plan
+pub sized_first : (plan : Plan) (plans : List Plan) → AreOfOneSize (plan ∷ plans) → IsSized plan
 sized_first plan plans alike =
     sized_by alike.threads alike.rms alike.some_threads alike.some_rms plan
     (All-head (λ (p : Plan). (p.threads ≡ alike.threads) × (p.rms ≡ alike.rms)) plan plans alike.each)
 
-module _ {X : Type 0} (f : X → Plan) (plan : Plan) (later : List X) (i : ℕ) (x : X) (alike : AreAlike (plan ∷ map f later)) (within : i < length later)
+module _ {X : Type 0} (f : X → Plan) (plan : Plan) (later : List X) (i : ℕ) (x : X) (alike : AreOfOneSize (plan ∷ map f later)) (within : i < length later)
     (is : x ≡ get_or later i x) where
   abbrev Q : Plan → Type 0
   Q p = (p.threads ≡ alike.threads) × (p.rms ≡ alike.rms)

@@ -4,17 +4,17 @@ use Rattle.toml.specs.Data.{Data, Items, no_items, item}
 use Rattle.xa_files.proofs.TablesInTurnLemmas as listed
 use Rattle.xa_files.proofs.TablesInTurnLemmas.{state_before}
 use Rattle.xa_files.specs.TablesInTurn.{EachIsRead, FirstIsFaulty}
-use Rattle.xa_scenario.specs.Branches.{Names}
+use Rattle.xa_scenario.specs.Branches.{BegunNames}
 use Rattle.xa_scenario.specs.StepTables.{names_before, asked_at}
 use Rattle.xa_scenario.specs.Scenarios.{name_in, names_after, entry_at, entries_from}
 
-by_name : (begun : Names) (name : Option (List ℕ)) (rest : Names)
+by_name : (begun : BegunNames) (name : Option (List ℕ)) (rest : BegunNames)
     → (elim name [ None ↦ begun | Some n ↦ begun ++ n ∷ [] ]) ++ rest ≡ begun ++ ((elim name [ None ↦ [] | Some n ↦ n ∷ [] ]) ++ rest)
 by_name begun None rest = refl
 by_name begun (Some n) rest = append_assoc begun (n ∷ []) rest
 
 -- the names that are begun before a table
-begun_before : (k : ℕ) (begun : Names) (items : Items) → state_before names_after k begun items ≡ begun ++ names_before k items
+begun_before : (k : ℕ) (begun : BegunNames) (items : Items) → state_before names_after k begun items ≡ begun ++ names_before k items
 begun_before zero begun items = sym (append-nil begun)
 begun_before (suc k) begun no_items = sym (append-nil begun)
 begun_before (suc k) begun (item value items) =

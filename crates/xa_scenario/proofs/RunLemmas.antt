@@ -10,16 +10,16 @@ use Rattle.xa_base.specs.declared.state.Fate.{Fate}
 use Rattle.xa_files.specs.Outputs.{AppendsBeginning}
 use Rattle.xa_files.proofs.TablesInTurnLemmas.{same_err}
 use Rattle.xa_files.proofs.ReadingLemmas.{explained}
-use Rattle.xa_files.specs.Reading.{Explains, Fails}
+use Rattle.xa_files.specs.Reading.{Fails, SaysOfReading}
 use Rattle.xa_files.specs.declared.fault.RunFault.{RunFault}
 use Rattle.xa_files.specs.declared.fault.RunFault.TheVariants.{Log, Memory, Work, Output}
-use Rattle.xa_scenario.specs.Plays.{IsPlay, Performs}
+use Rattle.xa_scenario.specs.Plays.{IsPlay, PerformsSteps}
 use Rattle.xa_scenario.specs.Runs.{Begins, BeginsCheck, BeginsRun, IsReportOf, IsRunOf, IsStartOf, StartsOverLog, IsTextOf, Prints, PrintsRun, check_line, run_text}
 use Rattle.xa_scenario.specs.Scenarios.{Plan, scenario_of}
 use Rattle.xa_scenario.proofs.TextFaults as texts
 
 -- a fault of the reading
-pub explains : (fault : RunFault) (text : List ℕ) → Fails fault (scenario_of text) → Explains fault (scenario_of text)
+pub explains : (fault : RunFault) (text : List ℕ) → Fails fault (scenario_of text) → SaysOfReading fault (scenario_of text)
 explains fault text =
     explained fault (scenario_of text) (texts.not_of_log text) (texts.not_of_work text) (texts.not_of_output text)
 
@@ -60,10 +60,10 @@ begins_check text plan old new reads written = record { plan = plan; reads = rea
 
 -- what was played is a run of the scenario
 pub is_run : (plan : Plan) (start end : Origin) (begun events : List Event) → end ≡ start → IsStartOf plan start → begun ≡ []
-    → Performs (IsPlay [] plan.entries) begun events → AreAllowed end events → Headline end events → IsRunOf plan start events
+    → PerformsSteps (IsPlay [] plan.entries) begun events → AreAllowed end events → Headline end events → IsRunOf plan start events
 is_run plan start end begun events same starts none played allowed headline = record {
   start = starts;
-  played = subst (λ old. Performs (IsPlay [] plan.entries) old events) none played;
+  played = subst (λ old. PerformsSteps (IsPlay [] plan.entries) old events) none played;
   allowed = subst (λ o. AreAllowed o events) same allowed;
   headline = subst (λ o. Headline o events) same headline;
 }

@@ -7,7 +7,7 @@ use Rattle.xa_scenario.specs.StepTables.{names_before}
 use Rattle.xa_scenario.specs.Scenarios.{Plan, entry_at, entry_in, entries_from, header_of, scenario_in, scenario_of}
 use Rattle.xa_files.specs.Reading.{◌>>=◌}
 use Rattle.xa_files.specs.Documents.{document_of}
-use Rattle.xa_scenario.specs.Branches.{Names}
+use Rattle.xa_scenario.specs.Branches.{BegunNames}
 use Rattle.xa_files.specs.declared.fault.RunFault.{RunFault}
 use Rattle.xa_files.specs.declared.fault.RunFault.TheVariants.{Header, Step, Log, Work, Output}
 use Rattle.xa_files.proofs.TablesInTurnLemmas.{ok_not_err}
@@ -15,7 +15,7 @@ use Rattle.xa_files.proofs.TextFaults.{document_fault, in_turn, missing, no_text
 use Rattle.xa_scenario.proofs.ListedLemmas.{first_is_faulty}
 
 -- the fault of an entry is that of its step
-entry_fault : (number : ℕ) (begun : Names) (value : Data) (fault : RunFault) → entry_at number begun value ≡ Err fault → IsTextFault Step fault
+entry_fault : (number : ℕ) (begun : BegunNames) (value : Data) (fault : RunFault) → entry_at number begun value ≡ Err fault → IsTextFault Step fault
 entry_fault number begun value fault is = missing Step (entry_in number begun value) (Step number) fault (inr (inr (number, refl))) is
 
 -- the fault of the entries is that of one of them

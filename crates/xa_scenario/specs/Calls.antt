@@ -4,7 +4,7 @@ use Rattle.toml.specs.Data.{Members}
 use Rattle.xa_base.specs.Call.{call_with}
 use Rattle.xa_base.specs.declared.call.Call.{Call}
 use Rattle.xa_files.specs.Fields.{◌>>=◌, holds, index_at, integer_at, text_at}
-use Rattle.xa_scenario.specs.Branches.{Names, branch_if_named, only}
+use Rattle.xa_scenario.specs.Branches.{BegunNames, branch_if_named, only}
 use Rattle.xa_scenario.specs.Flags.{flags_at}
 use Rattle.xa_files.specs.Words.{call_named}
 use Rattle.xa_scenario.specs.declared.entry.BranchEntry.{BranchEntry}
@@ -20,7 +20,7 @@ abbrev pub call_keys : List (List ℕ)
 call_keys = codes "thread" ∷ codes "rm" ∷ codes "xa" ∷ codes "tx" ∷ codes "of" ∷ codes "flags" ∷ codes "count" ∷ []
 
 -- a call of these parts, with its line; a branch's thread is the call's own, where the table names none
-unfoldable pub call_at : Names → Members → Option (ℕ × ℕ × Call BranchEntry)
+unfoldable pub call_at : BegunNames → Members → Option (ℕ × ℕ × Call BranchEntry)
 call_at begun table = only call_keys table (do
   thread ← index_at (codes "thread") table
   rm ← index_at (codes "rm") table
@@ -31,8 +31,8 @@ call_at begun table = only call_keys table (do
   call ← call_with kind branch flags count
   Some (thread, rm, call))
 
-abbrev pub issue_row : Names → Members → Option Entry
+abbrev pub issue_row : BegunNames → Members → Option Entry
 issue_row begun table = call_at begun table >>= λ call. Some (entries.Issue call.0 call.1 call.2)
 
-abbrev pub call_row : Names → Members → Option Entry
+abbrev pub call_row : BegunNames → Members → Option Entry
 call_row begun table = call_at begun table >>= λ call. Some (entries.Call call.0 call.1 call.2)

@@ -6,7 +6,7 @@ use Rattle.xa_files.specs.Documents.{document_of}
 use Rattle.xa_files.specs.Reading.{◌>>=◌}
 use Rattle.xa_files.specs.declared.fault.RunFault.{RunFault}
 use Rattle.xa_files.specs.declared.fault.RunFault.TheVariants.{Header}
-use Rattle.xa_scenario.specs.Branches.{Names}
+use Rattle.xa_scenario.specs.Branches.{BegunNames}
 use Rattle.xa_scenario.specs.Scenarios.{IsSize, Plan, entries_from, header_of, names_after}
 use Rattle.xa_scenario.specs.declared.files.Before.{Before}
 use Rattle.xa_scenario.specs.declared.files.FileFault.{FileFault}
@@ -16,7 +16,7 @@ use Rattle.xa_scenario.specs.declared.files.FileFault.{FileFault}
 -- what is before a file: how large the system is, where an earlier file said so, and the names begun so far
 pub record Earlier : Type 0 where
   pub size : Option (ℕ × ℕ)
-  pub names : Names
+  pub names : BegunNames
 
 abbrev pub nothing_earlier : Earlier
 nothing_earlier = record { size = None; names = [] }
@@ -35,12 +35,12 @@ abbrev pub header_after : Earlier → Members → Result (ℕ × ℕ × Items) R
 header_after earlier document = header_of document >>= λ h. if is_alike earlier.size h.0 h.1 then Ok h else Err Header
 
 -- the names so far, with those that the items begin
-unfoldable pub names_with : Names → Items → Names
+unfoldable pub names_with : BegunNames → Items → BegunNames
 names_with begun no_items = begun
 names_with begun (item value items) = names_with (names_after begun value) items
 
 -- the names that a text begins in turn, or the first fault of its document or its top
-unfoldable pub names_of : List ℕ → Result Names RunFault
+unfoldable pub names_of : List ℕ → Result BegunNames RunFault
 names_of text = do
   document ← document_of text
   header ← header_of document
@@ -78,7 +78,7 @@ abbrev pub scenarios_of : List (List ℕ) → Result (List Plan) FileFault
 scenarios_of texts = files_from 0 nothing_earlier texts
 
 -- the scenarios are for a system of one size
-pub record AreAlike (plans : List Plan) : Type 0 where
+pub record AreOfOneSize (plans : List Plan) : Type 0 where
   pub threads : ℕ
   pub rms : ℕ
   pub some_threads : IsSize threads

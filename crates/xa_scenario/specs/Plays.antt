@@ -42,7 +42,7 @@ trace_after trace [] = trace
 trace_after trace (event ∷ events) = trace_after (events_after trace event) events
 
 -- some steps and their replies, with P, lead from one trace to another
-pub record Performs (P : List Event → Type 0) (old new : List Event) : Type 0 where
+pub record PerformsSteps (P : List Event → Type 0) (old new : List Event) : Type 0 where
   pub events : List Event
   pub wanted : P events
   pub answered : AreAnswered old events
@@ -69,8 +69,8 @@ abbrev pub gtrid_begun : Event → Option Gtrid
 gtrid_begun event = if begins_one event.step then Some (gtrid_answered event.reply) else None
 
 -- what the names of the begins among these events stand for
-abbrev pub gtrids_of : List Event → List Gtrid
-gtrids_of = filter_map gtrid_begun
+abbrev pub gtrids_begun : List Event → List Gtrid
+gtrids_begun = filter_map gtrid_begun
 
 -- the transaction of the begin at a place
 abbrev pub gtrid_at : List Gtrid → ℕ → Gtrid
@@ -147,4 +147,4 @@ abbrev pub IsPlay : List Gtrid → List Entry → List Event → Type 0
 IsPlay gtrids [] events = events ≡ []
 IsPlay gtrids (entry ∷ entries) events =
     (here : List Event) × ((others : List Event) × (events ≡ here ++ others)
-    × MakesEvents gtrids entry here × IsPlay (gtrids ++ gtrids_of here) entries others)
+    × MakesEvents gtrids entry here × IsPlay (gtrids ++ gtrids_begun here) entries others)

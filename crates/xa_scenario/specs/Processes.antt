@@ -22,7 +22,7 @@ use Rattle.xa_model.specs.Protocol.{AllRight, RightOrigin}
 use Rattle.xa_model.specs.Replies.History.{AreAllowed, history}
 use Rattle.xa_model.specs.Trace.{Origin, Trace}
 use Rattle.xa_scenario.specs.LogKeeping.{CannotGoOn, KeepsLog}
-use Rattle.xa_scenario.specs.Plays.{IsPlay, Performs, gtrids_of}
+use Rattle.xa_scenario.specs.Plays.{IsPlay, PerformsSteps, gtrids_begun}
 use Rattle.xa_scenario.specs.Replies.{trace_lines}
 use Rattle.xa_scenario.specs.Runs.{IsStartOf, StartsOverLog}
 use Rattle.xa_scenario.specs.Scenarios.{Plan}
@@ -55,7 +55,7 @@ pub record AddsStarted (tr : Trace) (old new : List Xid) : Type 0 where
 -- the entries were played in turn: each name stands for what its begin was answered, here or in an earlier process
 abbrev pub Plays : Plan → (old new : List Gtrid) → (before after : List Event) → Type 0
 Plays plan old new before after =
-    Performs (λ steps. IsPlay old plan.entries steps × (new ≡ old ++ gtrids_of steps)) before after
+    PerformsSteps (λ steps. IsPlay old plan.entries steps × (new ≡ old ++ gtrids_begun steps)) before after
 
 -- the line in front of the trace of a process that is not the first
 abbrev pub heading : ℕ → List ℕ

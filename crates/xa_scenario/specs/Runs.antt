@@ -17,7 +17,7 @@ use Rattle.xa_files.specs.Fates.{fate_lines}
 use Rattle.xa_files.specs.Outputs.{AppendsBeginning}
 use Rattle.xa_files.specs.declared.fault.RunFault.{RunFault}
 use Rattle.xa_files.specs.declared.fault.RunFault.TheVariants.{Log, Memory}
-use Rattle.xa_scenario.specs.Plays.{IsPlay, Performs}
+use Rattle.xa_scenario.specs.Plays.{IsPlay, PerformsSteps}
 use Rattle.xa_scenario.specs.Replies.{trace_lines}
 use Rattle.xa_scenario.specs.Scenarios.{Plan, scenario_of}
 use Rattle.xa_system.specs.LogInHistory.{StartsOver}
@@ -51,7 +51,7 @@ pub record StartsOverLog {L : Type 0} (moment : L → Moment) (log : L) (o : Ori
 -- history before it demands, and so they are all that the headline says.
 pub record IsRunOf (plan : Plan) (o : Origin) (events : List Event) : Type 0 where
   pub start : IsStartOf plan o
-  pub played : Performs (IsPlay [] plan.entries) [] events
+  pub played : PerformsSteps (IsPlay [] plan.entries) [] events
   pub allowed : AreAllowed o events
   pub headline : Headline o events
 

@@ -6,7 +6,7 @@ use Rattle.toml.specs.Data.{Data, Items, no_items, item, Members, as_table}
 use Rattle.xa_files.specs.Documents.{document_of}
 use Rattle.xa_files.specs.Reading.{◌>>=◌}
 use Rattle.xa_scenario.specs.Begins.{name_begun}
-use Rattle.xa_scenario.specs.Branches.{Names}
+use Rattle.xa_scenario.specs.Branches.{BegunNames}
 use Rattle.xa_scenario.specs.Headers.{header_at}
 use Rattle.xa_scenario.specs.Tables.{entry_of}
 use Rattle.xa_scenario.specs.declared.entry.Entry.{Entry}
@@ -38,19 +38,19 @@ abbrev pub name_in : Data → Option (List ℕ)
 name_in value = option_and_then name_begun (as_table value)
 
 -- the names so far, with the one that an item begins
-abbrev pub names_after : Names → Data → Names
+abbrev pub names_after : BegunNames → Data → BegunNames
 names_after begun value = elim (name_in value) [ None ↦ begun | Some name ↦ begun ++ name ∷ [] ]
 
 -- what the table of a number asks for: there are at most 10,000
-abbrev pub entry_in : ℕ → Names → Data → Option Entry
+abbrev pub entry_in : ℕ → BegunNames → Data → Option Entry
 entry_in number begun value = if nat_lt EVENT_LIMIT number then None else option_and_then (entry_of begun) (as_table value)
 
 -- the same, with its fault
-abbrev pub entry_at : ℕ → Names → Data → Result Entry RunFault
+abbrev pub entry_at : ℕ → BegunNames → Data → Result Entry RunFault
 entry_at number begun value = ok_or (entry_in number begun value) (Step number)
 
 -- what the tables ask for in turn, or the first faulty one; the first has this number
-unfoldable pub entries_from : ℕ → Names → Items → Result (List Entry) RunFault
+unfoldable pub entries_from : ℕ → BegunNames → Items → Result (List Entry) RunFault
 entries_from number begun no_items = Ok []
 entries_from number begun (item value items) = do
   entry ← entry_at number begun value

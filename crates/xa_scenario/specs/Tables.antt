@@ -3,7 +3,7 @@ use Rattle.std.specs.Prelude.{codes, Option}
 use Rattle.toml.specs.Data.{Members}
 use Rattle.xa_files.specs.Fields.{◌>>=◌, text_at}
 use Rattle.xa_scenario.specs.Begins.{begin_row}
-use Rattle.xa_scenario.specs.Branches.{Names}
+use Rattle.xa_scenario.specs.Branches.{BegunNames}
 use Rattle.xa_scenario.specs.Calls.{call_row, issue_row}
 use Rattle.xa_scenario.specs.Crashes.{crash_row, restart_row}
 use Rattle.xa_scenario.specs.Endings.{abandon_row, claim_row, decide_row, done_row, settle_row}
@@ -15,7 +15,7 @@ use Rattle.xa_scenario.specs.declared.entry.Entry.{Entry}
 use Rattle.xa_scenario.specs.declared.words.EntryKind.{EntryKind}
 use Rattle.xa_scenario.specs.declared.words.EntryKind.TheVariants as kinds
 
-abbrev pub entry_in_table : EntryKind → Names → Members → Option Entry
+abbrev pub entry_in_table : EntryKind → BegunNames → Members → Option Entry
 entry_in_table kinds.Begin begun table = begin_row begun table
 entry_in_table kinds.Issue begun table = issue_row begun table
 entry_in_table kinds.Call begun table = call_row begun table
@@ -37,5 +37,5 @@ entry_in_table kinds.Abandon begun table = abandon_row begun table
 entry_in_table kinds.ResolveOpen begun table = resolve_open_row table
 
 -- what a table asks for
-unfoldable pub entry_of : Names → Members → Option Entry
+unfoldable pub entry_of : BegunNames → Members → Option Entry
 entry_of begun table = text_at (codes "do") table >>= entry_named >>= λ kind. entry_in_table kind begun table

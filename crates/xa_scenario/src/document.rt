@@ -9,7 +9,7 @@ ghost use Rattle.xa_scenario.specs.Headers.{header_at};
 ghost use Rattle.xa_files.specs.Documents.{size_at, tables_at};
 ghost use Rattle.xa_scenario.specs.Scenarios.{IsSize, IsSized, plan_of, entry_at, entry_in, name_in, entries_from, header_of, scenario_in, scenario_of};
 ghost use Rattle.xa_files.specs.Reading.{Gives};
-ghost use Rattle.xa_files.specs.Refusals.{Reads, fault_of};
+ghost use Rattle.xa_files.specs.Misfits.{ReadsDocument, document_fault_of};
 ghost use Rattle.xa_files.specs.Documents.{document_of};
 ghost use Rattle.xa_files.specs.TablesInTurn.{EachIsRead, FirstIsFaulty, FaultsAreOfTexts};
 ghost use Rattle.xa_files.specs.declared.fault.RunFault.TheVariants.{Step};
@@ -20,7 +20,7 @@ use crate::entry::Entry;
 use crate::tables::entry_of;
 use std::alloc::{AllocError, Global};
 use toml::{Table, Value};
-use xa_files::{Finding, Refusal, RunFault, document_of, only_keys, size_at, tables_at};
+use xa_files::{Finding, Misfit, RunFault, document_of, only_keys, size_at, tables_at};
 
 /// The most entries of a scenario.
 const MAX_ENTRIES: usize = 10_000;
@@ -66,14 +66,14 @@ fn header_at(document: &Table) -> Result<(u32, u32, &[Value]), Finding<'_>>
 }
 
 /// The same, with where it is wrong.
-pub fn header_of(document: &Table) -> Result<(u32, u32, &[Value]), Refusal<'_>>
-    ensures value { Reads (λ h. (h.0, h.1, items_view h.2.now)) result
+pub fn header_of(document: &Table) -> Result<(u32, u32, &[Value]), Misfit<'_>>
+    ensures value { ReadsDocument (λ h. (h.0, h.1, items_view h.2.now)) result
         (header_of (table_view document.now)) }
     ensures sized { IfOk result (λ h. IsSize h.0 × IsSize h.1) }
 {
     match header_at(document) {
         Ok(header) => Ok(header),
-        Err(finding) => Err(Refusal::Header(finding)),
+        Err(finding) => Err(Misfit::Header(finding)),
     }
 }
 
@@ -99,14 +99,14 @@ fn entry_in<'a>(number: usize, begun: &[&str], value: &'a Value) -> Result<Entry
 }
 
 /// The same, with where it is wrong.
-fn entry_at<'a>(number: usize, begun: &[&str], value: &'a Value) -> Result<Entry, Refusal<'a>>
-    ensures entry { Reads (λ entry. entry) result
+fn entry_at<'a>(number: usize, begun: &[&str], value: &'a Value) -> Result<Entry, Misfit<'a>>
+    ensures entry { ReadsDocument (λ entry. entry) result
         (entry_at number (map (λ name. name.now) begun.now) (view value.now)) }
-    ensures step { IfErr result (λ refusal. fault_of refusal ≡ Step number) }
+    ensures step { IfErr result (λ refusal. document_fault_of refusal ≡ Step number) }
 {
     match entry_in(number, begun, value) {
         Ok(entry) => Ok(entry),
-        Err(finding) => Err(Refusal::Step(number, finding)),
+        Err(finding) => Err(Misfit::Step(number, finding)),
     }
 }
 
@@ -127,8 +127,8 @@ pub fn entries_of<'a>(
     alloc: Global,
     names: &[String],
     items: &'a [Value],
-) -> Result<Vec<Entry>, Refusal<'a>>
-    ensures { Reads (λ entries. entries.items) result
+) -> Result<Vec<Entry>, Misfit<'a>>
+    ensures { ReadsDocument (λ entries. entries.items) result
         (entries_from 1 (map string_bytes names.now) (items_view items.now)) }
 {
     let mut entries = Vec::new(alloc);
@@ -157,8 +157,8 @@ pub fn add_names(alloc: Global, names: &mut Vec<String>, items: &[Value]) -> Res
 
 /// Reads a document as a scenario, or tells where it is wrong, and what is wrong there.
 #[tactic(auto, unfolding(crate::specs::Scenarios::scenario_in))]
-pub fn scenario_in<'a>(alloc: Global, document: &'a Table) -> Result<Scenario, Refusal<'a>>
-    ensures read { Reads plan_of result (scenario_in (table_view document.now)) }
+pub fn scenario_in<'a>(alloc: Global, document: &'a Table) -> Result<Scenario, Misfit<'a>>
+    ensures read { ReadsDocument plan_of result (scenario_in (table_view document.now)) }
     ensures sized { IfOk result (λ scenario. IsSized (plan_of scenario)) }
 {
     let (threads, rms, steps) = header_of(document)?;

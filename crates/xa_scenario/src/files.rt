@@ -3,7 +3,7 @@
 ghost use Rattle.std.specs.Prelude.{◌≡◌, ◌⊎◌, ◌++◌, ◌∷◌, [], Err, IfErr, IfOk, Ok, OnOk, Some, true, map};
 ghost use Rattle.xa_files.specs.Reading.{Fails};
 ghost use Rattle.xa_files.specs.declared.fault.RunFault.TheVariants.{Memory};
-ghost use Rattle.xa_scenario.specs.Files.{AreAlike, earlier_of, file_after, is_alike, scenarios_of};
+ghost use Rattle.xa_scenario.specs.Files.{AreOfOneSize, earlier_of, file_after, is_alike, scenarios_of};
 ghost use Rattle.xa_scenario.specs.Scenarios.{IsSized, Plan, plan_of};
 
 use crate::document::{Scenario, add_names, entries_of, header_of};
@@ -92,7 +92,7 @@ fn add_scenario(
 pub fn read_scenarios(alloc: Global, texts: &[Vec<u8>]) -> Result<Vec<Scenario>, FileFault>
     ensures read { IfOk result (λ scenarios. scenarios_of (map (λ text. text.items) texts.now)
         ≡ Ok (map plan_of scenarios.items)) }
-    ensures sized { IfOk result (λ scenarios. AreAlike (map plan_of scenarios.items)) }
+    ensures sized { IfOk result (λ scenarios. AreOfOneSize (map plan_of scenarios.items)) }
     ensures fault { IfErr result (λ e. (e.fault ≡ Memory)
         ⊎ (scenarios_of (map (λ text. text.items) texts.now) ≡ Err e)) }
 {

@@ -2,7 +2,7 @@
 
 ghost use Rattle.std.specs.Prelude.{◌≡◌, ◌||◌, ◌∷◌, ◌++◌, [], OnOk};
 ghost use Rattle.std.specs.Option.{option_to_list};
-ghost use Rattle.xa_scenario.specs.Plays.{HaveSteps, IsAnswered, IsDrain, IsPlay, MakesEvents, Performs, events_after, gtrids_of, moves};
+ghost use Rattle.xa_scenario.specs.Plays.{HaveSteps, IsAnswered, IsDrain, IsPlay, MakesEvents, PerformsSteps, events_after, gtrids_begun, moves};
 ghost use Rattle.xa_scenario.specs.LogKeeping.{KeepsLog};
 ghost use Rattle.xa_system.specs.SystemView.{observes, origin_in};
 
@@ -48,7 +48,7 @@ fn drain<R: ResourceManager + Drop, L: DecisionLog + Drop>(
     thread: u32,
     rm: u32,
 )
-    ensures performs { Performs (IsDrain thread rm) system.old.events system.new.events }
+    ensures performs { PerformsSteps (IsDrain thread rm) system.old.events system.new.events }
     ensures start { origin_in R.look system.new ≡ origin_in R.look system.old }
     ensures log { KeepsLog (observes R.look L.moment) system.old system.new }
 {
@@ -66,8 +66,8 @@ fn play_step<R: ResourceManager + Drop, L: DecisionLog + Drop>(
     system: &mut System<R, L>,
     step: Step,
 ) -> Option<Gtrid>
-    ensures performs { Performs (λ here. HaveSteps (step ∷ []) here
-        × (gtrids_of here ≡ option_to_list result))
+    ensures performs { PerformsSteps (λ here. HaveSteps (step ∷ []) here
+        × (gtrids_begun here ≡ option_to_list result))
         system.old.events system.new.events }
     ensures start { origin_in R.look system.new ≡ origin_in R.look system.old }
     ensures log { KeepsLog (observes R.look L.moment) system.old system.new }
@@ -84,8 +84,8 @@ fn play_entry<R: ResourceManager + Drop, L: DecisionLog + Drop>(
     gtrids: &[Gtrid],
     entry: &Entry,
 ) -> Option<Gtrid>
-    ensures performs { Performs (λ here. MakesEvents gtrids.now entry.now here
-        × (gtrids_of here ≡ option_to_list result))
+    ensures performs { PerformsSteps (λ here. MakesEvents gtrids.now entry.now here
+        × (gtrids_begun here ≡ option_to_list result))
         system.old.events system.new.events }
     ensures start { origin_in R.look system.new ≡ origin_in R.look system.old }
     ensures log { KeepsLog (observes R.look L.moment) system.old system.new }
@@ -115,8 +115,9 @@ pub fn play<R: ResourceManager + Drop, L: DecisionLog + Drop>(
     gtrids: &mut Vec<Gtrid>,
     entries: &[Entry],
 ) -> Result<(), AllocError>
-    ensures performs { OnOk result (Performs (λ steps. IsPlay gtrids.old.items entries.now steps
-        × (gtrids.new.items ≡ gtrids.old.items ++ gtrids_of steps))
+    ensures performs { OnOk result
+        (PerformsSteps (λ steps. IsPlay gtrids.old.items entries.now steps
+        × (gtrids.new.items ≡ gtrids.old.items ++ gtrids_begun steps))
         system.old.events system.new.events) }
     ensures start { origin_in R.look system.new ≡ origin_in R.look system.old }
     ensures log { KeepsLog (observes R.look L.moment) system.old system.new }

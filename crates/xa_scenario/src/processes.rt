@@ -8,7 +8,7 @@ ghost use Rattle.xa_base.specs.Xid.{Xid as KnownXid};
 ghost use Rattle.xa_base.specs.declared.state.Fate.{Fate};
 ghost use Rattle.xa_files.specs.Fates.{fate_lines};
 ghost use Rattle.xa_files.specs.declared.fault.RunFault.TheVariants.{Log, Memory, Output};
-ghost use Rattle.xa_scenario.specs.Files.{AreAlike};
+ghost use Rattle.xa_scenario.specs.Files.{AreOfOneSize};
 ghost use Rattle.xa_scenario.specs.LogKeeping.{CannotGoOn, HasGoneOn};
 ghost use Rattle.xa_scenario.specs.Processes.{AddsStarted, AreFates, HasPlayed, IsLast, LogStops, PrintsProcesses};
 ghost use Rattle.xa_scenario.specs.Processes.{StopsAnywhere, StopsBetween, heading, shown};
@@ -292,7 +292,7 @@ pub fn run_scenarios<L: DecisionLog + Drop, W: Write>(
     with_trace: bool,
     out: &mut W,
 ) -> Result<(), RunFault>
-    requires alike { AreAlike (map plan_of scenarios.now) }
+    requires alike { AreOfOneSize (map plan_of scenarios.now) }
     // What is printed is a run of them in turn, from this log on.
     ensures ok { OnOk result ((scenarios.now ≡ []) ⊎ PrintsProcesses L.moment log
         (map plan_of scenarios.now) with_trace (W.contents out.old) (W.contents out.new)) }

@@ -4,7 +4,7 @@ ghost use Rattle.std.specs.Prelude.{◌≡◌, ◌≢◌, ◌⊎◌, ◌↔◌, 
 ghost use Rattle.std.specs.Io.KnownBytes.{Appends, Keeps};
 ghost use Rattle.std.specs.String.{string_bytes};
 ghost use Rattle.xa_files.specs.Outputs.{AppendsBeginning};
-ghost use Rattle.xa_files.specs.Reading.{EndsWith, Explains};
+ghost use Rattle.xa_files.specs.Reading.{EndsWith, SaysOfReading};
 ghost use Rattle.xa_files.specs.declared.fault.RunFault.{RunFault};
 ghost use Rattle.xa_files.specs.declared.fault.RunFault.TheVariants.{Log, Memory, Output, Work};
 ghost use Rattle.xa_model.specs.Protocol.{RightOrigin};
@@ -139,7 +139,7 @@ pub fn run_scenario<L: DecisionLog + Drop, W: Write>(
         (W.contents out.new)) }
 
     // Why a run ends early.
-    ensures fault { IfErr result (λ e. Explains e (scenario_of text.now)) }
+    ensures fault { IfErr result (λ e. SaysOfReading e (scenario_of text.now)) }
     ensures log { result ≡ Err Log → IsToBlame L.DecisionLog log }
     ensures work { IfErr result (λ e. e ≢ Work) }
     ensures refused { (e : RunFault) → scenario_of text.now ≡ Err e → EndsWith e result }
@@ -181,7 +181,7 @@ pub fn print_check<W: Write>(
 /// The faults are those of `run_scenario`, but for Log.
 pub fn check_scenario<W: Write>(alloc: Global, text: &[u8], out: &mut W) -> Result<(), RunFault>
     ensures ok { OnOk result (PrintsCheck text.now (W.contents out.old) (W.contents out.new)) }
-    ensures fault { IfErr result (λ e. Explains e (scenario_of text.now)) }
+    ensures fault { IfErr result (λ e. SaysOfReading e (scenario_of text.now)) }
     ensures refused { (e : RunFault) → scenario_of text.now ≡ Err e → EndsWith e result }
     // A file that is no scenario writes nothing.
     ensures unwritten { IsErr (scenario_of text.now)

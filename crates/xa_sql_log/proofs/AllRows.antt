@@ -34,7 +34,7 @@ use Rattle.xa_sql_log.proofs.DecisionReads.{some_of}
 use Rattle.xa_sql_log.proofs.HeuristicReads.{entries_once, entry_in}
 use Rattle.xa_sql_log.proofs.SameEntries.{append_rises, find_has, has_find, items_rise, rising_once, same_entries_in, same_items_in}
 use Rattle.xa_log.proofs.KeySets.{items-from_list}
-use Rattle.xa_sql_log.proofs.States.{answered}
+use Rattle.xa_sql_log.proofs.StatesAfter.{answered}
 use Rattle.xa_log.proofs.Rising.{risen}
 use Rattle.xa_base.proofs.Orders.{equal_is}
 

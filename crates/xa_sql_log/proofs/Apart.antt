@@ -14,7 +14,7 @@ use Rattle.sqlite.specs.Effect.{Database}
 use Rattle.sqlite.specs.Listing.{understood}
 use Rattle.sqlite.specs.State.{State, Executes, ExecutesInside}
 use Rattle.sqlite.proofs.Callers.{runs_as, statement_of}
-use Rattle.sqlite.specs.Ops.{binary, is_true, from_truth}
+use Rattle.sqlite.specs.Ops.{binary}
 use Rattle.sqlite_value.specs.Order.{value_cmp}
 use Rattle.sqlite_value.proofs.OrderLemmas.{value_cmp-Int}
 use Rattle.sqlite_schema.specs.Rules.{Keeps, agree, clashes, differ}
@@ -31,12 +31,8 @@ use Rattle.xa_sql_log.proofs.Inserts.{Puts, puts_decision}
 use Rattle.xa_sql_log.proofs.Texts.{insert_decision, insert_decision_is, insert_decision_plain}
 use Rattle.xa_sql_log.proofs.Maps.{get_booked, is_there}
 use Rattle.xa_sql_log.proofs.Parents.{agree_is, decision_carries, key_places, plain_order}
-use Rattle.xa_sql_log.proofs.Values.{same_id}
+use Rattle.xa_sql_log.proofs.Values.{same_id, known}
 use Rattle.xa_base.proofs.Orders.{equal_is}
-
-known : (b : Bool) → is_true (from_truth (Some b)) ≡ b
-known true = refl
-known false = refl
 
 differ_numbers : (m n : ℤ) → differ (Int m) (Int n) ≡ is_ne (int_cmp m n)
 unfolding binary

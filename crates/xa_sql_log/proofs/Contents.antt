@@ -4,7 +4,7 @@ use Rattle.std.specs.Ordering.{eq_by_cmp, ordering_then, match_ordering}
 use Rattle.std.specs.Cmp.{both_ways, tied_itself, int_cmp_total, nat_cmp_total}
 use Rattle.std.specs.List.{AllByRecursion, list_any, list_all}
 use Rattle.std.specs.FinMap.{int_cmp-IsAntisymmetric, nat_cmp-IsAntisymmetric}
-use Rattle.std.proofs.lemmas.Bool.{cases_Bool, true≢false, and_parts}
+use Rattle.std.proofs.lemmas.Bool.{cases_Bool, true≢false, and_parts, or_parts}
 use Rattle.std.specs.List.Sorted.{IsPermutation}
 use Rattle.sqlite.specs.declared.types.Value.TheVariants.{Int}
 use Rattle.sqlite.specs.Order.{Row}
@@ -38,14 +38,10 @@ swap true true c = refl
 swap true false c = refl
 swap false b c = refl
 
-no_part : (a b : Bool) → (a || b) ≡ false → (a ≡ false) × (b ≡ false)
-no_part true b h = absurd (cc)
-no_part false b h = (refl, h)
-
 pub any_put : (p : Row → Bool) (new : Row) (rows : List Row) → is_taken rows new ≡ false → list_any p (put_row new rows) ≡ (p new || list_any p rows)
 any_put p new [] free = refl
 any_put p new (r ∷ rows) free =
-    let parts = no_part _ _ free in
+    let parts = or_parts _ _ free in
     go (value_cmp (rowid r) (rowid new)) parts.0 (any_put p new rows parts.1)
   where
     go : (o : Ordering) → is_eq o ≡ false → list_any p (put_row new rows) ≡ (p new || list_any p rows)
@@ -58,7 +54,7 @@ any_put p new (r ∷ rows) free =
 pub put_keeps : (new : Row) (rows : List Row) (x : Row) → is_taken rows new ≡ false → Has rows x → Has (put_row new rows) x
 put_keeps new [] x free h = absurd h
 put_keeps new (r ∷ rows) x free h =
-    let parts = no_part _ _ free in
+    let parts = or_parts _ _ free in
     go (value_cmp (rowid r) (rowid new)) parts.0 h (put_keeps new rows x parts.1)
   where
     go : (o : Ordering) → is_eq o ≡ false → Has (r ∷ rows) x → (Has rows x → Has (put_row new rows) x)

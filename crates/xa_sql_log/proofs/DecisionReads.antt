@@ -23,7 +23,7 @@ use Rattle.xa_sql_log.specs.Sql.{IsOrderly, content_in}
 use Rattle.xa_sql_log.proofs.Texts.{find_decision, find_decision_is, find_decision_plain, find_decision_unlisted}
 use Rattle.xa_sql_log.proofs.Plain.{chosen, shown, plain_rows}
 use Rattle.xa_sql_log.proofs.Contents.{gtrid_params, gtrid_tests, chosen_gtrid}
-use Rattle.xa_sql_log.proofs.States.{answered}
+use Rattle.xa_sql_log.proofs.StatesAfter.{answered}
 
 -- ---- is it there
 

@@ -12,7 +12,7 @@ use Rattle.sqlite_catalog.specs.Listing.{IsSound}
 use Rattle.sqlite_schema.specs.declared.schema.Schema.{Schema}
 use Rattle.sqlite_trees.specs.Objects.{catalog_tree}
 use Rattle.sqlite_trees.specs.Props.{Trees-set}
-use Rattle.xa_sql_log.specs.OpenedDatabase.{AreAnyLogTrees, FindsLog, HoldsLog, IsKnownDatabase}
+use Rattle.xa_sql_log.specs.OpenedDatabase.{AreAnyLogTrees, HoldsLog, HoldsLogOrNothing, IsKnownDatabase}
 use Rattle.xa_sql_log.specs.Rows.{IsOldLog}
 use Rattle.xa_sql_log.specs.Tables.{old_schema}
 use Rattle.xa_sql_log.specs.Sql.{AreLogTrees}
@@ -42,7 +42,7 @@ module _ (s : State) (opens : Opens s) (live : IsLive s) where
   known_empty : (db : Trees) → s.committed.trees ≡ db → IsEmpty db → IsKnownDatabase s
   known_empty db is empty = inl (tables_of _ (subst (IsSound _) (sym (trees_now db is)) (empty_is_sound db empty.1)))
 
-  pub known_found : (image : Image) → FindsIn image s → FindsLog image → IsKnownDatabase s
+  pub known_found : (image : Image) → FindsIn image s → HoldsLogOrNothing image → IsKnownDatabase s
   known_found image found log = elim (log s.committed.trees found.reads) [ inl empty ↦ known_empty _ refl empty | inr is ↦ known_log _ refl is ]
 
   pub known_held : (image : Image) → FindsIn image s → HoldsLog image → IsKnownDatabase s

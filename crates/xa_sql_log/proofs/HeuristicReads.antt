@@ -30,7 +30,7 @@ use Rattle.xa_sql_log.proofs.Plain.{chosen, shown, plain_rows}
 use Rattle.xa_sql_log.proofs.Contents.{same_number, both_parts, permuted_has}
 use Rattle.xa_sql_log.proofs.DecisionRows.{branch_params}
 use Rattle.xa_sql_log.proofs.SameEntries.{IsOnce, find_has, has_find}
-use Rattle.xa_sql_log.proofs.States.{answered}
+use Rattle.xa_sql_log.proofs.StatesAfter.{answered}
 use Rattle.xa_base.proofs.Orders.{equal_is}
 
 -- ---- the map that the rows stand for

@@ -30,7 +30,7 @@ use Rattle.xa_base.specs.declared.code.How.TheVariants as Ends
 use Rattle.xa_base.specs.Branch.{branch_cmp, branch_eq}
 use Rattle.xa_base.specs.Code.{how_number}
 use Rattle.xa_base.proofs.BranchOrder.{branches_total, exact_branches}
-use Rattle.xa_log.specs.Content.{last_number, with_heuristic, with_record}
+use Rattle.xa_log.specs.Content.{last_number, with_heuristic, with_heuristic_record}
 use Rattle.xa_log.specs.Contract.{FitsRow}
 use Rattle.xa_sql_log.specs.Tables.{log_schema}
 use Rattle.xa_sql_log.specs.Rows.{IsLog, IsDecisionRow, IsHeuristicRow, AreHeuristicRows, IsParticipantRow, HasDecision, branch_of_row, how_of_row, content_of}
@@ -141,28 +141,28 @@ record_content db after b how row is none row_is says puts =
 
 module _ (b : Branch) (how : How) (fits : FitsRow b.gtrid) (params : Row) (given : params ≡ end_params b how) (old : State)
     (ready : HasLogTables old) (none : get (content_of old.now.trees).heuristics b ≡ None) where
-  as_recorded : with_heuristic b how (content_of old.now.trees) ≡ with_record b how (content_of old.now.trees)
+  as_recorded : with_heuristic b how (content_of old.now.trees) ≡ with_heuristic_record b how (content_of old.now.trees)
   as_recorded = ap (λ o. Rattle.std.proofs.Common.cond (is_some o) (content_of old.now.trees) (with_heuristic b how (content_of old.now.trees))) (sym none)
 
   record_makes : (text : List ℕ) (tally : Tally) (after : Database)
       → Does old.step_limit at_once (end_params b how) old.now text None insert_end (Ok (tally, after))
-      → IsLog after × (content_of after.trees ≡ with_record b how (content_of old.now.trees))
+      → IsLog after × (content_of after.trees ≡ with_heuristic_record b how (content_of old.now.trees))
   record_makes text tally after h =
       let made = record_content old.now after b how _ ready.now none (_, b, how, refl, fits) (ap (λ o. (b, unwrap_or o Ends.Com)) (how_read how))
       (puts_heuristic old.step_limit (pos b.gtrid.incarnation) (pos b.gtrid.sequence) (pos b.thread) (pos b.rm)
       (how_number how) old.now after text tally ready.now.schema h) in
       (made.0, made.1 ∙ as_recorded)
 
-  pub records : (new : State) (count : ℕ) → Executes insert_heuristic params old new (Ok count) → Did (with_record b how) old new
+  pub records : (new : State) (count : ℕ) → Executes insert_heuristic params old new (Ok count) → Did (with_heuristic_record b how) old new
   records new count h =
       let w =
       runs_as insert_heuristic (end_params b how) old new log_schema ready.now.schema insert_end insert_heuristic_is insert_heuristic_plain count
       (subst (λ p. Executes insert_heuristic p old new (Ok count)) given h) in
       let made = record_makes (statement_of insert_heuristic (understood log_schema insert_heuristic)) w.tally new.now w.changed in
-      wrote (with_record b how) old new ready w.shown made.0 made.1
+      wrote (with_heuristic_record b how) old new ready w.shown made.0 made.1
 
   pub record_commits : IsTrue old.is_open → (db : Trees) → CommitsBy insert_heuristic params old db
-      → (content_of db ≡ with_record b how (content_of old.now.trees)) × AreLogTrees db
+      → (content_of db ≡ with_heuristic_record b how (content_of old.now.trees)) × AreLogTrees db
   record_commits is_open db h =
       elim (commits_as insert_heuristic insert_heuristic_plain old (λ _. ready) is_open insert_end insert_heuristic_is (end_params b how) db
       (subst (λ p. CommitsBy insert_heuristic p old db) given h)) [

@@ -1,5 +1,5 @@
 -- What a transaction leaves of a log: all that was written in it, or nothing.
-use Rattle.std.proofs.Common.{◌≡◌, ◌⊎◌, inl, inr, ℕ, ◌<◌, ◌≤◌, ◌+◌, List, [], ◌∷◌, length, take, get_or, true, false, Option, Some, None, Result, Ok, Err, OnOk, IsTrue, IsSomeAnd, cond, is_some, refl, sym, ap, subst, ◌∙◌, arith}
+use Rattle.std.proofs.Common.{◌≡◌, ◌⊎◌, inl, inr, ℕ, ◌<◌, ◌≤◌, ◌+◌, List, [], ◌∷◌, length, take, get_or, true, false, Option, Some, None, Result, OnOk, IsTrue, IsSomeAnd, cond, is_some, refl, sym, ap, subst, ◌∙◌, arith}
 use Rattle.std.proofs.lemmas.Bool.{cases_Bool, true≢false}
 use Rattle.std.proofs.lemmas.List.{take_more}
 use Rattle.std.specs.List.{AllByRecursion}
@@ -17,7 +17,7 @@ use Rattle.xa_base.specs.declared.branch.Branch.{Branch}
 use Rattle.xa_base.specs.Branch.{branch_cmp}
 use Rattle.xa_base.proofs.BranchOrder.{branches_total, exact_branches}
 use Rattle.xa_log.specs.Content.{Content, with_decision, with_commit}
-use Rattle.xa_log.specs.Contract.{Keeps, Makes, MayMake}
+use Rattle.xa_log.specs.Contract.{IsShutOrSame, Makes, MayMake}
 use Rattle.xa_sql_log.specs.Rows.{IsLog, content_of}
 use Rattle.xa_sql_log.specs.Sql.{AreLogTrees, HasLogTables, IsOrderly, content_in, OnlyReads, MayChange, HasMade, HasWritten, MayInsert, IsShutOrAsBefore}
 use Rattle.xa_sql_log.proofs.States.{Did, did_makes, changes_then}
@@ -233,19 +233,15 @@ found_one x set (Some y) b h = h.0 ∙ ap Some (ap (λ t. cond t y (with_decisio
 -- ---- a change that was not made, and then one more attempt
 
 -- the content is kept, also where the log is shut
-pub kept_anyway : (a b : State) → (IsTrue b.is_open → HasCleanDisk b) → (HasCleanDisk b → Keeps (content_in a) (content_in b))
-    → Keeps (content_in a) (content_in b)
+pub kept_anyway : (a b : State) → (IsTrue b.is_open → HasCleanDisk b) → (HasCleanDisk b → IsShutOrSame (content_in a) (content_in b))
+    → IsShutOrSame (content_in a) (content_in b)
 kept_anyway a b opened kept = elim (cases_Bool b.is_open) [ inl is_open ↦ kept (opened is_open) | inr shut ↦ inl (rw shut refl) ]
 
-pub from_kept : (P : Content → Type 0) (a b : Option Content) → Keeps a b → IsSomeAnd b P → IsSomeAnd a P
+pub from_kept : (P : Content → Type 0) (a b : Option Content) → IsShutOrSame a b → IsSomeAnd b P → IsSomeAnd a P
 from_kept P a b (inl none) h = absurd (subst (λ o. IsSomeAnd o P) none h)
 from_kept P a b (inr same) h = subst (λ o. IsSomeAnd o P) same h
 
-pub on_ok_gives : {A E : Type 0} (r : Result A E) (P Q : Type 0) → (P → Q) → OnOk r P → OnOk r Q
-on_ok_gives (Ok x) P Q gives h = gives h
-on_ok_gives (Err e) P Q gives h = tt
-
-pub again : (change : Content → Content) (a b c : State) → MayChange change a b → (IsOrderly a → Keeps (content_in a) (content_in b))
+pub again : (change : Content → Content) (a b c : State) → MayChange change a b → (IsOrderly a → IsShutOrSame (content_in a) (content_in b))
     → MayChange change b c → MayChange change a c
 again change a b c p kept q = record {
   honest = λ clean. p.honest (q.honest clean);

@@ -5,7 +5,7 @@ use Rattle.sqlite_tied.specs.Compute.{everything}
 use Rattle.sqlite.specs.State.{State, IsUnchanged}
 use Rattle.xa_sql_log.specs.Tables.{old_schema, log_schema}
 use Rattle.xa_sql_log.specs.Rows.{IsOldLog, content_of, old_content_of}
-use Rattle.xa_sql_log.specs.OpenedDatabase.{HasRow}
+use Rattle.xa_sql_log.specs.OpenedDatabase.{HasMetaRow}
 use Rattle.xa_sql_log.specs.PreparedDatabase.{IsUntouched, LeavesSame}
 use Rattle.xa_sql_log.specs.Sql.{IsOldReady, HasLogTables, IsShutOrAsBefore, Rests}
 
@@ -42,8 +42,8 @@ pub rests_untouched : (a b : State) → (IsTrue a.is_open → a.now ≡ a.commit
 rests_untouched a b settled mode left = record { undone = rests_undone a b settled mode left.0; crash = left.1 }
 
 -- a log of version 1 has the row of one
-pub named_first : (s : State) → IsOldReady s → HasRow 1 (old_content_of s.now.trees).incarnation s
+pub named_first : (s : State) → IsOldReady s → HasMetaRow 1 (old_content_of s.now.trees).incarnation s
 named_first s is = (inl is.now.schema, is.now.meta)
 
-pub named_second : (s : State) → HasLogTables s → HasRow 2 (content_of s.now.trees).incarnation s
+pub named_second : (s : State) → HasLogTables s → HasMetaRow 2 (content_of s.now.trees).incarnation s
 named_second s is = (inr is.now.schema, is.now.meta)

@@ -5,10 +5,12 @@ pub mod Closing
 pub mod Contents
 pub mod DecisionReads
 pub mod DecisionRows
+pub mod DecisionDeletes
 pub mod DeletedRows
 pub mod Deletes
 pub mod FoundDatabase
 pub mod GroupedRows
+pub mod FoundDecisions
 pub mod HeuristicReads
 pub mod HeuristicRows
 pub mod Inserts
@@ -25,6 +27,7 @@ pub mod Migrates
 pub mod Parents
 pub mod Plain
 pub mod States
+pub mod StatesAfter
 pub mod Texts
 pub mod Values
 pub mod Versions

@@ -8,7 +8,7 @@ use Rattle.std.specs.List.Sorted.{IsPermutation}
 use Rattle.xa_log.specs.KeySet.{from_list, items, same_set, contains-from_list, empty}
 use Rattle.xa_log.specs.Content.{participants_of}
 use Rattle.xa_sql_log.specs.Sql.{IsOrderly, content_in}
-use Rattle.xa_sql_log.proofs.States.{answered}
+use Rattle.xa_sql_log.proofs.StatesAfter.{answered}
 use Rattle.std.specs.FinMap.{get}
 use Rattle.std.proofs.lemmas.List.Sorted.{IsPermutation-map, IsPermutation-sym}
 use Rattle.sqlite.specs.declared.types.Value.TheVariants.{Int}

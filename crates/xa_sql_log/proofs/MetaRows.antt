@@ -33,7 +33,8 @@ use Rattle.xa_sql_log.proofs.Values.{cast_int, cast_null, same_id}
 use Rattle.xa_sql_log.proofs.Inserts.{at_once}
 use Rattle.xa_sql_log.proofs.DecisionRows.{booked_as}
 use Rattle.xa_sql_log.proofs.Migrates.{no_work}
-use Rattle.xa_sql_log.proofs.States.{Did, answered, changes_as, wrote, commits_as}
+use Rattle.xa_sql_log.proofs.States.{Did, wrote, commits_as}
+use Rattle.xa_sql_log.proofs.StatesAfter.{answered, changes_as}
 use Rattle.xa_log.proofs.Alike.{same_content}
 
 -- ---- the query

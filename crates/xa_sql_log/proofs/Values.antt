@@ -28,7 +28,7 @@ cast_null = either _ Null
 abbrev pub equal_to : Value → Value → Bool
 equal_to a b = is_true (binary (Compare Eq Binary) a (unary ToNumeric b))
 
-known : (b : Bool) → is_true (from_truth (Some b)) ≡ b
+pub known : (b : Bool) → is_true (from_truth (Some b)) ≡ b
 known true = refl
 known false = refl
 

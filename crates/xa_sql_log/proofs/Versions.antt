@@ -16,7 +16,7 @@ use Rattle.sqlite.specs.State.{State, IsUnchanged, Survives, CommitsShowing, Sho
 use Rattle.sqlite.proofs.Callers.{IsPlain, command_of, never_commits, reads_as, one_permutation}
 use Rattle.sqlite_tied.specs.Compute.{everything}
 use Rattle.xa_sql_log.specs.Tables.{old_schema, log_schema}
-use Rattle.xa_sql_log.specs.OpenedDatabase.{HasTables, HasRow, IsNatural, NamesVersion}
+use Rattle.xa_sql_log.specs.OpenedDatabase.{HasTables, HasMetaRow, IsNatural, NamesVersion}
 use Rattle.xa_sql_log.proofs.Texts.{over}
 use Rattle.xa_sql_log.proofs.Plain.{chosen, shown, plain_rows}
 
@@ -59,7 +59,7 @@ answers old new rows has h =
     let it = reads old has in
     plain_rows 0 [] project old.now.trees [] rows (reads_as read_meta [] old new old.now.schema refl _ it.is it.plain it.unlisted rows h).answer
 
-pub looks_at : (version incarnation : ℕ) (old new : State) (rows : List Row) → HasRow version incarnation old
+pub looks_at : (version incarnation : ℕ) (old new : State) (rows : List Row) → HasMetaRow version incarnation old
     → Shown read_meta [] old new rows → rows ≡ (Int (pos version) ∷ Int (pos incarnation) ∷ []) ∷ []
 looks_at version incarnation old new rows is h =
     one_permutation (Int (pos version) ∷ Int (pos incarnation) ∷ []) rows

@@ -33,8 +33,8 @@ abbrev pub version_row : ℕ → ℕ → Row
 version_row version incarnation = Int (pos 1) ∷ Null ∷ Int (pos version) ∷ Int (pos incarnation) ∷ []
 
 -- the tables are those of a log, and tm_meta has this one row
-abbrev pub HasRow : ℕ → ℕ → State → Type 0
-HasRow version incarnation s =
+abbrev pub HasMetaRow : ℕ → ℕ → State → Type 0
+HasMetaRow version incarnation s =
     HasTables s × (s.now.trees 0 ≡ version_row version incarnation ∷ [])
 
 -- a whole number that isn't negative
@@ -78,5 +78,5 @@ abbrev pub HoldsLog : Image → Type 0
 HoldsLog image = (length image.db ≡ 0) ⊎ ((db : Trees) × ∥ HoldsDatabase image db ∥₁ × AreAnyLogTrees db)
 
 -- whatever an open may find in the files is no table at all, or a log
-abbrev pub FindsLog : Image → Type 0
-FindsLog image = (db : Trees) → AreFoundIn image db → IsEmpty db ⊎ AreAnyLogTrees db
+abbrev pub HoldsLogOrNothing : Image → Type 0
+HoldsLogOrNothing image = (db : Trees) → AreFoundIn image db → IsEmpty db ⊎ AreAnyLogTrees db

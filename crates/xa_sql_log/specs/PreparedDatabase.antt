@@ -80,7 +80,7 @@ pub record Prepares (old new : State) (result : Result (Unit {0}) LogFault) : Ty
   pub crash_kept : old.now.schema ≡ log_schema → LeavesSame old new
 
 -- The log is over the database that was found in files with these contents.
-pub record IsOver {D : Type 0} {g : Ghosts D} (image : Image) (log : Held (FileStore D g)) : Type 0 where
+pub record IsOverFiles {D : Type 0} {g : Ghosts D} (image : Image) (log : Held (FileStore D g)) : Type 0 where
   pub was : Held (FileStore D g)
   pub opened : IsOpened was
   pub found : FindsIn image (file_state was)

@@ -84,8 +84,8 @@ abbrev pub Rests : State → State → Type 0
 Rests old new = IsUnchanged old new ⊎ IsRolledBack old new
 
 -- the log is open, and the rows answer the query
-abbrev pub Answers : {S : Type 0} → Ghosts S → List ℕ → Row → Held S → Held S → List Row → Type 0
-Answers {S} g sql params old new rows =
+abbrev pub AnswersQuery : {S : Type 0} → Ghosts S → List ℕ → Row → Held S → Held S → List Row → Type 0
+AnswersQuery {S} g sql params old new rows =
     (mid : Held S) × IsUnchanged (state g old) (state g mid) × IsUnchanged (state g mid) (state g new) × Shown sql params (state g mid) (state g new) rows
 
 -- the log is open, and the statement ran on it and changed so many rows

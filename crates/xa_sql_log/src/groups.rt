@@ -6,7 +6,7 @@ ghost use Rattle.xa_log.specs.KeySet.{from_list};
 ghost use Rattle.sqlite.specs.State.{HasCleanDisk, KeepsCommit, Survives};
 ghost use Rattle.sqlite.specs.Held.{state};
 ghost use Rattle.xa_base.specs.Branch.{gtrid_eq};
-ghost use Rattle.xa_log.specs.Contract.{Makes, FitsRow, Keeps};
+ghost use Rattle.xa_log.specs.Contract.{Makes, FitsRow, IsShutOrSame};
 ghost use Rattle.xa_log.specs.Content.{is_new, logged_as, logged_each, with_commits};
 ghost use Rattle.xa_sql_log.specs.Rows.{IsLog, content_of};
 ghost use Rattle.xa_sql_log.specs.Sql.{AreThereIn, IsOrderly, content_in, MayChange, OnlyReads, HasWritten, HasWrittenAll, MayInsert, MayInsertAll};
@@ -167,7 +167,7 @@ fn write_new<S: Alter>(
         (λ c. answers.now ≡ logged_each decisions.now c)) }
     ensures kept { AreThereIn decisions.now answers.now (state S.Store conn.old)
         → IsOrderly (state S.Store conn.old) → HasCleanDisk (state S.Store conn.new)
-        → OnErr result (Keeps (content_in (state S.Store conn.old))
+        → OnErr result (IsShutOrSame (content_in (state S.Store conn.old))
         (content_in (state S.Store conn.new))) }
     ensures unspent { IfErr result (λ fault. fault ≢ LogFault.Spent) }
 {

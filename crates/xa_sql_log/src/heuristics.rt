@@ -3,7 +3,7 @@ ghost use Rattle.std.specs.Prelude.{◌≡◌, IfOk, IsSomeAnd, OnOk, Some, IfEr
 ghost use Rattle.std.specs.FinMap.{get};
 ghost use Rattle.sqlite.specs.Held.{state};
 ghost use Rattle.sqlite.specs.State.{HasCleanDisk};
-ghost use Rattle.xa_log.specs.Content.{with_record};
+ghost use Rattle.xa_log.specs.Content.{with_heuristic_record};
 ghost use Rattle.xa_log.specs.Contract.{FitsRow, Makes};
 ghost use Rattle.xa_sql_log.specs.Sql.{IsOrderly, LacksHeuristic, MayChange, OnlyReads, content_in};
 ghost use Rattle.xa_log.specs.declared.log_fault.LogFault.{LogFault};
@@ -47,9 +47,9 @@ fn insert_heuristic<S: Alter>(conn: &mut Connection<S>, b: Branch, how: How) -> 
     requires { FitsRow b.gtrid }
     ensures honest { HasCleanDisk (state S.Store conn.new) → HasCleanDisk (state S.Store conn.old) }
     ensures changes { LacksHeuristic b (state S.Store conn.old) →
-        MayChange (with_record b how) (state S.Store conn.old) (state S.Store conn.new) }
+        MayChange (with_heuristic_record b how) (state S.Store conn.old) (state S.Store conn.new) }
     ensures ok { LacksHeuristic b (state S.Store conn.old) → IsOrderly (state S.Store conn.old) →
-        HasCleanDisk (state S.Store conn.new) → OnOk result (Makes (with_record b how)
+        HasCleanDisk (state S.Store conn.new) → OnOk result (Makes (with_heuristic_record b how)
         (content_in (state S.Store conn.old)) (content_in (state S.Store conn.new))) }
     ensures unspent { IfErr result (λ fault. fault ≢ LogFault.Spent) }
 {
@@ -73,10 +73,10 @@ pub(crate) fn note_heuristic<S: Alter>(
     how: How,
 ) -> Result<(), LogFault>
     requires { FitsRow b.gtrid }
-    ensures changes { MayChange (with_record b how) (state S.Store conn.old)
+    ensures changes { MayChange (with_heuristic_record b how) (state S.Store conn.old)
         (state S.Store conn.new) }
     ensures ok { IsOrderly (state S.Store conn.old) → HasCleanDisk (state S.Store conn.new) →
-        OnOk result (Makes (with_record b how)
+        OnOk result (Makes (with_heuristic_record b how)
         (content_in (state S.Store conn.old)) (content_in (state S.Store conn.new))) }
     ensures unspent { IfErr result (λ fault. fault ≢ LogFault.Spent) }
 {

@@ -10,7 +10,7 @@ ghost use Rattle.xa_sql_log.specs.Tables.{log_schema};
 ghost use Rattle.xa_log.specs.Contract.{IsStoreFault};
 ghost use Rattle.xa_log.specs.Content.{last_number};
 ghost use Rattle.xa_sql_log.specs.Faults.{store_fault_of};
-ghost use Rattle.xa_sql_log.specs.Sql.{RunsChanging, IsOrderly, OnlyReads, Rests, Answers, RunsFrom, LeavesBy};
+ghost use Rattle.xa_sql_log.specs.Sql.{RunsChanging, IsOrderly, OnlyReads, Rests, AnswersQuery, RunsFrom, LeavesBy};
 
 use sqlite::{Alter, Connection, Error, ErrorCode, Row};
 use sqlite_value::value::ValueRef;
@@ -56,7 +56,7 @@ pub(crate) fn ask<S: Alter>(
     requires { IsPlain (understood log_schema sql.now) }
     ensures reads { OnlyReads (state S.Store conn.old) (state S.Store conn.new) }
     ensures shown { IsOrderly (state S.Store conn.old) → HasCleanDisk (state S.Store conn.new)
-        → IfOk result (λ rows. Answers S.Store sql.now (bound params.now) conn.old
+        → IfOk result (λ rows. AnswersQuery S.Store sql.now (bound params.now) conn.old
         conn.new rows.items) }
     ensures cause { IfErr result IsStoreFault }
 {

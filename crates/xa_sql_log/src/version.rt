@@ -8,7 +8,7 @@ ghost use Rattle.sqlite.specs.State.{HasCleanDisk, IsUnchanged, Survives};
 ghost use Rattle.sqlite.specs.Held.{state};
 ghost use Rattle.xa_log.specs.Contract.{IsStoreFault};
 ghost use Rattle.xa_sql_log.specs.Sql.{Rests};
-ghost use Rattle.xa_sql_log.specs.OpenedDatabase.{HasTables, HasRow, IsNatural, NamesVersion};
+ghost use Rattle.xa_sql_log.specs.OpenedDatabase.{HasTables, HasMetaRow, IsNatural, NamesVersion};
 
 use crate::fields::number;
 use crate::statements::of_store;
@@ -59,7 +59,7 @@ pub(crate) fn check_version<S: Alter>(
     // Which tables are refused, and as what.
     ensures version { HasTables (state S.Store conn.old) → HasCleanDisk (state S.Store conn.new) →
         OnOk result (NamesVersion version (state S.Store conn.old)) }
-    ensures known { (i : ℕ) → HasRow version i (state S.Store conn.old) →
+    ensures known { (i : ℕ) → HasMetaRow version i (state S.Store conn.old) →
         HasCleanDisk (state S.Store conn.new) → IfErr result IsStoreFault }
 {
     let rows = of_store(conn.query_all(READ_META, &[]))?;

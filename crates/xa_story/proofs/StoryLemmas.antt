@@ -5,14 +5,14 @@ use Rattle.std.proofs.lemmas.List.{take_more, length-take-le}
 use Rattle.xa_base.specs.declared.reply.Event.{Event}
 use Rattle.xa_story.specs.Naming.{Naming, with_step, with_events}
 use Rattle.xa_story.specs.Stories.{IsToldOf, TellEvents}
-use Rattle.xa_story.specs.declared.line.Line.{Line}
+use Rattle.xa_story.specs.declared.line.StoryLine.{StoryLine}
 
 with_push : (n : Naming) (events : List Event) (e : Event)
     → with_events n (events ++ e ∷ []) ≡ with_step (with_events n events) e.step e.reply
 with_push n [] e = refl
 with_push n (f ∷ events) e = with_push (with_step n f.step f.reply) events e
 
-tell_push : (n : Naming) (number : ℕ) (events : List Event) (lines : List Line) (e : Event) (line : Line) → TellEvents n number events lines
+tell_push : (n : Naming) (number : ℕ) (events : List Event) (lines : List StoryLine) (e : Event) (line : StoryLine) → TellEvents n number events lines
     → IsToldOf (with_events n events) (number + length events) e line → TellEvents n number (events ++ e ∷ []) (lines ++ line ∷ [])
 tell_push n number [] [] e line told one = (subst (λ m. IsToldOf n m e line) (add-zero number) one, tt)
 tell_push n number [] (l ∷ lines) e line told one = absurd told
@@ -24,7 +24,7 @@ tell_push n number (f ∷ events) (l ∷ lines) e line told one = (
 )
 
 -- one line more of a story
-pub line_more : (n m : Naming) (lines : List Line) (line : Line) (events : List Event) (i : ℕ) (event : Event)
+pub line_more : (n m : Naming) (lines : List StoryLine) (line : StoryLine) (events : List Event) (i : ℕ) (event : Event)
     → i < length events → event ≡ get_or events i event → TellEvents n 1 (take i events) lines → m ≡ with_events n (take i events)
     → IsToldOf m (i + 1) event line → TellEvents n 1 (take (i + 1) events) (lines ++ line ∷ [])
 line_more n m lines line events i event within is so_far names one =

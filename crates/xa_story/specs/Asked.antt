@@ -16,12 +16,12 @@ use Rattle.xa_base.specs.declared.step.Part.TheVariants as parts
 use Rattle.xa_base.specs.declared.step.Step.{Step}
 use Rattle.xa_base.specs.declared.step.Step.TheVariants as steps
 use Rattle.xa_base.specs.declared.vote.Vote.{Vote}
-use Rattle.xa_story.specs.Naming.{Naming, name_of, next_name, xid_text}
-use Rattle.xa_story.specs.Words.{call_name, vote_text}
+use Rattle.xa_story.specs.Naming.{Naming, next_name, transaction_name, xid_text}
+use Rattle.xa_story.specs.Words.{call_name_with_flags, vote_text}
 
 -- a call, by its name and the name of its branch
-abbrev pub call_text : Naming → Call Xid → List ℕ
-call_text n call = elim (xid_in call) [ None ↦ call_name call | Some x ↦ call_name call ++ codes " " ++ xid_text n x ]
+abbrev pub named_call_text : Naming → Call Xid → List ℕ
+named_call_text n call = elim (xid_in call) [ None ↦ call_name_with_flags call | Some x ↦ call_name_with_flags call ++ codes " " ++ xid_text n x ]
 
 -- what a resource manager does with a prepared branch by itself
 abbrev pub alone_text : How → List ℕ → List ℕ
@@ -32,8 +32,8 @@ alone_text hows.Haz branch = codes "may have ended " ++ branch
 
 -- what was taken or heard: the call, or else what was looked for
 abbrev pub moved_text : Naming → Reply Xid → List ℕ → List ℕ
-moved_text n (replies.Took call answer) otherwise = call_text n call
-moved_text n (replies.Heard call answer) otherwise = call_text n call
+moved_text n (replies.Took call answer) otherwise = named_call_text n call
+moved_text n (replies.Heard call answer) otherwise = named_call_text n call
 moved_text n reply otherwise = otherwise
 
 abbrev pub outcome_name : Outcome → List ℕ
@@ -42,7 +42,7 @@ outcome_name outcomes.Rollback = codes "rollback"
 
 -- a word, and the transaction that it is about
 abbrev pub of_transaction : Naming → List ℕ → Gtrid → List ℕ
-of_transaction n word g = word ++ codes " " ++ name_of n g
+of_transaction n word g = word ++ codes " " ++ transaction_name n g
 
 -- how a resource manager is to vote on a branch
 abbrev pub votes_text : Naming → Xid → Vote → List ℕ
@@ -54,12 +54,12 @@ puts_off_text n x times = codes "will put xa_commit " ++ xid_text n x ++ codes "
 
 -- how a transaction is to end
 abbrev pub decide_text : Naming → Gtrid → Outcome → List ℕ
-decide_text n g outcome = codes "decide " ++ name_of n g ++ codes " " ++ outcome_name outcome
+decide_text n g outcome = codes "decide " ++ transaction_name n g ++ codes " " ++ outcome_name outcome
 
 -- what a step that was replied so asked for
 abbrev pub step_text : Naming → Reply Xid → Step Xid → List ℕ
 step_text n reply (steps.Begin thread) = codes "begin " ++ next_name n
-step_text n reply (steps.Issue thread rm call) = call_text n call
+step_text n reply (steps.Issue thread rm call) = named_call_text n call
 step_text n reply (steps.Take thread rm) = moved_text n reply (codes "take a call")
 step_text n reply (steps.Hear thread rm) = moved_text n reply (codes "hear an answer")
 step_text n reply (steps.Vote rm x vote) = votes_text n x vote

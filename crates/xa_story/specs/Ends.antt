@@ -21,9 +21,9 @@ fate_note (fates.Heuristic hows.Haz) = codes ": its resource manager may have en
 fate_note fate = []
 
 -- a branch, and at which resource manager it is
-abbrev pub place_text : Naming → Xid → List ℕ
-place_text n x = elim (branch_of_xid x) [ None ↦ xid_text n x | Some b ↦ xid_text n x ++ codes " at rm " ++ decimal b.rm ]
+abbrev pub branch_place_text : Naming → Xid → List ℕ
+branch_place_text n x = elim (branch_of_xid x) [ None ↦ xid_text n x | Some b ↦ xid_text n x ++ codes " at rm " ++ decimal b.rm ]
 
 -- the line of a branch, with its fate
-abbrev pub end_line : Naming → Xid × Fate → List ℕ
-end_line n line = codes "      " ++ left 16 (place_text n line.0) ++ codes " " ++ fate_text line.1 ++ fate_note line.1 ++ codes "\n"
+abbrev pub branch_end_line : Naming → Xid × Fate → List ℕ
+branch_end_line n line = codes "      " ++ left 16 (branch_place_text n line.0) ++ codes " " ++ fate_text line.1 ++ fate_note line.1 ++ codes "\n"

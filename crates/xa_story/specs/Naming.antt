@@ -1,5 +1,5 @@
 -- What a story calls transactions and branches: by the names that the scenario file gives them.
-use Rattle.std.specs.Prelude.{ℕ, ◌==◌, if◌then◌else◌, List, [], ◌∷◌, ◌++◌, length, map, filter, position, codes, slice_get, Option, Some, None}
+use Rattle.std.specs.Prelude.{ℕ, ◌==◌, if◌then◌else◌, List, [], ◌∷◌, ◌++◌, length, map, filter, position, codes, slice_get, Some, None}
 use Rattle.std.specs.Fmt.{decimal}
 use Rattle.std.specs.String.{string_bytes}
 use Rattle.xa_base.specs.Branch.{branch_of_xid, gtrid_eq}
@@ -45,24 +45,24 @@ with_events n [] = n
 with_events n (e ∷ es) = with_events (with_step n e.step e.reply) es
 
 -- the name at a place, from 0
-abbrev pub name_at : List (List ℕ) → ℕ → List ℕ
-name_at names place = elim (slice_get names place) [ None ↦ codes "?" | Some name ↦ name ]
+abbrev pub name_at_place : List (List ℕ) → ℕ → List ℕ
+name_at_place names place = elim (slice_get names place) [ None ↦ codes "?" | Some name ↦ name ]
 
 -- the name that the next begin is of
 abbrev pub next_name : Naming → List ℕ
-next_name n = name_at n.names (length n.gtrids)
+next_name n = name_at_place n.names (length n.gtrids)
 
 -- the name of a transaction, where just one begin is of it
-abbrev pub name_of : Naming → Gtrid → List ℕ
-name_of n g = if length (filter (λ h. gtrid_eq h g) n.gtrids) == 1
-    then elim (position (λ h. gtrid_eq h g) n.gtrids) [ None ↦ codes "?" | Some place ↦ name_at n.names place ]
+abbrev pub transaction_name : Naming → Gtrid → List ℕ
+transaction_name n g = if length (filter (λ h. gtrid_eq h g) n.gtrids) == 1
+    then elim (position (λ h. gtrid_eq h g) n.gtrids) [ None ↦ codes "?" | Some place ↦ name_at_place n.names place ]
     else codes "?"
 
 -- a branch: by its transaction and, unless it is thread 0's, its thread
-abbrev pub branch_text : Naming → Branch → List ℕ
-branch_text n b = if b.thread == 0 then name_of n b.gtrid
-    else name_of n b.gtrid ++ codes " of thread " ++ decimal b.thread
+abbrev pub named_branch_text : Naming → Branch → List ℕ
+named_branch_text n b = if b.thread == 0 then transaction_name n b.gtrid
+    else transaction_name n b.gtrid ++ codes " of thread " ++ decimal b.thread
 
 -- an identifier in the same way, if it is this manager's
 abbrev pub xid_text : Naming → Xid → List ℕ
-xid_text n x = elim (branch_of_xid x) [ None ↦ text_of x | Some b ↦ branch_text n b ]
+xid_text n x = elim (branch_of_xid x) [ None ↦ text_of x | Some b ↦ named_branch_text n b ]

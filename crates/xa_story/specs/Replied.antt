@@ -11,7 +11,7 @@ use Rattle.xa_base.specs.declared.reply.Reply.TheVariants as replies
 use Rattle.xa_base.specs.declared.step.Part.TheVariants as parts
 use Rattle.xa_base.specs.declared.step.Step.{Step}
 use Rattle.xa_base.specs.declared.step.Step.TheVariants as steps
-use Rattle.xa_story.specs.Words.{answer_text}
+use Rattle.xa_story.specs.Words.{answer_name}
 
 -- a script, or the end of a row
 abbrev pub noted_text : Step Xid → List ℕ
@@ -28,19 +28,19 @@ abbrev pub count_text : ℕ → List ℕ
 count_text n = if n == 1 then codes "1 call" else decimal n ++ codes " calls"
 
 -- a refusal, by its number and its name
-abbrev pub refused_text : Refusal → List ℕ
-refused_text refusal = codes "refused " ++ decimal (refusal_number refusal) ++ codes " " ++ refusal_name refusal ++ codes ":"
+abbrev pub told_refusal_text : Refusal → List ℕ
+told_refusal_text refusal = codes "refused " ++ decimal (refusal_number refusal) ++ codes " " ++ refusal_name refusal ++ codes ":"
 
 -- a transaction by its numbers
-abbrev pub begun_text : Gtrid → List ℕ
-begun_text g = codes "transaction " ++ decimal g.sequence ++ codes " of incarnation " ++ decimal g.incarnation
+abbrev pub begun_numbers_text : Gtrid → List ℕ
+begun_numbers_text g = codes "transaction " ++ decimal g.sequence ++ codes " of incarnation " ++ decimal g.incarnation
 
 -- what a step was replied
 abbrev pub text_for : Step Xid → Reply Xid → List ℕ
-text_for step (replies.Begun g) = begun_text g
+text_for step (replies.Begun g) = begun_numbers_text g
 text_for step replies.Issued = codes "waits"
-text_for step (replies.Took call answer) = answer_text answer
-text_for step (replies.Heard call answer) = answer_text answer
+text_for step (replies.Took call answer) = answer_name answer
+text_for step (replies.Heard call answer) = answer_name answer
 text_for step replies.Nothing = []
 text_for step replies.Noted = noted_text step
 text_for step replies.Claimed = codes "claimed"
@@ -49,7 +49,7 @@ text_for step (replies.Resolved calls) = count_text calls
 text_for step replies.Crashed = crashed_text step
 text_for step replies.RmRestarted = codes "up"
 text_for step (replies.Restarted incarnation decisions heuristics) = codes "up"
-text_for step (replies.Refused refusal) = refused_text refusal
+text_for step (replies.Refused refusal) = told_refusal_text refusal
 
-abbrev pub reply_text : Event → List ℕ
-reply_text event = text_for event.step event.reply
+abbrev pub told_reply_text : Event → List ℕ
+told_reply_text event = text_for event.step event.reply

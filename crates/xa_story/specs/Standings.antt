@@ -9,8 +9,8 @@ use Rattle.xa_base.specs.declared.state.Standing.{Standing}
 use Rattle.xa_base.specs.declared.state.Standing.TheVariants.{Committed}
 
 -- a branch that stood there, after a call on it was answered so
-abbrev pub standing_after : Standing → Call Xid → Code → Standing
-standing_after f call a = elim (asks_of call) [ None ↦ f | Some (kind, x) ↦ moved f kind a ]
+abbrev pub standing_after_answer : Standing → Call Xid → Code → Standing
+standing_after_answer f call a = elim (asks_of call) [ None ↦ f | Some (kind, x) ↦ moved f kind a ]
 
 -- after an xa_commit
 abbrev pub committed_or : Standing → Code → Standing

@@ -18,19 +18,19 @@ use Rattle.xa_base.specs.declared.vote.Vote.{Vote}
 use Rattle.xa_base.specs.declared.vote.Vote.TheVariants as votes
 
 -- a call, with those flags of it that change what it does
-abbrev pub call_name : Call Xid → List ℕ
-call_name calls.OpenRm = codes "xa_open"
-call_name calls.CloseRm = codes "xa_close"
-call_name (calls.Start xid false) = codes "xa_start"
-call_name (calls.Start xid true) = codes "xa_start(TMJOIN)"
-call_name (calls.End xid false) = codes "xa_end"
-call_name (calls.End xid true) = codes "xa_end(TMFAIL)"
-call_name (calls.Prepare xid) = codes "xa_prepare"
-call_name (calls.Commit xid false) = codes "xa_commit"
-call_name (calls.Commit xid true) = codes "xa_commit(TMONEPHASE)"
-call_name (calls.Rollback xid) = codes "xa_rollback"
-call_name (calls.Forget xid) = codes "xa_forget"
-call_name (calls.Recover count start end) = codes "xa_recover"
+abbrev pub call_name_with_flags : Call Xid → List ℕ
+call_name_with_flags calls.OpenRm = codes "xa_open"
+call_name_with_flags calls.CloseRm = codes "xa_close"
+call_name_with_flags (calls.Start xid false) = codes "xa_start"
+call_name_with_flags (calls.Start xid true) = codes "xa_start(TMJOIN)"
+call_name_with_flags (calls.End xid false) = codes "xa_end"
+call_name_with_flags (calls.End xid true) = codes "xa_end(TMFAIL)"
+call_name_with_flags (calls.Prepare xid) = codes "xa_prepare"
+call_name_with_flags (calls.Commit xid false) = codes "xa_commit"
+call_name_with_flags (calls.Commit xid true) = codes "xa_commit(TMONEPHASE)"
+call_name_with_flags (calls.Rollback xid) = codes "xa_rollback"
+call_name_with_flags (calls.Forget xid) = codes "xa_forget"
+call_name_with_flags (calls.Recover count start end) = codes "xa_recover"
 
 abbrev pub rb_name : RbCode → List ℕ
 rb_name rb.Rollback = codes "XA_RBROLLBACK"
@@ -62,9 +62,9 @@ code_name returned.RmFailed = codes "XAER_RMFAIL"
 code_name returned.DuplicateXid = codes "XAER_DUPID"
 
 -- an answer: a code, or how many branches are listed
-abbrev pub answer_text : Answer Xid → List ℕ
-answer_text (Ret code) = code_name code
-answer_text (Page xids) = decimal (length xids)
+abbrev pub answer_name : Answer Xid → List ℕ
+answer_name (Ret code) = code_name code
+answer_name (Page xids) = decimal (length xids)
 
 -- how a resource manager is to vote
 abbrev pub vote_text : Vote → List ℕ

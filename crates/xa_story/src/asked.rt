@@ -2,7 +2,7 @@
 
 ghost use Rattle.std.specs.Prelude.{◌≡◌, IfOk};
 ghost use Rattle.std.specs.String.{string_bytes};
-ghost use Rattle.xa_story.specs.Asked.{alone_text, asked_text, call_text, decide_text, moved_text, of_transaction, outcome_name, puts_off_text, votes_text};
+ghost use Rattle.xa_story.specs.Asked.{alone_text, asked_text, decide_text, moved_text, named_call_text, of_transaction, outcome_name, puts_off_text, votes_text};
 ghost use Rattle.xa_story.specs.Naming.{xid_text};
 
 use crate::names::Names;
@@ -12,7 +12,7 @@ use xa_base::{Branch, Call, Event, Gtrid, How, Memory, Outcome, Part, Reply, Ste
 
 /// A call, by its name and the name of its branch.
 pub fn call_text(alloc: Global, names: &Names, call: &Call) -> Result<String, Memory>
-    ensures { IfOk result (λ text. string_bytes text ≡ call_text names.now call.now) }
+    ensures { IfOk result (λ text. string_bytes text ≡ named_call_text names.now call.now) }
 {
     let name = call_name(call);
     match call.xid() {

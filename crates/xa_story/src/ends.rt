@@ -3,7 +3,7 @@
 ghost use Rattle.std.specs.Prelude.{◌≡◌, IfOk};
 ghost use Rattle.std.specs.List.{flat_map};
 ghost use Rattle.std.specs.String.{string_bytes};
-ghost use Rattle.xa_story.specs.Ends.{end_line, fate_note, place_text};
+ghost use Rattle.xa_story.specs.Ends.{branch_end_line, branch_place_text, fate_note};
 
 use crate::ledger::Settlement;
 use crate::names::Names;
@@ -29,7 +29,7 @@ fn fate_note(fate: Fate) -> &'static str
 
 /// A branch, and at which resource manager it is.
 fn place_text(alloc: Global, names: &Names, xid: &Xid) -> Result<String, Memory>
-    ensures { IfOk result (λ text. string_bytes text ≡ place_text names.now xid.now) }
+    ensures { IfOk result (λ text. string_bytes text ≡ branch_place_text names.now xid.now) }
 {
     let name = names.xid_text(alloc, xid)?;
     match xid.branch() {
@@ -43,7 +43,7 @@ fn place_text(alloc: Global, names: &Names, xid: &Xid) -> Result<String, Memory>
 
 /// The line of a branch.
 fn end_line(alloc: Global, names: &Names, line: &(Xid, Fate)) -> Result<String, Memory>
-    ensures { IfOk result (λ text. string_bytes text ≡ end_line names.now line.now) }
+    ensures { IfOk result (λ text. string_bytes text ≡ branch_end_line names.now line.now) }
 {
     let (xid, fate) = line;
     let place = place_text(alloc, names, xid)?;
@@ -54,7 +54,8 @@ fn end_line(alloc: Global, names: &Names, line: &(Xid, Fate)) -> Result<String, 
 
 /// The lines of branches.
 pub fn fates_text(alloc: Global, names: &Names, fates: &[(Xid, Fate)]) -> Result<String, Memory>
-    ensures { IfOk result (λ text. string_bytes text ≡ flat_map (end_line names.now) fates.now) }
+    ensures { IfOk result (λ text. string_bytes text
+        ≡ flat_map (branch_end_line names.now) fates.now) }
 {
     let mut text = String::new(alloc);
     for line in fates {

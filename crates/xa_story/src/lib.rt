@@ -22,7 +22,7 @@ mod story;
 mod waits;
 mod words;
 
-pub use line::{Line, LogChange};
+pub use line::{LogChange, StoryLine};
 pub use names::Names;
 pub use party::{Party, Sides, party_text};
 pub use scene::Scene;

@@ -23,7 +23,7 @@ pub enum LogChange {
 
 /// What is told of an event.
 #[derive(Drop)]
-pub struct Line {
+pub struct StoryLine {
     /// The number of the event, from 1.
     pub number: usize,
     /// Who takes part.
@@ -45,7 +45,7 @@ pub struct Line {
 }
 
 /// Who takes part, as it is told: the answers of a recovery, which wait on the lines of thread 0, go to the manager.
-fn told_sides(line: &Line) -> Sides
+fn told_sides(line: &StoryLine) -> Sides
     ensures { result ≡ told_sides line.now }
 {
     match (line.sides, line.came) {
@@ -56,7 +56,7 @@ fn told_sides(line: &Line) -> Sides
 }
 
 /// What was asked, what that was answered, and what has changed, without spaces at the end.
-fn rest_text(alloc: Global, line: &Line) -> Result<String, Memory>
+fn rest_text(alloc: Global, line: &StoryLine) -> Result<String, Memory>
     ensures { IfOk result (λ text. string_bytes text ≡ rest_text line.now) }
 {
     let asked = line.asked.as_str();
@@ -72,7 +72,7 @@ fn rest_text(alloc: Global, line: &Line) -> Result<String, Memory>
 }
 
 /// The line as text.
-pub fn line_text(alloc: Global, line: &Line) -> Result<String, Memory>
+pub fn line_text(alloc: Global, line: &StoryLine) -> Result<String, Memory>
     ensures { IfOk result (λ text. string_bytes text ≡ line_text line.now) }
 {
     let number = line.number;

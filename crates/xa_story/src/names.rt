@@ -3,7 +3,7 @@
 ghost use Rattle.std.specs.Prelude.{◌≡◌, IfOk, OnOk, length, map, filter, position};
 ghost use Rattle.std.specs.String.{string_bytes};
 ghost use Rattle.xa_base.specs.Branch.{gtrid_eq};
-ghost use Rattle.xa_story.specs.Naming.{begun_by, branch_text, name_at, name_of, next_name, unbegun, with_begin, xid_text};
+ghost use Rattle.xa_story.specs.Naming.{begun_by, name_at_place, named_branch_text, next_name, transaction_name, unbegun, with_begin, xid_text};
 
 use std::alloc::Global;
 use std::marker::Model;
@@ -53,7 +53,7 @@ impl<'a> Names<'a> {
 
     /// The name of a place, from 0, if the file has so many.
     fn name_at(&self, place: usize) -> &str
-        ensures { result.now ≡ name_at self.now.names place }
+        ensures { result.now ≡ name_at_place self.now.names place }
     {
         match self.names.get(place) {
             Some(name) => name.as_str(),
@@ -91,7 +91,7 @@ impl<'a> Names<'a> {
 
     /// The name of a transaction, where just one stands for it.
     pub fn name_of(&self, gtrid: Gtrid) -> &str
-        ensures { result.now ≡ name_of self.now gtrid }
+        ensures { result.now ≡ transaction_name self.now gtrid }
     {
         match self.place_of(gtrid) {
             Some(place) if self.count_of(gtrid) == 1 => self.name_at(place),
@@ -108,7 +108,7 @@ impl<'a> Names<'a> {
 
     /// A branch by the name of its transaction and, unless it is thread 0's, its thread.
     pub fn branch_text(&self, alloc: Global, branch: Branch) -> Result<String, Memory>
-        ensures { IfOk result (λ text. string_bytes text ≡ branch_text self.now branch) }
+        ensures { IfOk result (λ text. string_bytes text ≡ named_branch_text self.now branch) }
     {
         let name = self.name_of(branch.gtrid);
         match branch.thread {

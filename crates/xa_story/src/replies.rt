@@ -2,7 +2,7 @@
 
 ghost use Rattle.std.specs.Prelude.{◌≡◌, IfOk};
 ghost use Rattle.std.specs.String.{string_bytes};
-ghost use Rattle.xa_story.specs.Replied.{begun_text, count_text, crashed_text, noted_text, refused_text, reply_text};
+ghost use Rattle.xa_story.specs.Replied.{begun_numbers_text, count_text, crashed_text, noted_text, told_refusal_text, told_reply_text};
 
 use crate::asked::plain_text;
 use crate::words::answer_text;
@@ -42,7 +42,7 @@ fn count_text(alloc: Global, count: usize) -> Result<String, Memory>
 
 /// A refusal, by its number and its name.
 fn refused_text(alloc: Global, refusal: Refusal) -> Result<String, Memory>
-    ensures { IfOk result (λ text. string_bytes text ≡ refused_text refusal) }
+    ensures { IfOk result (λ text. string_bytes text ≡ told_refusal_text refusal) }
 {
     let number = refusal.number();
     let name = refusal.name();
@@ -51,7 +51,7 @@ fn refused_text(alloc: Global, refusal: Refusal) -> Result<String, Memory>
 
 /// A transaction by its numbers.
 fn begun_text(alloc: Global, gtrid: Gtrid) -> Result<String, Memory>
-    ensures { IfOk result (λ text. string_bytes text ≡ begun_text gtrid) }
+    ensures { IfOk result (λ text. string_bytes text ≡ begun_numbers_text gtrid) }
 {
     let sequence = gtrid.sequence;
     let incarnation = gtrid.incarnation;
@@ -60,7 +60,7 @@ fn begun_text(alloc: Global, gtrid: Gtrid) -> Result<String, Memory>
 
 /// What an event was replied.
 pub fn reply_text(alloc: Global, event: &Event) -> Result<String, Memory>
-    ensures { IfOk result (λ text. string_bytes text ≡ reply_text event.now) }
+    ensures { IfOk result (λ text. string_bytes text ≡ told_reply_text event.now) }
 {
     match event.reply {
         Reply::Begun(gtrid) => begun_text(alloc, gtrid),

@@ -61,7 +61,7 @@ impl<'a> Scene<'a> {
     }
 
     /// The line of the next event.
-    pub fn tell(&mut self, number: usize, event: &Event) -> Result<Line, Memory>
+    pub fn tell(&mut self, number: usize, event: &Event) -> Result<StoryLine, Memory>
         ensures told { IfOk result (IsToldOf self.old.names number event.now) }
         ensures names { OnOk result (self.new.names ≡
             with_step self.old.names event.now.step event.now.reply) }
@@ -77,7 +77,7 @@ impl<'a> Scene<'a> {
             lost,
             log,
         } = self.follow(number, event)?;
-        Ok(Line {
+        Ok(StoryLine {
             number,
             sides,
             asked,

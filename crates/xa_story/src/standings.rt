@@ -3,7 +3,7 @@
 ghost use Rattle.std.specs.Prelude.{◌≡◌};
 ghost use Rattle.xa_base.specs.StateTable.{Kind.Start, after_end, after_prepare, moved};
 ghost use Rattle.xa_base.specs.declared.code.Code.{Code};
-ghost use Rattle.xa_story.specs.Standings.{committed_or, standing_after};
+ghost use Rattle.xa_story.specs.Standings.{committed_or, standing_after_answer};
 
 use crate::waits::breaks;
 use std::alloc::Global;
@@ -18,7 +18,7 @@ pub struct Move {
 
 /// Where a branch stands after a call on it was answered, by the branch state table (XA, chapter 6, State Tables).
 fn standing_after(before: Standing, call: &Call, code: Code) -> Standing
-    ensures { result ≡ standing_after before call.now code }
+    ensures { result ≡ standing_after_answer before call.now code }
 {
     match (before, call) {
         (Standing::Active, Call::End { .. }) => after_end(code),

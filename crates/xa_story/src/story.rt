@@ -8,13 +8,17 @@ ghost use Rattle.xa_story.specs.Naming.{with_events};
 ghost use Rattle.xa_story.specs.Stories.{IsSpelled, TellEvents};
 
 use crate::ends::{fates_text, reasons_text};
-use crate::line::{Line, line_text};
+use crate::line::{StoryLine, line_text};
 use crate::scene::Scene;
 use std::alloc::Global;
 use xa_base::{Event, Fate, Memory, Xid};
 
 /// A line for each event, in turn. The scene is that before the first of them.
-pub fn lines_of(alloc: Global, scene: &mut Scene, events: &[Event]) -> Result<Vec<Line>, Memory>
+pub fn lines_of(
+    alloc: Global,
+    scene: &mut Scene,
+    events: &[Event],
+) -> Result<Vec<StoryLine>, Memory>
     ensures told { IfOk result (λ lines. TellEvents scene.old.names 1 events.now lines.items) }
     ensures names { OnOk result (scene.new.names ≡ with_events scene.old.names events.now) }
 {
@@ -27,7 +31,7 @@ pub fn lines_of(alloc: Global, scene: &mut Scene, events: &[Event]) -> Result<Ve
 }
 
 /// The text of some lines.
-fn lines_text(alloc: Global, lines: &[Line]) -> Result<String, Memory>
+fn lines_text(alloc: Global, lines: &[StoryLine]) -> Result<String, Memory>
     ensures { IfOk result (λ text. string_bytes text ≡ flat_map line_text lines.now) }
 {
     let mut text = String::new(alloc);
@@ -41,7 +45,7 @@ fn lines_text(alloc: Global, lines: &[Line]) -> Result<String, Memory>
 /// The text of some lines, and of the ends that follow, at the scene after them.
 pub fn story_text(
     alloc: Global,
-    lines: &[Line],
+    lines: &[StoryLine],
     scene: &Scene,
     fates: &[(Xid, Fate)],
 ) -> Result<String, Memory>

@@ -2,14 +2,14 @@
 
 ghost use Rattle.std.specs.Prelude.{◌≡◌, IfOk};
 ghost use Rattle.std.specs.String.{string_bytes};
-ghost use Rattle.xa_story.specs.Words.{answer_text, call_name, code_name, how_name, rb_name, standing_text, vote_text};
+ghost use Rattle.xa_story.specs.Words.{answer_name, call_name_with_flags, code_name, how_name, rb_name, standing_text, vote_text};
 
 use std::alloc::Global;
 use xa_base::{Answer, Call, Code, How, Memory, RbCode, Standing, Vote};
 
 /// The name of a call, with those flags of it that change what it does (XA, chapter 5).
 pub fn call_name(call: &Call) -> &'static str
-    ensures { result.now ≡ call_name call.now }
+    ensures { result.now ≡ call_name_with_flags call.now }
 {
     match *call {
         Call::OpenRm => "xa_open",
@@ -82,7 +82,7 @@ pub fn code_name(code: Code) -> &'static str
 
 /// An answer, as XA's calls return it: a code by its name, and what an xa_recover lists by its count (XA, chapter 5).
 pub fn answer_text(alloc: Global, answer: &Answer) -> Result<String, Memory>
-    ensures { IfOk result (λ text. string_bytes text ≡ answer_text answer.now) }
+    ensures { IfOk result (λ text. string_bytes text ≡ answer_name answer.now) }
 {
     match answer {
         Answer::Ret(code) => Ok(String::from_str(alloc, code_name(*code))?),

@@ -3,10 +3,9 @@ use Rattle.std.specs.Prelude.{◌≡◌, ◌≤◌, ◌<◌, ◌⊎◌, ◌+◌,
 use Rattle.std.specs.Vec.{vec_capacity}
 use Rattle.xa_base.specs.Xid.{Xid}
 use Rattle.xa_model.specs.Facts.{started}
-use Rattle.xa_model.specs.Facts.Distinct.{ApartRows}
 use Rattle.xa_model.specs.Protocol.{OldOrigin}
 use Rattle.xa_model.specs.Replies.History.{AreAllowed, history}
-use Rattle.xa_model.specs.Trace.{Origin, Recorded, Row, Trace, Trace.From, line}
+use Rattle.xa_model.specs.Trace.{Origin, Recorded, Row, Trace, line}
 use Rattle.xa_base.specs.Branch.{IsBranch, own_format}
 use Rattle.xa_base.specs.Recover.{IsInDoubtList}
 use Rattle.xa_base.specs.declared.branch.Branch.{Branch}
@@ -28,16 +27,12 @@ use Rattle.xa_system.specs.RmInHistory.{RmStands}
 use Rattle.xa_system.specs.Steps.{IsSame}
 use Rattle.xa_system.specs.declared.parts.Parts.{Parts}
 use Rattle.xa_system.specs.declared.system.System.TheInside.{Inside}
-use Rattle.xa_tm.specs.Begins.{BeginsWith, records_begun, rows_begun}
-use Rattle.xa_tm.specs.Book.{book_of}
+use Rattle.xa_tm.specs.Begins.{records_begun, rows_begun}
 use Rattle.xa_tm.specs.LedgerBook as books
 use Rattle.xa_tm.specs.Calls.{book_in, log_in}
-use Rattle.xa_tm.specs.Limits.{HasRoomForRun}
-use Rattle.xa_tm.specs.Starting.{IsOld}
 use Rattle.xa_tm.specs.Slots.{slot_moment}
 use Rattle.xa_tm.specs.BookAndLog.{IsTied}
 use Rattle.xa_tm.specs.declared.slot.Slot.{Slot}
-use Rattle.xa_tm.specs.declared.manager.Manager.{Manager}
 use Rattle.xa_rm.specs.Look.{Look}
 
 -- what contracts see of the resource managers, of a log, and of the place that a system has for one
@@ -65,8 +60,8 @@ pub record SystemView (R L : Type 0) : Type 0 where
   pub handed : L
   pub log : Slot L
 
-abbrev pub view_of : {R L : Type 0} → Inside R L → SystemView R L
-view_of a = record {
+abbrev pub system_view_of : {R L : Type 0} → Inside R L → SystemView R L
+system_view_of a = record {
   start = a.parts.start.value.items;
   first = a.first.value;
   begun = log_in a.parts.began.value;

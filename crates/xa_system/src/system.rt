@@ -1,5 +1,5 @@
 //! The system: its parts, with the events that left them where they stand.
-ghost use Rattle.std.specs.Prelude.{◌≡◌, ◌+◌, true, false, [], length, Err, IfOk, IsSome, IsSomeAnd, vec_len};
+ghost use Rattle.std.specs.Prelude.{◌≡◌, ◌+◌, true, false, [], length, Err, IfOk, vec_len};
 ghost use Rattle.xa_system.specs.SystemView.{AreClear, IsUnclear};
 ghost use Rattle.xa_tm.specs.StartFaults.{IsToBlame};
 ghost use Rattle.xa_system.specs.declared.system.NewFault.{NewFault};
@@ -31,12 +31,12 @@ pub struct System<R: ResourceManager + Drop, L: DecisionLog + Drop> {
 
 impl<R: ResourceManager + Drop, L: DecisionLog + Drop> Model for System<R, L> {
     ghost use Rattle.xa_system.specs.Parts.{sees};
-    ghost use Rattle.xa_system.specs.SystemView.{SystemView, view_of, IsSound};
+    ghost use Rattle.xa_system.specs.SystemView.{SystemView, system_view_of, IsSound};
     ghost use Rattle.xa_tm.specs.Slots.{slot_moment};
 
     ghost Value = { SystemView R L };
 
-    ghost view = { view_of };
+    ghost view = { system_view_of };
 
     ghost invariant = { IsSound
         (sees R.look (slot_moment L.moment)) L.moment };
@@ -108,7 +108,7 @@ impl<R: ResourceManager + Drop, L: DecisionLog + Drop> System<R, L> {
     ghost use Rattle.xa_system.specs.KeptLog.{IsMadeOver};
     ghost use Rattle.xa_system.specs.SystemView.{HasWrongSize, HoldsItsTrace, observes, origin_in};
     ghost use Rattle.xa_system.specs.declared.system.TheConstants.{EVENT_LIMIT};
-    ghost use Rattle.xa_tm.specs.Slots.{log_held, slot_moment};
+    ghost use Rattle.xa_tm.specs.Slots.{slot_moment};
 
     /// A system with no events, of 1 to 8 threads and 1 to 8 resource managers that hold no branch of this manager's
     /// format, with a manager that starts over the log. Room for all events is made here. The log's rows are read, and

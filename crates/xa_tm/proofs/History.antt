@@ -1,6 +1,8 @@
 -- The book of a history: what it says, and how it changes.
 pub mod OneMore
+pub mod RecordsAfter
 pub mod Starts
+pub mod LoadedRows
 pub mod StartRows
 pub mod Counting
 pub mod CountsAsLengths
@@ -8,6 +10,7 @@ pub mod RowCounts
 pub mod Settling
 pub mod Soundness
 pub mod Limits
+pub mod Numbers
 pub mod Members
 pub mod Recovery
 pub mod NextAnswer

@@ -4,4 +4,5 @@ pub mod Contents
 pub mod Room
 pub mod Refusals
 pub mod Decisions
+pub mod FittingNumbers
 pub mod InTurn

@@ -3,7 +3,7 @@ use Rattle.std.specs.Prelude.{ℕ, ◌+◌, ◌-◌, ◌<◌, ◌≡◌, ◌≤�
 use Rattle.std.specs.FinMap.{get, len}
 use Rattle.xa_base.specs.declared.branch.Branch.{Branch}
 use Rattle.xa_base.specs.declared.branch.Gtrid.{Gtrid}
-use Rattle.xa_log.specs.Content.{Content, with_bump, with_commit, without_decisions, with_record, unchanged}
+use Rattle.xa_log.specs.Content.{Content, with_bump, with_commit, without_decisions, with_heuristic_record, unchanged}
 use Rattle.xa_log.specs.Contract.{Makes}
 use Rattle.xa_log.specs.declared.decision_log.DecisionLog as DecisionLog
 use Rattle.xa_log.specs.declared.fail_plan.LogCall.TheVariants.{Bump, Rows}
@@ -25,11 +25,11 @@ with_rows (x ∷ xs) c = with_rows xs (with_commit x.0 x.1 c)
 abbrev pub changed_by : Doubt → Content → Content
 changed_by (Adds xs) c = with_rows xs c
 changed_by (Drops gs) c = without_decisions gs c
-changed_by (Records b how) c = with_record b how c
+changed_by (Records b how) c = with_heuristic_record b how c
 changed_by NoDoubt c = c
 
 -- the content has the rows and the record of another
-pub record SameRows (c d : Content) : Type 0 where
+pub record SameRowsAndRecords (c d : Content) : Type 0 where
   pub decisions : c.decisions ≡ d.decisions
   pub heuristics : c.heuristics ≡ d.heuristics
 
@@ -42,7 +42,7 @@ IsChangeOf row _ = Unit
 -- the content has the book's rows and record, or those with the change in doubt
 abbrev pub MayHold : Book → Content → Type 0
 MayHold k c = (before : Content) × HoldsBook k before
-    × (SameRows c before ⊎ (IsChangeOf k.row k.doubt × SameRows c (changed_by k.doubt before)))
+    × (SameRowsAndRecords c before ⊎ (IsChangeOf k.row k.doubt × SameRowsAndRecords c (changed_by k.doubt before)))
 
 -- the content is of an incarnation that the book's restarts may have left
 pub record IsReached (k : Book) (c : Content) : Type 0 where

@@ -5,5 +5,5 @@ use Rattle.xa_tm.specs.Book.{Book}
 use Rattle.xa_tm.specs.BookAndLog.{IsTiedDown}
 
 -- each content that a crash may leave has what the book says, with or without the change in doubt
-abbrev pub IsLeft : (near : Bool) → Book → (Content → Type 0) → Type 0
-IsLeft near k may = (d : Content) → may d → IsTiedDown near k d
+abbrev pub LeavesTied : (near : Bool) → Book → (Content → Type 0) → Type 0
+LeavesTied near k may = (d : Content) → may d → IsTiedDown near k d

@@ -1,7 +1,7 @@
 -- What is known of the log in a slot, or of the one that was taken out of it.
 use Rattle.std.specs.Prelude.{◌≡◌, ℕ, Option, Some, None}
 use Rattle.xa_log.specs.Content.{AreOwn, Content, unchanged}
-use Rattle.xa_log.specs.Contract.{AllFit, Keeps, LeavesNoMore, Makes, Moment, one_more_fault}
+use Rattle.xa_log.specs.Contract.{AllFit, IsShutOrSame, LeavesNoMore, Makes, Moment, one_more_fault}
 use Rattle.xa_log.specs.declared.decision_log.DecisionLog as DecisionLog
 use Rattle.xa_log.specs.declared.fail_plan.LogCall.{LogCall}
 use Rattle.xa_log.specs.declared.fail_plan.LogCall.TheVariants.{Rows}
@@ -82,7 +82,7 @@ slot_moment moment slot = moment_in moment slot.was.value slot.log slot.faults
 
 -- a look at a log leaves it as it was, or has shut it, and a crash leaves nothing more of it
 pub record LooksAt (old new : Moment) : Type 0 where
-  pub kept : old.is_in_order → new.is_honest → Keeps old.content new.content
+  pub kept : old.is_in_order → new.is_honest → IsShutOrSame old.content new.content
   pub crash : old.is_in_order → new.is_honest → LeavesNoMore old.may_leave new.may_leave
   pub order : old.is_in_order → new.is_in_order
   pub honest : new.is_honest → old.is_honest

@@ -23,11 +23,11 @@ abbrev pub kept_row : BTreeMap Gtrid (Option (Vec Branch)) → Gtrid → Option 
 kept_row m g = unwrap_or (get gtrid_cmp m g) None
 
 -- whether a branch is among these
-abbrev pub is_among : Branch → List Branch → Bool
-is_among b bs = list_any (λ c. branch_eq c b) bs
+abbrev pub is_branch_among : Branch → List Branch → Bool
+is_branch_among b bs = list_any (λ c. branch_eq c b) bs
 
 abbrev pub are_among : (branches others : List Branch) → Bool
-are_among bs cs = list_all (λ b. is_among b cs) bs
+are_among bs cs = list_all (λ b. is_branch_among b cs) bs
 
 -- whether two lists are of the same branches
 abbrev pub same_branches : List Branch → List Branch → Bool

@@ -6,7 +6,7 @@ ghost use Rattle.xa_base.specs.declared.step.Part.{Part as Crashing};
 ghost use Rattle.xa_log.specs.Content.{with_bump};
 ghost use Rattle.xa_log.specs.Contract.{LeavesAlso};
 ghost use Rattle.xa_tm.specs.Book.{Book, Doubt, Doubt.NoDoubt, after, book_after, failed_restarts_after};
-ghost use Rattle.xa_tm.specs.Leaving.{IsLeft};
+ghost use Rattle.xa_tm.specs.Leaving.{LeavesTied};
 ghost use Rattle.xa_tm.specs.BookAndLog.{IsChangeOf, IsTied, changed_by};
 ghost use Rattle.xa_tm.specs.Laws.{AnswersAskTheRecord, BooksFollowHistories, BranchesAreCounted};
 ghost use Rattle.xa_tm.specs.Laws.{DecisionsAskTheRows, DonesAskTheRows, DoubtsAreOfRows, DropsAreCounted, DroppedRowsAreThere};
@@ -138,23 +138,23 @@ pub fn starts_are_histories()
 pub fn crashes_leave_the_book<L: DecisionLog>()
     ensures up { (near : Bool) (k : Book) (log : L) → k.up ≡ true → (L.moment log).is_in_order →
         IsTied near k (L.moment log).content →
-        IsLeft near k (L.moment log).may_leave }
+        LeavesTied near k (L.moment log).may_leave }
     ensures fault { (near : Bool) (k : Book) (asked : Doubt) (f : Fault) (old new : L) →
         k.up ≡ true → IsChangeOf k.row asked →
         failed_restarts_after (Failed f) k.failed_restarts ≡ k.failed_restarts →
         (L.moment old).is_in_order → IsTied near k (L.moment old).content →
         LeavesAlso (changed_by asked) (L.moment old).content (L.moment old).may_leave
         (L.moment new).may_leave →
-        IsLeft near (book_after k asked (Failed f)) (L.moment new).may_leave }
+        LeavesTied near (book_after k asked (Failed f)) (L.moment new).may_leave }
     ensures restart { (near : Bool) (k : Book) (old new : L) → k.up ≡ false →
         IsTied near k (L.moment old).content →
-        IsLeft near k (L.moment old).may_leave →
+        LeavesTied near k (L.moment old).may_leave →
         LeavesAlso with_bump (L.moment old).content (L.moment old).may_leave
         (L.moment new).may_leave →
-        IsLeft near (book_after k NoDoubt (Failed InRestart)) (L.moment new).may_leave }
+        LeavesTied near (book_after k NoDoubt (Failed InRestart)) (L.moment new).may_leave }
     ensures crash { (near : Bool) (k : Book) (part : Crashing) (log : L) →
-        IsLeft near k (L.moment log).may_leave →
-        IsLeft near (after k (Crashed part)) (L.moment log).may_leave }
+        LeavesTied near k (L.moment log).may_leave →
+        LeavesTied near (after k (Crashed part)) (L.moment log).may_leave }
 {}
 
 /// A book that has released transactions ([`Manager::release`](crate::Manager::release)) goes on as the whole book

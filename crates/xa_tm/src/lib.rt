@@ -1,4 +1,4 @@
-//! The coordinator of global transactions: which it began, what their branches answered, what it decided, and its
+//! The manager of global transactions: which it began, what their branches answered, what it decided, and its
 //! decision log.
 //!
 //! "XA" in these pages is X/Open CAE Specification C193, "Distributed Transaction Processing: The XA Specification"

@@ -1,4 +1,4 @@
-//! The coordinator, with its log. A file for each of its steps.
+//! The manager, with its log. A file for each of its steps.
 
 ghost use Rattle.std.specs.Prelude.{◌≡◌};
 ghost use Rattle.xa_tm.specs.Calls.{book_in, log_in};
@@ -24,7 +24,7 @@ use crate::ledger::Ledger;
 use std::snapshot::Snapshot;
 use xa_log::{DecisionLog, LogRows};
 
-/// The coordinator of global transactions.
+/// The manager of global transactions.
 #[derive(Drop)]
 pub struct Manager<L: Drop> {
     pub(crate) ledger: Ledger,

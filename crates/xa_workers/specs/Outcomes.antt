@@ -1,6 +1,6 @@
 -- What a run of jobs comes to.
 use Rattle.std.specs.Prelude.{◌≡◌, ℕ, ◌*◌, All, List, length}
-use Rattle.xa_line.specs.Traffic.{Traffic, answered, heard, issued, taken}
+use Rattle.xa_line.specs.Traffic.{Traffic, answered, answers_heard, calls_issued, calls_taken}
 use Rattle.xa_log.specs.declared.decision_log.DecisionLog as DecisionLog
 use Rattle.xa_workers.specs.Fates.{HaveFates, fates_of}
 use Rattle.xa_workers.specs.Rows.{Logs, rows_of_jobs}
@@ -17,7 +17,7 @@ pub record IsOutcomeOf {L : Type 0} (g : DecisionLog.Ghosts L) (jobs : Jobs) (lo
 
 -- each call that was issued on a line was taken, and each answer heard
 abbrev pub IsThrough : Traffic → Type 0
-IsThrough line = (taken line ≡ issued line) × (heard line ≡ answered line)
+IsThrough line = (calls_taken line ≡ calls_issued line) × (answers_heard line ≡ answered line)
 
 -- the lines that come back: one of each thread of control to each resource manager, and nothing waits on them
 pub record AreLinesOf (jobs : Jobs) (lines : List Traffic) : Type 0 where

@@ -15,7 +15,7 @@ use Rattle.xa_log.specs.declared.decision.Decision.{Decision}
 use Rattle.xa_log.specs.declared.decision_log.DecisionLog as DecisionLog
 use Rattle.xa_workers.specs.Jobs.{gtrid_of, is_yes, votes_of, yes_branches}
 use Rattle.xa_workers.specs.declared.jobs.Jobs.{Jobs}
-use Rattle.xa_workers.specs.declared.journal.Journal.{Journal}
+use Rattle.xa_workers.specs.declared.run_rows.RunRows.{RunRows}
 
 -- ** which jobs have rows
 
@@ -90,7 +90,7 @@ HasFailed moment old new = (moment new).fault_count ≡ one_more_fault (moment o
 abbrev pub FailsNot : {L : Type 0} → (moment : L → Moment) → (old new : L) → Type 0
 FailsNot moment old new = (moment new).fault_count ≡ (moment old).fault_count
 
--- the log of a journal has come to have the rows of the jobs that the journal notes as written
-abbrev pub HasRowsOf : {L : Type 0} → DecisionLog.Ghosts L → Jobs → (incarnation : ℕ) → Journal L → Type 0
-HasRowsOf g jobs incarnation journal =
-    Logs g incarnation (written_rows (participants_of_job jobs incarnation) journal.written.items) journal.first.value journal.log
+-- the log of a run has come to have the rows of the jobs that are noted as written
+abbrev pub HasRowsOf : {L : Type 0} → DecisionLog.Ghosts L → Jobs → (incarnation : ℕ) → RunRows L → Type 0
+HasRowsOf g jobs incarnation run_rows =
+    Logs g incarnation (written_rows (participants_of_job jobs incarnation) run_rows.written.items) run_rows.first.value run_rows.log

@@ -43,11 +43,11 @@ abbrev pub MayFind : Word → Word → Type 0
 MayFind left found = (found ≡ left) ⊎ ((number_of_word left ≤ 1) × (number_of_word left < number_of_word found))
 
 -- of two entries on one slot the later found what the earlier may lead to
-abbrev pub Follows : Entry → Entry → Type 0
-Follows x y = y.slot ≡ x.slot → MayFind x.left y.found
+abbrev pub FollowsOnSlot : Entry → Entry → Type 0
+FollowsOnSlot x y = y.slot ≡ x.slot → MayFind x.left y.found
 
 abbrev pub InOrder : View → Type 0
-InOrder v = AllPairs Follows v.entries
+InOrder v = AllPairs FollowsOnSlot v.entries
 
 abbrev pub HoldsSlot : View → ℕ → Type 0
 HoldsSlot v slot = Contains v.held slot

@@ -15,8 +15,8 @@ use crate::deal::{by_rm, by_thread, new_ends};
 use crate::docket::Docket;
 use crate::fault::Halt;
 use crate::halts::{end_of, first_fault};
-use crate::journal::{Journal, write_rows};
 use crate::limits::JOB_LIMIT;
+use crate::run_rows::{RunRows, write_rows};
 use crate::serve::Served;
 use crate::signals::Signals;
 use crate::start::{Hands, Joined, Team, start_all, to_serve};
@@ -36,14 +36,14 @@ fn work_of<J: Run, L: Drop>(
     started: Result<(), Halt>,
     logged: Result<(), Halt>,
     joined: Joined<J>,
-    journal: Journal<L>,
+    run_rows: RunRows<L>,
 ) -> Result<Work<J, L>, WorkFault>
     // All ended well, those too that left nothing to work with.
     ensures started { IfOk result (λ _. IsOk started × IsOk logged) }
     ensures swept { IfOk result (λ _. IsOk joined.swept) }
     ensures served { IfOk result (λ _. IsOk joined.served) }
     ensures left { IfOk result (λ work. (joined.controlled ≡ Ok work.controlled)
-        × (work.journal ≡ journal)) }
+        × (work.run_rows ≡ run_rows)) }
 
     ensures fault { IfErr result (λ fault. fault ≡ first_told (started ∷ logged
         ∷ end_of joined.controlled ∷ end_of joined.swept ∷ end_of joined.served ∷ [])) }
@@ -63,7 +63,7 @@ fn work_of<J: Run, L: Drop>(
     match (started, logged, controlled, swept, served) {
         (Ok(()), Ok(()), Ok(controlled), Ok(_), Ok(_)) => Ok(Work {
             controlled,
-            journal,
+            run_rows,
         }),
         _ => Err(fault),
     }
@@ -84,26 +84,26 @@ fn run_crew<
     crew: &'s Crew<'s, J, G>,
     served: &'s Vec<Mutex<Served<J>>>,
     hands: Hands<J>,
-    mut journal: Journal<L>,
+    mut run_rows: RunRows<L>,
 ) -> Result<Work<J, L>, WorkFault>
     requires seat { hands.seat.board ≡ crew.now.board.now.table }
-    requires few { vec_len journal.written ≤ JOB_LIMIT }
-    requires kept { HasRowsOf L.DecisionLog crew.now.jobs.now crew.now.incarnation journal }
-    ensures first { IfOk result (λ work. work.journal.first ≡ journal.first) }
+    requires few { vec_len run_rows.written ≤ JOB_LIMIT }
+    requires kept { HasRowsOf L.DecisionLog crew.now.jobs.now crew.now.incarnation run_rows }
+    ensures first { IfOk result (λ work. work.run_rows.first ≡ run_rows.first) }
     ensures kept { IfOk result (λ work.
-        HasRowsOf L.DecisionLog crew.now.jobs.now crew.now.incarnation work.journal) }
+        HasRowsOf L.DecisionLog crew.now.jobs.now crew.now.incarnation work.run_rows) }
 {
     let mut team = Team::new(alloc);
     let started = start_all(scope, rt, alloc, crew, served, hands, &mut team);
     if started.is_err() {
         crew.signals.stop();
     }
-    let logged = write_rows(rt, alloc, crew, &mut journal);
+    let logged = write_rows(rt, alloc, crew, &mut run_rows);
     if logged.is_err() {
         crew.signals.stop();
     }
     let joined = team.joined(rt, alloc, crew);
-    work_of(started, logged, joined, journal)
+    work_of(started, logged, joined, run_rows)
 }
 
 /// Runs all workers, and returns once all have ended.
@@ -118,27 +118,28 @@ fn run_all<
     crew: &Crew<'_, J, G>,
     served: &Vec<Mutex<Served<J>>>,
     hands: Hands<J>,
-    journal: Journal<L>,
+    run_rows: RunRows<L>,
 ) -> Result<Work<J, L>, WorkFault>
     requires seat { hands.seat.board ≡ crew.now.board.now.table }
-    requires few { vec_len journal.written ≤ JOB_LIMIT }
-    requires kept { HasRowsOf L.DecisionLog crew.now.jobs.now crew.now.incarnation journal }
-    ensures first { IfOk result (λ work. work.journal.first ≡ journal.first) }
+    requires few { vec_len run_rows.written ≤ JOB_LIMIT }
+    requires kept { HasRowsOf L.DecisionLog crew.now.jobs.now crew.now.incarnation run_rows }
+    ensures first { IfOk result (λ work. work.run_rows.first ≡ run_rows.first) }
     ensures kept { IfOk result (λ work.
-        HasRowsOf L.DecisionLog crew.now.jobs.now crew.now.incarnation work.journal) }
+        HasRowsOf L.DecisionLog crew.now.jobs.now crew.now.incarnation work.run_rows) }
 {
     thread::scope(
         thread::scope_env(),
         rt,
         |scope| -> Result<Work<J, L>, WorkFault>
             requires seat { hands.seat.board ≡ crew.now.board.now.table }
-            requires few { vec_len journal.written ≤ JOB_LIMIT }
-            requires kept { HasRowsOf L.DecisionLog crew.now.jobs.now crew.now.incarnation journal }
-            ensures first { IfOk result (λ work. work.journal.first ≡ journal.first) }
+            requires few { vec_len run_rows.written ≤ JOB_LIMIT }
+            requires kept { HasRowsOf L.DecisionLog crew.now.jobs.now crew.now.incarnation
+                run_rows }
+            ensures first { IfOk result (λ work. work.run_rows.first ≡ run_rows.first) }
             ensures kept { IfOk result (λ work.
                 HasRowsOf L.DecisionLog crew.entry.now.jobs.now
-                crew.entry.now.incarnation work.journal) }
-        { run_crew(scope, rt, alloc, crew, served, hands, journal) },
+                crew.entry.now.incarnation work.run_rows) }
+        { run_crew(scope, rt, alloc, crew, served, hands, run_rows) },
     )
 }
 
@@ -200,8 +201,8 @@ fn run_named<
         seat,
     };
     let served = to_serve(alloc, jobs, incarnation, by_rm(alloc, jobs, takers)?)?;
-    let journal = Journal::new(alloc, jobs, incarnation, first, log)?;
-    let work = run_all(rt, alloc, &crew, &served, hands, journal)?;
+    let run_rows = RunRows::new(alloc, jobs, incarnation, first, log)?;
+    let work = run_all(rt, alloc, &crew, &served, hands, run_rows)?;
     verified_outcomes(alloc, jobs, incarnation, work, served)
 }
 

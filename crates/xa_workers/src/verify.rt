@@ -8,10 +8,10 @@ ghost use Rattle.xa_workers.specs.Rows.{HasRowsOf, Logs, job_has_row, rows_of_jo
 
 use crate::brand::Run;
 use crate::control::Controlled;
-use crate::journal::Journal;
 use crate::limits::JOB_LIMIT;
 use crate::numbered::{NumberedIssuer, NumberedTaker};
 use crate::reunite::all_met;
+use crate::run_rows::RunRows;
 use crate::serve::Served;
 use crate::{Jobs, Outcomes, WorkFault};
 use std::alloc::{AllocError, Global};
@@ -25,7 +25,7 @@ use xa_rm::{MemRm, ResourceManager};
 #[derive(Drop)]
 pub(crate) struct Work<J: Run, L> {
     pub(crate) controlled: Vec<Controlled<J>>,
-    pub(crate) journal: Journal<L>,
+    pub(crate) run_rows: RunRows<L>,
 }
 
 /// The ends of the jobs, in their order.
@@ -173,17 +173,17 @@ pub(crate) fn verified_outcomes<J: Run, L: DecisionLog + Drop>(
     requires few { vec_len jobs.now.votes ≤ JOB_LIMIT }
     requires some { 0 < jobs.now.threads }
     requires own { J.is_own ≡ is_xid_of jobs.now incarnation }
-    requires rows { HasRowsOf L.DecisionLog jobs.now incarnation work.journal }
+    requires rows { HasRowsOf L.DecisionLog jobs.now incarnation work.run_rows }
     ensures ends { IfOk result (λ o. AreEndsOf jobs.now o.ends.items) }
     ensures fates { IfOk result (λ o. o.fates.items ≡ fates_of jobs.now incarnation o.ends.items) }
     ensures rms { IfOk result (λ o. HaveFates jobs.now incarnation o.rms.items o.fates.items) }
     ensures lines { IfOk result (λ o. AreLinesOf jobs.now o.lines.items) }
     ensures rows { IfOk result (λ o. Logs L.DecisionLog incarnation
-        (rows_of_jobs jobs.now incarnation o.ends.items) work.journal.first.value o.log) }
+        (rows_of_jobs jobs.now incarnation o.ends.items) work.run_rows.first.value o.log) }
 {
     let Work {
         controlled,
-        journal,
+        run_rows,
     } = work;
     let ends = gathered_ends(alloc, jobs, &controlled)?;
     let planned = jobs.planned_ends(alloc)?;
@@ -195,7 +195,7 @@ pub(crate) fn verified_outcomes<J: Run, L: DecisionLog + Drop>(
     if !are_all_lines(jobs, &lines) {
         return Err(WorkFault::Mixed);
     }
-    let Journal { log, written, .. } = journal;
+    let RunRows { log, written, .. } = run_rows;
     if may_all_end(jobs.sweep, &planned, &ends)
         && have_rows(jobs, &ends, &written)
         && rms_agree(jobs, &rms, &fates)

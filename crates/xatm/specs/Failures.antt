@@ -2,8 +2,8 @@
 use Rattle.std.specs.Prelude.{ℕ}
 use Rattle.xa_files.specs.Faults.{fault_status}
 use Rattle.xatm.specs.declared.failure.Failure.{Failure}
-use Rattle.xa_coordinator.specs.declared.serving.ServeFault.{ServeFault}
-use Rattle.xa_coordinator.specs.declared.serving.ServeFault.TheVariants as services
+use Rattle.xa_server.specs.declared.serving.ServeFault.{ServeFault}
+use Rattle.xa_server.specs.declared.serving.ServeFault.TheVariants as services
 use Rattle.xa_files.specs.declared.fault.RunFault.TheVariants as faults
 use Rattle.xa_tm.specs.declared.manager.start.StartFault.{StartFault}
 use Rattle.xa_tm.specs.declared.manager.start.StartFault.TheVariants as starts

@@ -8,12 +8,12 @@ use std::alloc::{AllocError, AllocFailed};
 use std::io;
 use std::io::ErrorKind;
 use xa_base::Memory;
-use xa_coordinator::ServeFault;
 use xa_display::ChartFault;
 use xa_files::RunFault;
 use xa_listing::run_fault;
 use xa_log::LogFault;
 use xa_restore::{LineFault, RestoreFault};
+use xa_server::ServeFault;
 use xa_tm::StartFault;
 
 /// Why the program ends early.

@@ -10,9 +10,9 @@ use sqlite::FileStore;
 use sqlite_disk::Disk;
 use std::alloc::Global;
 use std::io::{BufReader, Read, Write};
-use xa_coordinator::Coordinator;
 use xa_log::DecisionLog;
 use xa_names::ManagerName;
+use xa_server::Server;
 use xa_sql_log::SqlLog;
 
 /// Serves a driver of so many threads and resource managers over a log, as the manager of this name, until it quits or its
@@ -33,8 +33,8 @@ pub(crate) fn serve_over<L: DecisionLog + Drop, R: Read, W: Write>(
         (reader_remaining R.remaining input.old) (W.contents out.old) (W.contents out.new)) }
     ensures status { IfErr result (λ failure. failure_status failure ≡ 2) }
 {
-    let mut coordinator = Coordinator::new(alloc, threads, rms, log)?;
-    coordinator.serve_under(name, input, out)?;
+    let mut server = Server::new(alloc, threads, rms, log)?;
+    server.serve_under(name, input, out)?;
     Ok(())
 }
 

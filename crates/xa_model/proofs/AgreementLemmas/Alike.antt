@@ -75,7 +75,7 @@ commit_cause : (tr : Trace) (b : Branch) (f g : Standing) → Move tr b f g → 
 commit_cause tr b f g (Commits_now p) q k = p
 commit_cause tr b f g _ q k = cc
 
-prepared_not_at_rest : (f : Standing) → f ≡ Prepared → IsAtRest f → ⊥
+pub prepared_not_at_rest : (f : Standing) → f ≡ Prepared → IsAtRest f → ⊥
 prepared_not_at_rest f q h = subst IsAtRest q h
 
 row_of_prepared : (tr : Trace) (b : Branch) → AllRight tr → standing tr b ≡ Prepared → had_row tr b.gtrid ≡ true → has_row tr b.gtrid ≡ true

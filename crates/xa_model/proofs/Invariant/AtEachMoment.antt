@@ -7,7 +7,7 @@ use Rattle.xa_base.specs.StateTable.{State.S0, State.S5, state_of}
 use Rattle.xa_base.specs.declared.state.Standing.{Standing}
 use Rattle.xa_base.specs.declared.state.Standing.TheVariants.{Unstarted, Active, Idle, Prepared, RollbackOnly, Completed, Committed, RolledBack, Lost, ReadOnly, Forgotten}
 use Rattle.xa_base.specs.declared.step.Outcome.TheVariants as Outcome
-use Rattle.xa_model.specs.Promises.AgreementInvariant.{IsWaiting, CommitHasRow, RollbackHasNoRow, NoStartAfterCommit, RowsWerePrepared, IsReady, ClaimedIsPrepared, SettledIsOver, MayBegin, FreshGtrids, HandedOverAlone}
+use Rattle.xa_model.specs.Promises.AgreementInvariant.{IsWaiting, CommitHasRow, RollbackHasNoRow, NoStartAfterCommit, RowsWerePrepared, IsReadyToCommit, ClaimedIsPrepared, SettledIsOver, MayBegin, FreshGtrids, HandedOverAlone}
 use Rattle.xa_model.specs.Promises.Commitment.{Phase, phase_of}
 use Rattle.xa_model.specs.Facts.{decided_so, claimed, outlived, counts_as_committed, handed_over, live, has_row, had_row, ever, is_settled, heuristic_rows, recorded_as, standing}
 use Rattle.xa_model.specs.Protocol.{HasVoted, AllAreSettled, IsRun}
@@ -95,7 +95,7 @@ no_end : (tr : Trace) (b : Branch) → Inv tr → live tr b.gtrid ≡ true → (
 no_end tr b inv l (inl h) = let n = (inv.rows b.gtrid h).closed.not_live in cc
 no_end tr b inv l (inr h) = let n = (closed_handed tr b.gtrid inv h).not_live in cc
 
-ready : (tr : Trace) (b : Branch) → Inv tr → IsGood (standing tr b) → live tr b.gtrid ≡ true → (f : Standing) → standing tr b ≡ f → IsReady f
+ready : (tr : Trace) (b : Branch) → Inv tr → IsGood (standing tr b) → live tr b.gtrid ≡ true → (f : Standing) → standing tr b ≡ f → IsReadyToCommit f
 ready tr b inv h l Prepared e = tt
 ready tr b inv h l (Completed how) e = tt
 ready tr b inv h l ReadOnly e = tt

@@ -17,7 +17,8 @@ use Rattle.xa_base.proofs.Lists.{get_none}
 use Rattle.xa_model.proofs.Invariant.Now.{closed_decided, step_move}
 use Rattle.xa_model.proofs.Invariant.OneMore.{claimed_voted_kept, decided_voted, all_voted_kept, is_started_kept}
 use Rattle.xa_model.proofs.Invariant.WaitingCalls.{waiting_after, waiting_up_after, start_once_after, start_issued_after}
-use Rattle.xa_model.proofs.Invariant.PreservedRows.{begun_since_after, not_started_before, since_start_after, started_since_after, begun_old_after, started_old_after, decided_old_after, handed_old_after, handed_one_after, unstarted_after, committed_after, rows_after, row_left_after, covered_after, doubt_down_after, in_doubt_after}
+use Rattle.xa_model.proofs.Invariant.PreservedTransactions.{begun_since_after, not_started_before, since_start_after, started_since_after, begun_old_after, started_old_after, decided_old_after, handed_old_after, handed_one_after, unstarted_after, committed_after}
+use Rattle.xa_model.proofs.Invariant.PreservedRows.{rows_after, row_left_after, covered_after, doubt_down_after, in_doubt_after}
 use Rattle.xa_model.proofs.Invariant.HeardAnswers.{answered_after, voted_yes_after, voted_read_only_after, acknowledged_after, recorded_after, recorded_closed_after, forgotten_after}
 
 -- ** pages

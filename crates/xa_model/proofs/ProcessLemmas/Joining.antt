@@ -21,7 +21,9 @@ use Rattle.xa_model.specs.Trace.{Gtrid, Branch, Line, Call, Answer, Outcome, Fau
 use Rattle.xa_model.proofs.Invariant.{Inv}
 use Rattle.xa_model.proofs.Invariant.Preservation.{always}
 use Rattle.xa_model.proofs.Replies.Replies.{all_right, allowed_right}
-use Rattle.xa_model.proofs.ProcessLemmas.Facing.{Faces, SameBranches, faces_after, live_is, live_later, or_false, record_is, row_is, rows_after, records_after}
+use Rattle.xa_model.proofs.ProcessLemmas.SameParts.{Faces, SameBranches, or_false}
+use Rattle.xa_model.proofs.ProcessLemmas.Facing.{faces_after, record_is, row_is, rows_after, records_after}
+use Rattle.xa_model.proofs.ProcessLemmas.FacingDeals.{live_is, live_later}
 use Rattle.xa_model.proofs.ProcessLemmas.SameLogs.{each_of_some_same, rows_again, records_again}
 use Rattle.xa_model.proofs.ProcessLemmas.SameStates.{prepared_by_state, same_in_doubt}
 use Rattle.xa_model.proofs.ProcessLemmas.Since.{IsLater, none_started}
@@ -31,7 +33,7 @@ code_by_state : (tr ur : Trace) → SameBranches tr ur → (o : Option (_ × Bra
 code_by_state tr ur h (Some (k, b)) = λ i. answer k (h.states b i) (h.votes b i) (h.retries b i)
 code_by_state tr ur h None = refl
 
-each_once : (P Q : Gtrid → Type 0) → ((g : Gtrid) → P g → Q g) → (gs : List Gtrid) → EachOnce P gs → EachOnce Q gs
+pub each_once : (P Q : Gtrid → Type 0) → ((g : Gtrid) → P g → Q g) → (gs : List Gtrid) → EachOnce P gs → EachOnce Q gs
 each_once P Q f [] h = tt
 each_once P Q f (g ∷ gs) h = (f g h.0, h.1, each_once P Q f gs h.2)
 

@@ -24,15 +24,18 @@ use Rattle.xa_model.proofs.Invariant.{HasBegun}
 use Rattle.xa_model.proofs.Invariant.Moves.{Move, Move.Stays, Move.Starts, Move.Completes, Move.Rolls_back, Move.Ends, Move.Fails, Move.Prepares, Move.Only_reads, Move.Refuses, Move.In_one_phase, Move.Commits, Move.Forgets, Move.Loses_active, Move.Loses_idle, Move.Loses_rollback_only}
 use Rattle.xa_model.proofs.Invariant.Now.{step_move}
 use Rattle.xa_model.proofs.Invariant.Preservation.{always, begun_is_started, never_found, run_always}
-use Rattle.xa_model.proofs.Invariant.PreservedRows.{not_started_before, started_listed}
+use Rattle.xa_model.proofs.Invariant.PreservedTransactions.{not_started_before}
+use Rattle.xa_model.proofs.Invariant.PreservedRows.{started_listed}
 use Rattle.xa_model.proofs.NameLemmas.OwnNames.{foreign_name, own_name}
-use Rattle.xa_model.proofs.ProcessLemmas.Facing.{Faces, record_is}
+use Rattle.xa_model.proofs.ProcessLemmas.SameParts.{Faces}
+use Rattle.xa_model.proofs.ProcessLemmas.Facing.{record_is}
 use Rattle.xa_model.proofs.ProcessLemmas.Joining.{gone_right, joined_faces}
 use Rattle.xa_model.proofs.ProcessLemmas.Leaving.{fits_branch}
 use Rattle.xa_model.proofs.ProcessLemmas.SameStates.{prepared_by_state}
 use Rattle.xa_model.proofs.RecoveryLemmas.Pages.{Each, each_append, each_in_order}
 use Rattle.xa_model.proofs.RecoveryLemmas.WholeRecovery.{In}
-use Rattle.xa_model.proofs.RecoveryLemmas.RecoveredStart.{HasXid, each_in, has_in, in_behind, in_filtered, in_mapped, in_order_has, not_recorded, recovered_by}
+use Rattle.xa_model.proofs.RecoveryLemmas.RecoveredStart.{HasXid, each_in, has_in, in_behind, in_filtered, in_mapped, in_order_has}
+use Rattle.xa_model.proofs.RecoveryLemmas.RecoveryCalls.{not_recorded, recovered_by}
 use Rattle.xa_model.proofs.Replies.Replies.{allowed_right}
 
 -- ** lists

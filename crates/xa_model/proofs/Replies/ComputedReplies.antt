@@ -6,7 +6,7 @@ use Rattle.xa_base.specs.StateTable.{asks_of}
 use Rattle.xa_base.specs.declared.code.Code.TheVariants as Codes
 use Rattle.xa_base.specs.declared.step.Outcome.TheVariants as Outcome
 use Rattle.xa_base.specs.declared.step.Side.TheVariants as Side
-use Rattle.xa_model.specs.Replies.Allowed.{Takes, Takes.Takes_one, Takes.Takes_none, Hears, Hears.Hears_one, Hears.Hears_none, Restarts, Restarts.Restarts_as, failed_restarts, next_gtrid, IsValue, UsesLog, MayLackMemory, Allowed, Allowed.By_rule, Allowed.As_value, Allowed.For_memory, Allowed.For_log, AllAllowed}
+use Rattle.xa_model.specs.Replies.Allowed.{Takes, Takes.Takes_one, Takes.Takes_none, Hears, Hears.Hears_one, Hears.Hears_none, Restarts, Restarts.Restarts_as, failed_restarts, next_gtrid, IsValue, NeedsLog, MayLackMemory, Allowed, Allowed.By_rule, Allowed.As_value, Allowed.For_memory, Allowed.For_log, AllAllowed}
 use Rattle.xa_model.specs.Facts.{incarnation, was_told, says_yes_in, doubt, log, rows_changed, heuristic_rows, heuristics_changed, next_call, next_answer, page, resolving_calls}
 use Rattle.xa_model.specs.Facts.InDoubt.{scan_answer}
 use Rattle.xa_model.specs.Protocol.{RightAnswer, call_code}
@@ -152,7 +152,7 @@ heuristic_next : (tr : Trace) (l : Line) (o : Option (Call × Answer)) → next_
 heuristic_next tr l (Some (c, Ret (Codes.Heuristic how))) q e = (c, how, q)
 heuristic_next tr l _ q e = absurd (cc)
 
-uses_log : (tr : Trace) (s : Step) → may_fail tr s ≡ true → UsesLog tr s
+uses_log : (tr : Trace) (s : Step) → may_fail tr s ≡ true → NeedsLog tr s
 uses_log tr (Steps.Decide g Outcome.Commit) e = e
 uses_log tr (Steps.Settle g) e = e
 uses_log tr (Steps.Hear t r) e = heuristic_next tr (line t r) (next_answer tr (line t r)) refl e

@@ -29,7 +29,7 @@ all_push tr (y ∷ xs) x a d = (a.0, all_push (Then tr (happened y.0 y.1)) xs x 
 pub allowed_push : (o : Origin) (xs : List Event) (e : Event) → AreAllowed o xs → IsAllowedEvent (history o xs) e → AreAllowed o (xs ++ e ∷ [])
 allowed_push o xs e a d = subst (AllAllowed (From o)) (sym (read_append xs (e ∷ []))) (all_push (From o) (map read xs) (read e) a d)
 
-all_before : (tr : Trace) (xs ys : List (Step × Reply)) → AllAllowed tr (xs ++ ys) → AllAllowed tr xs
+pub all_before : (tr : Trace) (xs ys : List (Step × Reply)) → AllAllowed tr (xs ++ ys) → AllAllowed tr xs
 all_before tr [] ys a = tt
 all_before tr (x ∷ xs) ys a = (a.0, all_before (Then tr (happened x.0 x.1)) xs ys a.1)
 

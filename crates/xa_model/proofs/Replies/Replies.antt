@@ -9,7 +9,7 @@ use Rattle.xa_base.specs.Standing.{is_prepared}
 use Rattle.xa_base.specs.declared.state.Standing.{Standing}
 use Rattle.xa_base.specs.declared.state.Standing.TheVariants.{Prepared}
 use Rattle.xa_base.specs.declared.step.Side.TheVariants as Side
-use Rattle.xa_model.specs.Replies.Allowed.{Takes, Takes.Takes_one, Takes.Takes_none, Hears, Hears.Hears_one, Hears.Hears_none, Restarts, Restarts.Restarts_as, IsValue, UsesLog, Allowed, Allowed.By_rule, Allowed.As_value, Allowed.For_memory, Allowed.For_log, with_steps, AllAllowed}
+use Rattle.xa_model.specs.Replies.Allowed.{Takes, Takes.Takes_one, Takes.Takes_none, Hears, Hears.Hears_one, Hears.Hears_none, Restarts, Restarts.Restarts_as, IsValue, NeedsLog, Allowed, Allowed.By_rule, Allowed.As_value, Allowed.For_memory, Allowed.For_log, with_steps, AllAllowed}
 use Rattle.xa_model.specs.Facts.{branches, outlived, participants_settled, decided_so, up, begun, live, started, is_settled, all_of, has_voted, is_closed, is_taken_up, is_shut}
 use Rattle.xa_model.specs.Protocol.{IsKnown, IsRowSettled, HasVoted, MayBeCalled, IsOpen, RightCall, IsOnOwnThread, RightClaim, RightDecision, RightDone, Right, AllRight}
 use Rattle.xa_model.specs.Replies.Guards.{is_off_line}
@@ -249,7 +249,7 @@ value_right tr (Steps.Crash p) r e v = by tr (Steps.Crash p) r _ v tt
 value_right tr (Steps.Restart (Side.Rm n)) r e v = by tr (Steps.Restart (Side.Rm n)) r _ v tt
 value_right tr (Steps.Restart Side.Manager) r e v = restarts_right tr r (none_applies tr (Steps.Restart Side.Manager) Refusal.Busy e) v
 
-pub fault_right : (tr : Trace) (s : Step) → must_refuse tr s ≡ None → UsesLog tr s → Right tr (happened s (Replies.Refused Refusal.LogFault))
+pub fault_right : (tr : Trace) (s : Step) → must_refuse tr s ≡ None → NeedsLog tr s → Right tr (happened s (Replies.Refused Refusal.LogFault))
 fault_right tr (Steps.Decide g Outcome.Commit) e u = ((right_decision tr g Outcome.Commit e, u), refl, tt)
 fault_right tr (Steps.Settle g) e u = ((right_settle tr g e, u), refl, tt)
 fault_right tr (Steps.ResolveOpen n) e u = is_up tr (Steps.ResolveOpen n) e refl

@@ -50,15 +50,15 @@ RowsWerePrepared tr =
     → (phases tr b ≡ Phase.Prepared) ⊎ (phases tr b ≡ Phase.Committed)
 
 -- prepared, heuristically completed, or ended by a vote to only read
-abbrev pub IsReady : Standing → Type 0
-IsReady Prepared = Unit
-IsReady (Completed how) = Unit
-IsReady ReadOnly = Unit
-IsReady _ = ⊥
+abbrev pub IsReadyToCommit : Standing → Type 0
+IsReadyToCommit Prepared = Unit
+IsReadyToCommit (Completed how) = Unit
+IsReadyToCommit ReadOnly = Unit
+IsReadyToCommit _ = ⊥
 
 -- so is each branch of a claimed transaction
 abbrev pub ClaimedIsPrepared : Trace → Type 0
-ClaimedIsPrepared tr = (b : Branch) → started tr b ≡ true → claimed tr b.gtrid ≡ true → IsReady (standing tr b)
+ClaimedIsPrepared tr = (b : Branch) → started tr b ≡ true → claimed tr b.gtrid ≡ true → IsReadyToCommit (standing tr b)
 
 -- a settled branch has ended, and a row leaves only when all branches of its transaction are settled
 pub record SettledIsOver (tr : Trace) : Type 0 where

@@ -73,15 +73,15 @@ IsDetermined _ = Unit
 -- ** failures
 
 -- steps in which the log may fail: they change it or read it
-abbrev pub UsesLog : Trace → Step → Type 0
-UsesLog tr (Steps.Decide g Outcome.Commit) = was_told tr (says_yes_in g) ≡ true
-UsesLog tr (Steps.Settle g) = was_told tr (says_yes_in g) ≡ true
-UsesLog tr (Steps.Hear t r) = (c : Call) × (how : How) × (next_answer tr (line t r) ≡ Some (c, Ret (Codes.Heuristic how)))
-UsesLog tr (Steps.Done g) = Unit
-UsesLog tr (Steps.Resolve r) = Unit
-UsesLog tr (Steps.ResolveOpen r) = Unit
-UsesLog tr (Steps.Restart Side.Manager) = Unit
-UsesLog tr _ = ⊥
+abbrev pub NeedsLog : Trace → Step → Type 0
+NeedsLog tr (Steps.Decide g Outcome.Commit) = was_told tr (says_yes_in g) ≡ true
+NeedsLog tr (Steps.Settle g) = was_told tr (says_yes_in g) ≡ true
+NeedsLog tr (Steps.Hear t r) = (c : Call) × (how : How) × (next_answer tr (line t r) ≡ Some (c, Ret (Codes.Heuristic how)))
+NeedsLog tr (Steps.Done g) = Unit
+NeedsLog tr (Steps.Resolve r) = Unit
+NeedsLog tr (Steps.ResolveOpen r) = Unit
+NeedsLog tr (Steps.Restart Side.Manager) = Unit
+NeedsLog tr _ = ⊥
 
 -- steps that may want memory: not a crash, nor a restart of a resource manager, nor a Hear that finds nothing
 abbrev pub MayLackMemory : Trace → Step → Type 0
@@ -97,7 +97,7 @@ pub data Allowed (tr : Trace) (s : Step) (reply : Reply) : Type 0 where
   By_rule : (n : Refusal) → must_refuse tr s ≡ Some n → reply ≡ Replies.Refused n → Allowed tr s reply
   As_value : must_refuse tr s ≡ None → IsValue tr s reply → Allowed tr s reply
   For_memory : must_refuse tr s ≡ None → MayLackMemory tr s → reply ≡ Replies.Refused Refusal.Memory → Allowed tr s reply
-  For_log : must_refuse tr s ≡ None → UsesLog tr s → reply ≡ Replies.Refused Refusal.LogFault → Allowed tr s reply
+  For_log : must_refuse tr s ≡ None → NeedsLog tr s → reply ≡ Replies.Refused Refusal.LogFault → Allowed tr s reply
 
 -- the history with these steps and replies behind it
 abbrev pub with_steps : Trace → List (Step × Reply) → Trace

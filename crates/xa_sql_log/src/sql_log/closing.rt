@@ -8,7 +8,7 @@ ghost use Rattle.xa_log.specs.Content.{Content};
 ghost use Rattle.xa_log.specs.Contract.{IsStoreFault};
 ghost use Rattle.xa_sql_log.specs.ClosedFiles.{HoldsWhole};
 ghost use Rattle.xa_sql_log.specs.OpenedDatabase.{HoldsLog};
-ghost use Rattle.xa_sql_log.specs.PreparedDatabase.{IsOver};
+ghost use Rattle.xa_sql_log.specs.PreparedDatabase.{IsOverFiles};
 
 use super::SqlLog;
 use crate::statements::store_fault;
@@ -64,7 +64,7 @@ impl<D: Disk + Drop> SqlLog<FileStore<D>> {
             (⟦<SqlLog<FileStore<D>> as DecisionLog>⟧.moment log).is_honest →
             AreClean D.Disk files.log files.db) }
         ensures opened { IfOk result (λ log. HasCleanDisk (file_state log.conn) →
-            IsOver (image_of D.Disk files) log.conn) }
+            IsOverFiles (image_of D.Disk files) log.conn) }
         ensures order { IfOk result (λ log. HoldsLog (image_of D.Disk files) →
             (⟦<SqlLog<FileStore<D>> as DecisionLog>⟧.moment log).is_in_order) }
         ensures held { IfOk result (λ log. (c : Content) → HoldsWhole c (image_of D.Disk files) →

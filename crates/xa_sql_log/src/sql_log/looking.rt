@@ -6,8 +6,8 @@ ghost use Rattle.sqlite.specs.Held.{state};
 ghost use Rattle.sqlite.specs.Files.{file_state};
 ghost use Rattle.sqlite_wal.specs.Files.{image_at};
 ghost use Rattle.xa_log.specs.Contract.{IsStoreFault};
-ghost use Rattle.xa_sql_log.specs.OpenedDatabase.{FindsLog, HoldsLog, IsBlank};
-ghost use Rattle.xa_sql_log.specs.PreparedDatabase.{IsOver};
+ghost use Rattle.xa_sql_log.specs.OpenedDatabase.{HoldsLog, HoldsLogOrNothing, IsBlank};
+ghost use Rattle.xa_sql_log.specs.PreparedDatabase.{IsOverFiles};
 
 use super::SqlLog;
 use super::files::{copies_of, options_of};
@@ -54,10 +54,11 @@ impl SqlLog<FileStore<FileFrom<Unknown>>> {
     ) -> Result<SqlLog<FileStore<FileFrom<Unknown>>>, LogFault>
         ensures faults { IfOk result (λ log. log.faults ≡ 0) }
         ensures opened { IfOk result (λ log. HasCleanDisk (file_state log.conn) →
-            IsOver (image_at ⟦<Unknown as Start>⟧) log.conn) }
+            IsOverFiles (image_at ⟦<Unknown as Start>⟧) log.conn) }
         ensures order { IfOk result (λ log. HoldsLog (image_at ⟦<Unknown as Start>⟧) →
             (⟦<SqlLog<FileStore<FileFrom<Unknown>>> as DecisionLog>⟧.moment log).is_in_order) }
-        ensures order_found { IfOk result (λ log. FindsLog (image_at ⟦<Unknown as Start>⟧) →
+        ensures order_found { IfOk result
+            (λ log. HoldsLogOrNothing (image_at ⟦<Unknown as Start>⟧) →
             (⟦<SqlLog<FileStore<FileFrom<Unknown>>> as DecisionLog>⟧.moment log).is_in_order) }
         ensures memory { path.now ≡ codes ":memory:" → IsErr result }
     {

@@ -9,8 +9,8 @@ ghost use Rattle.xa_log.specs.Content.{nothing};
 ghost use Rattle.xa_log.specs.Contract.{IsStoreFault};
 ghost use Rattle.xa_sql_log.specs.Sql.{IsLasting, IsReadyWith};
 ghost use Rattle.xa_sql_log.specs.declared.sql_log.SqlLog.{SqlLog as Log};
-ghost use Rattle.xa_sql_log.specs.OpenedDatabase.{IsKnownDatabase, HoldsLog, FindsLog};
-ghost use Rattle.xa_sql_log.specs.PreparedDatabase.{IsOver, Prepares};
+ghost use Rattle.xa_sql_log.specs.OpenedDatabase.{IsKnownDatabase, HoldsLog, HoldsLogOrNothing};
+ghost use Rattle.xa_sql_log.specs.PreparedDatabase.{IsOverFiles, Prepares};
 
 use super::SqlLog;
 use super::files::connection_to;
@@ -90,10 +90,10 @@ impl<S: Start> SqlLog<FileStore<FileFrom<S>>> {
     ) -> Result<SqlLog<FileStore<FileFrom<S>>>, LogFault>
         ensures faults { IfOk result (λ log. log.faults ≡ 0) }
         ensures opened { IfOk result (λ log. HasCleanDisk (file_state log.conn) →
-            IsOver (image_at S.Start) log.conn) }
+            IsOverFiles (image_at S.Start) log.conn) }
         ensures order { IfOk result (λ log. HoldsLog (image_at S.Start) →
             (⟦<SqlLog<FileStore<FileFrom<S>>> as DecisionLog>⟧.moment log).is_in_order) }
-        ensures order_found { IfOk result (λ log. FindsLog (image_at S.Start) →
+        ensures order_found { IfOk result (λ log. HoldsLogOrNothing (image_at S.Start) →
             (⟦<SqlLog<FileStore<FileFrom<S>>> as DecisionLog>⟧.moment log).is_in_order) }
         ensures memory { path.now ≡ codes ":memory:" → IsErrAnd result IsStoreFault }
     {
@@ -112,10 +112,11 @@ impl SqlLog<FileStore<FileFrom<Unknown>>> {
     ) -> Result<SqlLog<FileStore<FileFrom<Unknown>>>, LogFault>
         ensures faults { IfOk result (λ log. log.faults ≡ 0) }
         ensures opened { IfOk result (λ log. HasCleanDisk (file_state log.conn) →
-            IsOver (image_at ⟦<Unknown as Start>⟧) log.conn) }
+            IsOverFiles (image_at ⟦<Unknown as Start>⟧) log.conn) }
         ensures order { IfOk result (λ log. HoldsLog (image_at ⟦<Unknown as Start>⟧) →
             (⟦<SqlLog<FileStore<FileFrom<Unknown>>> as DecisionLog>⟧.moment log).is_in_order) }
-        ensures order_found { IfOk result (λ log. FindsLog (image_at ⟦<Unknown as Start>⟧) →
+        ensures order_found { IfOk result
+            (λ log. HoldsLogOrNothing (image_at ⟦<Unknown as Start>⟧) →
             (⟦<SqlLog<FileStore<FileFrom<Unknown>>> as DecisionLog>⟧.moment log).is_in_order) }
         ensures memory { path.now ≡ codes ":memory:" → IsErrAnd result IsStoreFault }
     {

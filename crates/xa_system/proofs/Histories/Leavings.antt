@@ -21,7 +21,7 @@ use Rattle.xa_system.specs.LogInHistory.{IsAsTold, LogStands, LogStandsBy, MayHo
 use Rattle.xa_system.specs.NextProcess.{Leaves, LeavesBranch, held_among}
 use Rattle.xa_system.specs.Parts.{Sees, held_at_rm}
 use Rattle.xa_tm.specs.Calls.{log_in}
-use Rattle.xa_system.specs.SystemView.{IsSound, MayRestart, SystemView, observes_parts, start_of, trace_in, view_of}
+use Rattle.xa_system.specs.SystemView.{IsSound, MayRestart, SystemView, observes_parts, start_of, system_view_of, trace_in}
 use Rattle.xa_system.specs.Trace.{IsElsewhere}
 use Rattle.xa_system.specs.declared.site.Site.{Site}
 use Rattle.xa_system.specs.declared.system.System.TheInside.{Inside}
@@ -80,7 +80,7 @@ module _ {R L : Type 0} (see : Sees R (Slot L)) (moment : L → Moment) (a : Ins
       by_up false may_hold = may_hold c is
 
   -- as it is seen
-  pub leaves_view : (s : SystemView R L) → view_of a ≡ s → (moment s.handed).is_in_order → (see.moment s.log).is_honest
+  pub leaves_view : (s : SystemView R L) → system_view_of a ≡ s → (moment s.handed).is_in_order → (see.moment s.log).is_honest
       → MayRestart (observes_parts see moment) s → (c : Content) → (see.moment (log_in a.parts.manager)).content ≡ Some c
       → (left : List R) → left ≡ rms → Leaves see.look (trace_in see.look s) left c
   leaves_view s view order honest may c is left same =

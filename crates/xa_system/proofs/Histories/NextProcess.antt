@@ -29,7 +29,8 @@ module _ {R : Type 0} (look : R → Look) (old new : List R) (crashes : AreCrash
   held_crashed : (r : ℕ) (x : Xid) → held_at_rm look new r x ≡ crashed (held_at_rm look old r x)
   held_crashed r x = from_option (slice_get new r) refl
     where
-      none_old : (o : Option R) → slice_get old r ≡ o → slice_get new r ≡ None → new_branch ≡ crashed (option_map_or (λ rm. (look rm).held) o (λ y. new_branch) x)
+      none_old : (o : Option R) → slice_get old r ≡ o → slice_get new r ≡ None
+          → new_branch ≡ crashed (option_map_or (λ rm. (look rm).held) o (λ y. new_branch) x)
       none_old None e at = refl
       none_old (Some rm) e at = absurd (let after = crashes.each r rm e in let no : None ≡ Some after.0 = sym at ∙ after.1 in cc)
 

@@ -200,7 +200,8 @@ module _ {R L : Type 0} (see : Sees R L) (threads : ℕ) (rms : List R) (manager
   all_rest r x = from_option (slice_get rms r) refl
     where
       from_option : (o : Option R) → slice_get rms r ≡ o
-          → broken (option_map_or (λ rm. (see.look rm).held) o (λ y. new_branch) x).standing ≡ (option_map_or (λ rm. (see.look rm).held) o (λ y. new_branch) x).standing
+          → broken (option_map_or (λ rm. (see.look rm).held) o (λ y. new_branch) x).standing
+          ≡ (option_map_or (λ rm. (see.look rm).held) o (λ y. new_branch) x).standing
       from_option None at = refl
       from_option (Some rm) at = still r rm at x
 
@@ -218,7 +219,8 @@ module _ {R L : Type 0} (see : Sees R L) (threads : ℕ) (rms : List R) (manager
   unfolding here
   there_is_one r x e = from_option (slice_get rms r) refl e
     where
-      from_option : (o : Option R) → slice_get rms r ≡ o → is_in_doubt (option_map_or (λ rm. (see.look rm).held) o (λ y. new_branch) x).standing ≡ true → r < length rms
+      from_option : (o : Option R) → slice_get rms r ≡ o → is_in_doubt (option_map_or (λ rm. (see.look rm).held) o (λ y. new_branch) x).standing ≡ true
+          → r < length rms
       from_option None at h = absurd (cc)
       from_option (Some rm) at h = slice_get_within rms r rm at
 

@@ -23,7 +23,7 @@ use Rattle.xa_system.specs.Parts.{Sees}
 use Rattle.xa_system.specs.Report.{IsReported}
 use Rattle.xa_log.specs.Contract.{Moment}
 use Rattle.xa_tm.specs.declared.slot.Slot.{Slot}
-use Rattle.xa_system.specs.SystemView.{IsOwnIn, IsSound, SystemView, view_of, start_of, trace_in}
+use Rattle.xa_system.specs.SystemView.{IsOwnIn, IsSound, SystemView, system_view_of, start_of, trace_in}
 use Rattle.xa_system.specs.Trace.{Each}
 use Rattle.xa_system.specs.declared.system.System.TheInside.{Inside}
 use Rattle.xa_system.proofs.Histories.SystemView.{origin_is}
@@ -144,7 +144,7 @@ module _ {R L : Type 0} (see : Sees R (Slot L)) (moment : L → Moment) where
       ap (is_among q) (is ∙ ap (λ (k : Book). items k.known) sound.stands.book)
       ∙ sym (contains-items (from_list (branches (trace_of a))) q) ∙ contains-from_list branches_total (branches (trace_of a)) q ∙ among_branches (trace_of a) q
 
-  pub own : (a : Inside R L) → IsSound see moment a → (q : Branch) → started (trace_of a) q ≡ true → IsOwnIn (view_of a) q
+  pub own : (a : Inside R L) → IsSound see moment a → (q : Branch) → started (trace_of a) q ≡ true → IsOwnIn (system_view_of a) q
   own a sound q is =
       let o = start_of see moment a.parts in
       let within = all_within (From o) (map read a.events.items) sound.allowed (none_started o) q is in
@@ -156,8 +156,8 @@ module _ {R L : Type 0} (see : Sees R (Slot L)) (moment : L → Moment) where
       }
 
   pub all_own : (a : Inside R L) → IsSound see moment a → (bs : List Branch) → bs ≡ items (book_in a.parts.manager).known
-      → AllByRecursion (IsOwnIn (view_of a)) bs
-  all_own a sound bs is = each_from (IsOwnIn (view_of a)) bs (λ q among. own a sound q (sym (is_listed a sound bs is q) ∙ among))
+      → AllByRecursion (IsOwnIn (system_view_of a)) bs
+  all_own a sound bs is = each_from (IsOwnIn (system_view_of a)) bs (λ q among. own a sound q (sym (is_listed a sound bs is q) ∙ among))
 
   pub all_fit : (a : Inside R L) → IsSound see moment a → (bs : List Branch) → bs ≡ items (book_in a.parts.manager).known → AllByRecursion IsBranch bs
   all_fit a sound bs is = each_from IsBranch bs (λ q among. (own a sound q (sym (is_listed a sound bs is q) ∙ among)).fits)
@@ -183,23 +183,25 @@ module _ {R L : Type 0} (see : Sees R (Slot L)) (moment : L → Moment) where
   abbrev IsWhole : SystemView R L → List Branch → ℕ → List (Xid × Fate) → Type 0
   IsWhole s xs i list = (length xs ≤ i) × (list ≡ map (reported (trace_in see.look s)) (take i xs))
 
-  whole : (a : Inside R L) (s : SystemView R L) → view_of a ≡ s → (xs bs : List Branch) (i : ℕ) (list : List (Xid × Fate)) → xs ≡ bs → IsWhole s xs i list
+  whole : (a : Inside R L) (s : SystemView R L) → system_view_of a ≡ s → (xs bs : List Branch) (i : ℕ) (list : List (Xid × Fate)) → xs ≡ bs
+      → IsWhole s xs i list
       → list ≡ map (reported (trace_of a)) bs
   whole a s view xs bs i list same all =
       all.1 ∙ ap (map (reported (trace_in see.look s))) (take_all xs i all.0 ∙ same) ∙ ap (λ v. map (reported (trace_in see.look v)) bs) (sym view)
 
-  pub own_at : (a : Inside R L) → IsSound see moment a → (s : SystemView R L) → view_of a ≡ s → (xs bs : List Branch) (i : ℕ) (d : Branch) → xs ≡ bs
+  pub own_at : (a : Inside R L) → IsSound see moment a → (s : SystemView R L) → system_view_of a ≡ s → (xs bs : List Branch) (i : ℕ) (d : Branch) → xs ≡ bs
       → bs ≡ items (book_in a.parts.manager).known → i < length xs → IsOwnIn s (slice_index_or xs i d)
   own_at a sound s view xs bs i d same is low =
-      subst (λ v. IsOwnIn v (slice_index_or xs i d)) view (at_place (IsOwnIn (view_of a)) xs i d (all_own a sound xs (same ∙ is)) low)
+      subst (λ v. IsOwnIn v (slice_index_or xs i d)) view (at_place (IsOwnIn (system_view_of a)) xs i d (all_own a sound xs (same ∙ is)) low)
 
-  pub told_in_order : (a : Inside R L) → IsSound see moment a → (s : SystemView R L) → view_of a ≡ s
+  pub told_in_order : (a : Inside R L) → IsSound see moment a → (s : SystemView R L) → system_view_of a ≡ s
       → (xs bs : List Branch) (i : ℕ) (list : List (Xid × Fate)) → xs ≡ bs
       → bs ≡ items (book_in a.parts.manager).known → IsStrictlySortedBy branch_cmp bs → IsWhole s xs i list → IsStrictlySortedBy xid_cmp (keys_of list)
   told_in_order a sound s view xs bs i list same is up all =
       subst (λ l. IsStrictlySortedBy xid_cmp (keys_of l)) (sym (whole a s view xs bs i list same all)) (in_order (trace_of a) bs (all_fit a sound bs is) up)
 
-  pub told : (a : Inside R L) → IsSound see moment a → (s : SystemView R L) → view_of a ≡ s → (xs bs : List Branch) (i : ℕ) (list : List (Xid × Fate)) → xs ≡ bs
+  pub told : (a : Inside R L) → IsSound see moment a → (s : SystemView R L) → system_view_of a ≡ s → (xs bs : List Branch) (i : ℕ) (list : List (Xid × Fate))
+      → xs ≡ bs
       → bs ≡ items (book_in a.parts.manager).known → IsWhole s xs i list → (x : Xid) (f : Fate) → Contains list (x, f) ↔ IsReported (trace_in see.look s) x f
   told a sound s view xs bs i list same is all x f =
       let are = whole a s view xs bs i list same all in (

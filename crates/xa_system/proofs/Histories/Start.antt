@@ -52,7 +52,7 @@ use Rattle.xa_system.proofs.Log.Laws.{near_restarts, starts_over}
 use Rattle.xa_line.specs.Histories.{LineStands}
 use Rattle.xa_system.specs.Parts.{Sees, SiteStands, Stands, origin_of}
 use Rattle.xa_system.specs.declared.system.TheConstants.{EVENT_LIMIT}
-use Rattle.xa_system.specs.SystemView.{AreClear, AreNew, IsSound, IsUnclear, MayRestart, new_site, observes_parts, view_of, start_of}
+use Rattle.xa_system.specs.SystemView.{AreClear, AreNew, IsSound, IsUnclear, MayRestart, new_site, observes_parts, system_view_of, start_of}
 use Rattle.xa_tm.specs.Started.{IsStarted, IsStartedOver}
 use Rattle.xa_system.specs.Trace.{IsElsewhere, IsUnknown}
 use Rattle.xa_system.specs.RmInHistory.{BeginsOver, RmStands, scan_by}
@@ -116,7 +116,8 @@ module _ {R L : Type 0} (see : Sees R L) (threads : ℕ) (rms : List R) (manager
   held_elsewhere : (b : Branch) → IsElsewhere (origin_of see threads rms manager) b → held_of (origin_of see threads rms manager) b ≡ new_branch
   held_elsewhere b away = by_fit (fits b) refl
     where
-      from_option : (o : Option R) → slice_get rms b.rm ≡ o → IsBranch b → option_map_or (λ rm. (see.look rm).held) o (λ x. new_branch) (xid_of_branch b) ≡ new_branch
+      from_option : (o : Option R) → slice_get rms b.rm ≡ o → IsBranch b
+          → option_map_or (λ rm. (see.look rm).held) o (λ x. new_branch) (xid_of_branch b) ≡ new_branch
       from_option None at own = refl
       from_option (Some rm) at own = absurd (away (own, slice_get_within rms b.rm rm at))
 
@@ -376,7 +377,7 @@ module _ {R L : Type 0} (see : Sees R (Slot L)) (moment : L → Moment) (threads
 
     -- and a restart may follow
     pub new_may_restart : (a : Inside R L) → IsSound see moment a → a.parts ≡ parts → (moment log).is_in_order
-        → (see.moment (log_in a.parts.manager)).is_honest → MayRestart (observes_parts see moment) (view_of a)
+        → (see.moment (log_in a.parts.manager)).is_honest → MayRestart (observes_parts see moment) (system_view_of a)
     new_may_restart a sound same order honest =
         let now = subst (λ (p : Parts R (Slot L)). (see.moment (log_in p.manager)).is_honest) same honest in
         near_restarts (history (start_of see moment a.parts) a.events.items) (see.moment (log_in a.parts.manager)).content

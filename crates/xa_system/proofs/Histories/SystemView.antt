@@ -31,7 +31,7 @@ use Rattle.xa_base.specs.declared.reply.Reply.TheVariants as Replies
 use Rattle.xa_system.specs.LogInHistory.{AreTied, IsBeforeNext, IsDurable, MayHaveFailed, MayRestartOver, StartsOver}
 use Rattle.xa_system.specs.Trace.{Each}
 use Rattle.xa_system.specs.Steps.{IsSame}
-use Rattle.xa_system.specs.SystemView.{FaultsHaveCauses, HoldsItsTrace, IsAsBefore, IsSound, KeepsLog, MayRestart, MayRestartAfterCrash, OtherFaultsHaveCauses, observes_parts, view_of, start_of}
+use Rattle.xa_system.specs.SystemView.{FaultsHaveCauses, HoldsItsTrace, IsAsBefore, IsSound, KeepsLog, MayRestart, MayRestartAfterCrash, OtherFaultsHaveCauses, observes_parts, system_view_of, start_of}
 use Rattle.xa_system.specs.RmInHistory.{RmStands}
 use Rattle.xa_system.specs.declared.parts.Parts.{Parts}
 use Rattle.xa_system.specs.declared.site.Site.{Site}
@@ -74,7 +74,7 @@ numbers_in (x ∷ xs) b all (inl same) = subst IsBranch same all.0
 numbers_in (x ∷ xs) b all (inr more) = numbers_in xs b all.1 more
 
 module _ {R L : Type 0} (see : Sees R (Slot L)) (moment : L → Moment) where
-  pub holds : (a : Inside R L) → IsSound see moment a → HoldsItsTrace (observes_parts see moment) (view_of a)
+  pub holds : (a : Inside R L) → IsSound see moment a → HoldsItsTrace (observes_parts see moment) (system_view_of a)
   holds a sound = record {
     allowed = sound.allowed;
     old = subst OldOrigin (origin_is o a.events.items) (origin_old (history o a.events.items) sound.stands.kept.run);
@@ -103,7 +103,8 @@ module _ {R L : Type 0} (see : Sees R (Slot L)) (moment : L → Moment) where
 
   -- what a crash may leave is tied with its incarnation, where that is one that a restart may follow
   near_left : (a : Inside R L) → IsSound see moment a → (moment a.handed.value).is_in_order → (see.moment (log_in a.parts.manager)).is_honest
-      → MayRestartAfterCrash (observes_parts see moment) (view_of a) → AreTied true (book_in a.parts.manager) (see.moment (log_in a.parts.manager)).may_leave
+      → MayRestartAfterCrash (observes_parts see moment) (system_view_of a)
+      → AreTied true (book_in a.parts.manager) (see.moment (log_in a.parts.manager)).may_leave
   near_left a sound order honest may c left =
       subst (λ k. IsTied true k (Some c)) (sym sound.stands.book)
       (restarts_near (history (start_of see moment a.parts) a.events.items) (Some c)
@@ -112,7 +113,7 @@ module _ {R L : Type 0} (see : Sees R (Slot L)) (moment : L → Moment) where
 
   -- where a restart may follow, the log is tied with its incarnation
   near_tied : (a : Inside R L) → IsSound see moment a → (moment a.handed.value).is_in_order → (see.moment (log_in a.parts.manager)).is_honest
-      → MayRestart (observes_parts see moment) (view_of a) → IsTied true (book_in a.parts.manager) (see.moment (log_in a.parts.manager)).content
+      → MayRestart (observes_parts see moment) (system_view_of a) → IsTied true (book_in a.parts.manager) (see.moment (log_in a.parts.manager)).content
   near_tied a sound order honest may =
       let held = (see.moment (log_in a.parts.manager)).content in
       subst (λ k. IsTied true k held) (sym sound.stands.book)
@@ -122,7 +123,7 @@ module _ {R L : Type 0} (see : Sees R (Slot L)) (moment : L → Moment) where
   -- so it is while the manager is up, where a restart may follow over what the log holds
   pub follows_a_crash : (a : Inside R L) → IsSound see moment a → IsDurable see.moment → (book_in a.parts.manager).up ≡ true
       → (moment a.handed.value).is_in_order → (see.moment (log_in a.parts.manager)).is_honest
-      → MayRestart (observes_parts see moment) (view_of a) → MayRestartAfterCrash (observes_parts see moment) (view_of a)
+      → MayRestart (observes_parts see moment) (system_view_of a) → MayRestartAfterCrash (observes_parts see moment) (system_view_of a)
   follows_a_crash a sound durable up order honest may c left =
       let log = see.moment (log_in a.parts.manager) in
       near_restarts (history (start_of see moment a.parts) a.events.items) (Some c)
@@ -162,7 +163,8 @@ module _ {R L : Type 0} (see : Sees R (Slot L)) (moment : L → Moment) where
   pub as_before : (old : Inside R L) (new : Parts R (Slot L)) (events : Vec Event Global) (step : Step Xid) (reply : Reply Xid)
       → IsSound see moment old → GoesOn see step reply old.parts new → vec_len old.events < EVENT_LIMIT
       → (n : Refusal) → reply ≡ Replies.Refused n → n ≢ Refusals.LogFault
-      → IsAsBefore (observes_parts see moment) (view_of old) (view_of (record { first = old.first; handed = old.handed; parts = new; events = events }))
+      → IsAsBefore (observes_parts see moment) (system_view_of old)
+      (system_view_of (record { first = old.first; handed = old.handed; parts = new; events = events }))
   unfolding somewhere
   as_before old new events step reply sound goes few n is other =
       let here = somewhere old sound few in
@@ -238,8 +240,9 @@ module _ {R L : Type 0} (see : Sees R (Slot L)) (moment : L → Moment) where
       → IsSound see moment old → GoesOn see step reply old.parts new → copy ≡ reply
       → vec_len old.events < EVENT_LIMIT → events.items ≡ old.events.items ++ record { step = step; reply = copy } ∷ []
       → (moment old.handed.value).is_in_order → (see.moment (log_in new.manager)).is_honest
-      → MayRestart (observes_parts see moment) (view_of old)
-      → FaultsHaveCauses (observes_parts see moment) (view_of old) (view_of (record { first = old.first; handed = old.handed; parts = new; events = events }))
+      → MayRestart (observes_parts see moment) (system_view_of old)
+      → FaultsHaveCauses (observes_parts see moment) (system_view_of old)
+      (system_view_of (record { first = old.first; handed = old.handed; parts = new; events = events }))
   unfolding somewhere
   fault_has_cause old new events step reply copy sound goes same few items order honest may =
       let here = somewhere old sound few in
@@ -254,8 +257,8 @@ module _ {R L : Type 0} (see : Sees R (Slot L)) (moment : L → Moment) where
   pub other_fault_has_cause : (old : Inside R L) (new : Parts R (Slot L)) (events : Vec Event Global) (step : Step Xid) (reply copy : Reply Xid)
       → IsSound see moment old → GoesOn see step reply old.parts new → copy ≡ reply
       → vec_len old.events < EVENT_LIMIT → events.items ≡ old.events.items ++ record { step = step; reply = copy } ∷ []
-      → OtherFaultsHaveCauses (observes_parts see moment) (view_of old)
-      (view_of (record { first = old.first; handed = old.handed; parts = new; events = events }))
+      → OtherFaultsHaveCauses (observes_parts see moment) (system_view_of old)
+      (system_view_of (record { first = old.first; handed = old.handed; parts = new; events = events }))
   unfolding somewhere
   other_fault_has_cause old new events step reply copy sound goes same few items =
       let here = somewhere old sound few in
@@ -271,8 +274,8 @@ module _ {R L : Type 0} (see : Sees R (Slot L)) (moment : L → Moment) where
       → IsSound see moment old → GoesOn see step reply old.parts new → copy ≡ reply
       → vec_len old.events < EVENT_LIMIT → events.items ≡ old.events.items ++ record { step = step; reply = copy } ∷ []
       → (moment old.handed.value).is_in_order → (see.moment (log_in new.manager)).is_honest
-      → MayRestart (observes_parts see moment) (view_of old)
-      → MayRestart (observes_parts see moment) (view_of (record { first = old.first; handed = old.handed; parts = new; events = events }))
+      → MayRestart (observes_parts see moment) (system_view_of old)
+      → MayRestart (observes_parts see moment) (system_view_of (record { first = old.first; handed = old.handed; parts = new; events = events }))
   unfolding somewhere
   restart_may_follow old new events step reply copy sound goes same few items order honest may =
       let here = somewhere old sound few in
@@ -287,8 +290,8 @@ module _ {R L : Type 0} (see : Sees R (Slot L)) (moment : L → Moment) where
       → IsDurable see.moment → IsSound see moment old → GoesOn see step reply old.parts new → copy ≡ reply
       → vec_len old.events < EVENT_LIMIT → events.items ≡ old.events.items ++ record { step = step; reply = copy } ∷ []
       → (moment old.handed.value).is_in_order → (see.moment (log_in new.manager)).is_honest
-      → MayRestart (observes_parts see moment) (view_of old) → MayRestartAfterCrash (observes_parts see moment) (view_of old)
-      → MayRestartAfterCrash (observes_parts see moment) (view_of (record { first = old.first; handed = old.handed; parts = new; events = events }))
+      → MayRestart (observes_parts see moment) (system_view_of old) → MayRestartAfterCrash (observes_parts see moment) (system_view_of old)
+      → MayRestartAfterCrash (observes_parts see moment) (system_view_of (record { first = old.first; handed = old.handed; parts = new; events = events }))
   unfolding somewhere
   restart_may_follow_a_crash old new events step reply copy durable sound goes same few items order honest may crash c left =
       let here = somewhere old sound few in

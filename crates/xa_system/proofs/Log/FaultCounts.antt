@@ -4,7 +4,7 @@ use Rattle.std.specs.Prelude.{if◌then◌else◌, ◌&&◌, not}
 use Rattle.std.proofs.lemmas.Bool.{true≢false}
 use Rattle.std.proofs.lemmas.List.{length-append}
 use Rattle.std.proofs.lemmas.List.Elements.{filter-append}
-use Rattle.xa_model.specs.Replies.Allowed.{Allowed, Allowed.As_value, Allowed.By_rule, Allowed.For_log, Allowed.For_memory, Hears.Hears_none, Hears.Hears_one, IsValue, Restarts.Restarts_as, Takes.Takes_none, Takes.Takes_one, UsesLog}
+use Rattle.xa_model.specs.Replies.Allowed.{Allowed, Allowed.As_value, Allowed.By_rule, Allowed.For_log, Allowed.For_memory, Hears.Hears_none, Hears.Hears_one, IsValue, NeedsLog, Restarts.Restarts_as, Takes.Takes_none, Takes.Takes_one}
 use Rattle.xa_model.specs.Replies.History.{reply_of, step_of}
 use Rattle.xa_model.specs.Replies.Steps as known
 use Rattle.xa_model.specs.Replies.Steps.{happened, log_failed}
@@ -23,7 +23,7 @@ use Rattle.xa_log.specs.Contract.{one_more_fault}
 use Rattle.xa_system.specs.LogInHistory.{count_after, greatest_count, is_restart, log_faults, says_log_fault}
 
 -- a step in which the log may fail counts its failure
-failing : (tr : Trace) (s : known.Step) → UsesLog tr s → (n : ℕ) → count_after (log_failed s) n ≡ one_more_fault n
+failing : (tr : Trace) (s : known.Step) → NeedsLog tr s → (n : ℕ) → count_after (log_failed s) n ≡ one_more_fault n
 failing tr (Steps.Decide g Outcomes.Commit) uses n = refl
 failing tr (Steps.Settle g) uses n = refl
 failing tr (Steps.Hear t r) uses n = refl
@@ -62,7 +62,7 @@ value_fails_not tr (Steps.Restart (Sides.Rm r)) reply v = ap is_fault v
 value_fails_not tr (Steps.Restart Sides.Manager) reply (Restarts_as i d h most least rows records) = refl
 
 -- a failure that is answered is one of the log
-fails_so : (tr : Trace) (s : known.Step) → Allowed tr s (Replies.Refused Refusals.LogFault) → UsesLog tr s
+fails_so : (tr : Trace) (s : known.Step) → Allowed tr s (Replies.Refused Refusals.LogFault) → NeedsLog tr s
 unfolding is_fault
 fails_so tr s (By_rule n e q) = absurd (subst IsForced (let same : n ≡ Refusals.LogFault = cc in same) (forced tr s n e))
 fails_so tr s (As_value e v) = absurd (true≢false (value_fails_not tr s (Replies.Refused Refusals.LogFault) v))
@@ -73,7 +73,7 @@ fails_so tr s (For_log e uses q) = uses
 pub falls : (tr : Trace) (s : known.Step) → Allowed tr s (Replies.Refused Refusals.LogFault) → up (Then tr (log_failed s)) ≡ false
 falls tr s allowed = by s (fails_so tr s allowed)
   where
-    by : (s : known.Step) → UsesLog tr s → up (Then tr (log_failed s)) ≡ false
+    by : (s : known.Step) → NeedsLog tr s → up (Then tr (log_failed s)) ≡ false
     by (Steps.Decide g Outcomes.Commit) uses = refl
     by (Steps.Settle g) uses = refl
     by (Steps.Hear t r) uses = refl

@@ -236,9 +236,11 @@ module _ {R : Type 0} (look : R → Look) (tr : Trace) (l : Line) (old new : R) 
       on_line look tr l old new kept stand k a (inr (sym (some_is _ _ is))) (ap (map_answer name_of) did.answers.answer) did.answers.held
       (λ t. did.answers.scans t ∙ no_scan ((look old).scan t) (t == l.thread))
   took_rightly (Calls.Start x false) k a has is next did =
-      on_branch look tr l old new kept stand Start x k a has is next did.answers.answer did.answers.held (λ t. did.answers.scans t ∙ no_scan ((look old).scan t) (t == l.thread))
+      on_branch look tr l old new kept stand Start x k a has is next did.answers.answer did.answers.held
+      (λ t. did.answers.scans t ∙ no_scan ((look old).scan t) (t == l.thread))
   took_rightly (Calls.Start x true) k a has is next did =
-      on_branch look tr l old new kept stand Kind.Join x k a has is next did.answers.answer did.answers.held (λ t. did.answers.scans t ∙ no_scan ((look old).scan t) (t == l.thread))
+      on_branch look tr l old new kept stand Kind.Join x k a has is next did.answers.answer did.answers.held
+      (λ t. did.answers.scans t ∙ no_scan ((look old).scan t) (t == l.thread))
   took_rightly (Calls.End x fail) k a has is next did =
       on_branch look tr l old new kept stand (Kind.End fail) x k a has is next did.answers.answer did.answers.held
       (λ t. did.answers.scans t ∙ no_scan ((look old).scan t) (t == l.thread))

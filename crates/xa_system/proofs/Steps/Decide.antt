@@ -8,7 +8,7 @@ use Rattle.xa_base.specs.declared.step.Outcome.{Outcome}
 use Rattle.xa_base.specs.declared.branch.Gtrid.{Gtrid}
 use Rattle.xa_tm.specs.Laws.{IsLookedAt}
 use Rattle.xa_base.specs.Xid.{Xid}
-use Rattle.xa_model.specs.Replies.Allowed.{MayLackMemory, UsesLog}
+use Rattle.xa_model.specs.Replies.Allowed.{MayLackMemory, NeedsLog}
 use Rattle.xa_model.specs.Facts as facts
 use Rattle.xa_model.specs.Replies.History.{step_of}
 use Rattle.xa_model.specs.Replies.ReadBack.{StepHasXids}
@@ -48,7 +48,7 @@ module _ {R L : Type 0} (see : Sees R L) where
       → ((tr : Trace) → must_refuse tr (step_of step) ≡ None → facts.up tr ≡ true)
       → ((tr : Trace) → book_in parts.manager ≡ book_of tr → asked ≡ doubt_of_happening tr (Failed f))
       → ((tr : Trace) → book_in parts.manager ≡ book_of tr → refusal_in (book_in parts.manager) (step_of step) ≡ None
-      → n ≡ Refusals.LogFault → UsesLog tr (step_of step))
+      → n ≡ Refusals.LogFault → NeedsLog tr (step_of step))
       → reply ≡ Replies.Refused n
       → ((m : Refusal) → refusal_in (book_in parts.manager) (step_of step) ≡ Some m
       → ((let x : Result A Refusal = Err n in x) ≡ Err m) × (manager ≡ parts.manager))
@@ -141,6 +141,6 @@ module _ {R L : Type 0} (see : Sees R L) where
       by_rule None e = by_cause (why None e) e (fails e)
 
 -- the log is asked for a row only where some branch voted XA_OK for a commit
-pub row_is_asked : (tr : Trace) (g : Gtrid) (o : Outcome) {k : Book} → k ≡ book_of tr → AddsRow o (k.transaction g) → UsesLog tr (Steps.Decide g o)
+pub row_is_asked : (tr : Trace) (g : Gtrid) (o : Outcome) {k : Book} → k ≡ book_of tr → AddsRow o (k.transaction g) → NeedsLog tr (Steps.Decide g o)
 row_is_asked tr g Outcomes.Commit at asked = sym (ap (λ (b : Book). (b.transaction g).has_yes) at) ∙ asked
 row_is_asked tr g Outcomes.Rollback at asked = absurd cc

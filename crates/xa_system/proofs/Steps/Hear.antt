@@ -7,7 +7,7 @@ use Rattle.std.proofs.lemmas.List.{append-nil}
 use Rattle.xa_base.specs.declared.code.Code.{Code}
 use Rattle.xa_base.specs.StateTable.{asks_of, Kind, Kind.Start, Kind.Join, Kind.End, Kind.Prepare, Kind.Commit, Kind.OnePhase, Kind.Rollback, Kind.Forget}
 use Rattle.xa_base.specs.Xid.{Xid}
-use Rattle.xa_model.specs.Replies.Allowed.{Allowed, Allowed.As_value, Allowed.For_log, Hears.Hears_none, Hears.Hears_one, UsesLog}
+use Rattle.xa_model.specs.Replies.Allowed.{Allowed, Allowed.As_value, Allowed.For_log, Hears.Hears_none, Hears.Hears_one, NeedsLog}
 use Rattle.xa_model.specs.Facts as facts
 use Rattle.xa_base.specs.Call.{map_call}
 use Rattle.xa_base.specs.Answer.{map_answer}
@@ -34,7 +34,7 @@ use Rattle.xa_base.proofs.Lists.{none_first}
 use Rattle.xa_model.proofs.Keys.{line_eq-refl}
 use Rattle.xa_model.proofs.Replies.Replies.{allowed_right, accepted_ours}
 use Rattle.xa_line.specs.Grid.{Grid, HasLine, line_at, new_grid, with_line}
-use Rattle.xa_line.specs.Traffic.{Flow, PassesOn, Traffic, all_of, answered, issued}
+use Rattle.xa_line.specs.Traffic.{Flow, PassesOn, Traffic, all_of, answered, calls_issued}
 use Rattle.xa_line.proofs.FlowLaws.{all_of-PassesOn}
 use Rattle.xa_line.proofs.GridLaws.{line_at-new_grid, whole-new_grid, whole-with_line}
 use Rattle.xa_tm.specs.declared.manager.Manager.{Manager}
@@ -86,7 +86,7 @@ heard_line : (tr : Trace) (l : Line) (p : Asking.Call Xid × Given.Answer Xid) (
     → PassesOn before.answers p after.answers → after.calls ≡ before.calls → LineStands (Then tr (Heard l c a)) l after
 heard_line tr l p c a before after stands is passes same =
     line_goes_on tr (Heard l c a) l before after [] [] (p ∷ []) stands refl
-    (ap all_of same ∙ sym (append-nil (issued before))) refl
+    (ap all_of same ∙ sym (append-nil (calls_issued before))) refl
     (all_of-PassesOn before.answers p after.answers passes ∙ sym (append-nil (answered before))) refl
     passes.through (rw (is, line_eq-refl l) refl)
     (ap (λ (f : Flow (Asking.Call Xid)). f.gone) same ∙ stands.each_answered ∙ ap (map (λ q. q.0))
@@ -128,7 +128,7 @@ module _ {R L : Type 0} (see : Sees R L) where
   -- a step in which the log failed: all lines break
   pub fail_goes : (tr : Trace) (step : Step Xid) (f : Fault) (reply : Reply Xid) (parts : Parts R L) (sites : Vec (Site R) Global)
       (lines : Grid) (manager : Manager L) → Stands see tr parts → StepHasXids step → reply ≡ Replies.Refused Refusals.LogFault
-      → must_refuse tr (step_of step) ≡ None → UsesLog tr (step_of step) → log_failed (step_of step) ≡ Failed f → facts.up tr ≡ true
+      → must_refuse tr (step_of step) ≡ None → NeedsLog tr (step_of step) → log_failed (step_of step) ≡ Failed f → facts.up tr ≡ true
       → AllCrash see.look parts.sites.items sites.items → lines ≡ new_grid parts.lines.threads parts.lines.rms
       → book_in manager ≡ book_after (book_in parts.manager) (doubt_of_happening tr (Failed f)) (Failed f)
       → LogFollows see.moment tr (Failed f) parts.manager manager

@@ -30,7 +30,7 @@ use Rattle.xa_model.proofs.Keys.{line_eq-refl}
 use Rattle.xa_model.proofs.Replies.Guards.{bar_of, issue_rule, issue_why, known_call as known_asked}
 use Rattle.xa_model.proofs.Replies.Replies.{allowed_right}
 use Rattle.xa_line.specs.Grid.{HasLine, line_at, with_line}
-use Rattle.xa_line.specs.Traffic.{Traffic, barred, heard, answered, issued, taken, with_one_more}
+use Rattle.xa_line.specs.Traffic.{Traffic, barred, answers_heard, answered, calls_issued, calls_taken, with_one_more}
 use Rattle.xa_line.proofs.GridLaws.{whole-with_line}
 use Rattle.xa_line.proofs.HistoryLaws.{closed_known, unopened_known}
 use Rattle.xa_line.specs.Histories.{LineStands, known as known_call}
@@ -77,17 +77,17 @@ issued_line : (tr : Trace) (t r : ℕ) (c : Call) (call : Asking.Call Xid) (old 
 issued_line tr t r c call old new is stands put =
     subst (LineStands (Then tr (Issued (line t r) c)) (line t r)) (sym put)
     (line_goes_on tr (Issued (line t r) c) (line t r) old (record old { calls = with_one_more old.calls call }) (call ∷ []) [] [] stands refl
-    (sym (append_assoc (taken old) old.calls.waiting (call ∷ []))) (rw (is, line_eq-refl (line t r)) refl)
-    (sym (append-nil (answered old))) refl (sym (append-nil (heard old))) refl stands.each_answered)
+    (sym (append_assoc (calls_taken old) old.calls.waiting (call ∷ []))) (rw (is, line_eq-refl (line t r)) refl)
+    (sym (append-nil (answered old))) refl (sym (append-nil (answers_heard old))) refl stands.each_answered)
 
 module _ {R L : Type 0} (see : Sees R L) where
   -- what the line says of the call is what the history says
   same_bar : (tr : Trace) (parts : Parts R L) (t r : ℕ) (call : Asking.Call Xid) → Stands see tr parts → HasLine parts.lines t r
-      → bar_of (is_shut_to tr t r (map_call name_of call)) (facts.is_closed tr (line t r)) ≡ barred (issued (line_at parts.lines t r)) call
+      → bar_of (is_shut_to tr t r (map_call name_of call)) (facts.is_closed tr (line t r)) ≡ barred (calls_issued (line_at parts.lines t r)) call
   same_bar tr parts t r call stands has =
       let alike = (stands.lines t r has).all_issued in
-      λ i. bar_of (sym (unopened_known (issued (line_at parts.lines t r)) (facts.issued tr (line t r)) call alike) i)
-      (sym (closed_known (issued (line_at parts.lines t r)) (facts.issued tr (line t r)) alike) i)
+      λ i. bar_of (sym (unopened_known (calls_issued (line_at parts.lines t r)) (facts.issued tr (line t r)) call alike) i)
+      (sym (closed_known (calls_issued (line_at parts.lines t r)) (facts.issued tr (line t r)) alike) i)
 
   -- and what the manager says of it
   same_call : (tr : Trace) (parts : Parts R L) (t r : ℕ) (call : Asking.Call Xid) → Stands see tr parts
@@ -101,7 +101,7 @@ module _ {R L : Type 0} (see : Sees R L) where
       → (nat_lt t parts.lines.threads && nat_lt r parts.lines.rms) ≡ true → (book_in parts.manager).up ≡ true
       → slice_get parts.sites.items r ≡ Some site
       → must_refuse tr (Steps.Issue t r (map_call name_of call))
-      ≡ issue_why true true site.is_up (barred (issued (line_at parts.lines t r)) call)
+      ≡ issue_why true true site.is_up (barred (calls_issued (line_at parts.lines t r)) call)
       (refusal_in (book_in parts.manager) (Steps.Issue t r (map_call name_of call))) (nat_le 64 (length (line_at parts.lines t r).calls.waiting))
   issue_found tr parts t r site call stands there up at =
       let has_tr = sym (there_is see tr parts t r stands) ∙ there in

@@ -29,7 +29,7 @@ use Rattle.xa_base.proofs.StateLemmas.{closes_on}
 use Rattle.xa_model.proofs.Keys.{line_eq-refl}
 use Rattle.xa_model.proofs.Replies.Replies.{allowed_right}
 use Rattle.xa_line.specs.Grid.{HasLine, line_at, with_line}
-use Rattle.xa_line.specs.Traffic.{Traffic, answered, heard, issued, opening_refusal, room_refusal, taken, with_more}
+use Rattle.xa_line.specs.Traffic.{Traffic, answered, answers_heard, calls_issued, calls_taken, opening_refusal, room_refusal, with_more}
 use Rattle.xa_line.proofs.GridLaws.{whole-with_line}
 use Rattle.xa_log.specs.Content.{last_number}
 use Rattle.xa_tm.specs.declared.manager.Manager.{Manager}
@@ -122,8 +122,8 @@ more_issued : (tr : Trace) (e : Happening) (l : Line) (old new : Traffic) (calls
 more_issued tr e l old new calls stands unbroken no_taken no_heard are put =
     subst (LineStands (Then tr e) l) (sym put)
     (line_goes_on tr e l old (record old { calls = with_more old.calls calls }) calls [] [] stands unbroken
-    (sym (append_assoc (taken old) old.calls.waiting calls)) are
-    (sym (append-nil (answered old))) (rw no_taken refl) (sym (append-nil (heard old))) (rw no_heard refl) stands.each_answered)
+    (sym (append_assoc (calls_taken old) old.calls.waiting calls)) are
+    (sym (append-nil (answered old))) (rw no_taken refl) (sym (append-nil (answers_heard old))) (rw no_heard refl) stands.each_answered)
 
 module _ {R L : Type 0} (see : Sees R L) where
   -- ** recoveries
@@ -234,20 +234,20 @@ module _ {R L : Type 0} (see : Sees R L) where
   -- ** what hinders a recovery
 
   same_open : (tr : Trace) (parts : Parts R L) (r : ℕ) → Stands see tr parts → HasLine parts.lines 0 r
-      → has_opened (issued (line_at parts.lines 0 r)) ≡ facts.is_open tr (line 0 r)
-  same_open tr parts r stands has = opened_known (issued (line_at parts.lines 0 r)) (facts.issued tr (line 0 r)) (stands.lines 0 r has).all_issued
+      → has_opened (calls_issued (line_at parts.lines 0 r)) ≡ facts.is_open tr (line 0 r)
+  same_open tr parts r stands has = opened_known (calls_issued (line_at parts.lines 0 r)) (facts.issued tr (line 0 r)) (stands.lines 0 r has).all_issued
 
   same_closed : (tr : Trace) (parts : Parts R L) (r : ℕ) → Stands see tr parts → HasLine parts.lines 0 r
-      → has_closed (issued (line_at parts.lines 0 r)) ≡ facts.is_closed tr (line 0 r)
-  same_closed tr parts r stands has = closed_known (issued (line_at parts.lines 0 r)) (facts.issued tr (line 0 r)) (stands.lines 0 r has).all_issued
+      → has_closed (calls_issued (line_at parts.lines 0 r)) ≡ facts.is_closed tr (line 0 r)
+  same_closed tr parts r stands has = closed_known (calls_issued (line_at parts.lines 0 r)) (facts.issued tr (line 0 r)) (stands.lines 0 r has).all_issued
 
   -- as it is found
   pub recovery_found : (tr : Trace) (parts : Parts R L) (r n : ℕ) (site : Site R) → Stands see tr parts → r < parts.lines.rms
       → slice_get parts.sites.items r ≡ Some site
       → recovery_why (has_rm tr r) (facts.up tr) (rm_up tr r) (not (facts.is_open tr (line 0 r))) (facts.is_closed tr (line 0 r))
       (nat_lt 64 (waiting tr (line 0 r) + n))
-      ≡ recovery_why true (book_in parts.manager).up site.is_up (not (has_opened (issued (line_at parts.lines 0 r))))
-      (has_closed (issued (line_at parts.lines 0 r))) (nat_lt 64 (length (line_at parts.lines 0 r).calls.waiting + n))
+      ≡ recovery_why true (book_in parts.manager).up site.is_up (not (has_opened (calls_issued (line_at parts.lines 0 r))))
+      (has_closed (calls_issued (line_at parts.lines 0 r))) (nat_lt 64 (length (line_at parts.lines 0 r).calls.waiting + n))
   recovery_found tr parts r n site stands within at =
       let there = rm_there see tr parts r stands within in
       let has = has_first tr parts r stands there in
@@ -260,12 +260,13 @@ module _ {R L : Type 0} (see : Sees R L) where
       → slice_get parts.sites.items r ≡ Some site → (book_in parts.manager).up ≡ true → site.is_up ≡ true
       → recovery_why (has_rm tr r) (facts.up tr) (rm_up tr r) (not (facts.is_open tr (line 0 r))) (facts.is_closed tr (line 0 r))
       (nat_lt 64 (waiting tr (line 0 r) + n))
-      ≡ option_or (opening_refusal (issued (line_at parts.lines 0 r))) (room_refusal (line_at parts.lines 0 r) n)
+      ≡ option_or (opening_refusal (calls_issued (line_at parts.lines 0 r))) (room_refusal (line_at parts.lines 0 r) n)
   recovery_by_line tr parts r n site stands within at up site_up =
       let here = line_at parts.lines 0 r in
       recovery_found tr parts r n site stands within at
-      ∙ (λ i. recovery_why true (up i) (site_up i) (not (has_opened (issued here))) (has_closed (issued here)) (nat_lt 64 (length here.calls.waiting + n)))
-      ∙ line_says (not (has_opened (issued here))) (has_closed (issued here)) (nat_lt 64 (length here.calls.waiting + n))
+      ∙ (λ i. recovery_why true (up i) (site_up i) (not (has_opened (calls_issued here))) (has_closed (calls_issued here))
+      (nat_lt 64 (length here.calls.waiting + n)))
+      ∙ line_says (not (has_opened (calls_issued here))) (has_closed (calls_issued here)) (nat_lt 64 (length here.calls.waiting + n))
 
   -- ** a recovery that nothing hinders
 
@@ -284,19 +285,19 @@ module _ {R L : Type 0} (see : Sees R L) where
         let here : length x.calls.waiting ≡ waiting tr (line 0 r) = ap (λ (t : Traffic). length t.calls.waiting) is ∙ waits in
         omega (arith, room, same, here, len, many)
 
-    pub recovery_open : (x : Traffic) → x ≡ line_at parts.lines 0 r → StandsSomewhere see parts → has_opened (issued x) ≡ true
+    pub recovery_open : (x : Traffic) → x ≡ line_at parts.lines 0 r → StandsSomewhere see parts → has_opened (calls_issued x) ≡ true
     recovery_open x is at =
         let tr = at.0 in
         let free = recovery_free _ _ _ _ _ _ (sym (hinders tr at.1)) in
-        ap (λ t. has_opened (issued t)) is ∙ same_open tr parts r at.1 (has_first tr parts r at.1 free.0) ∙ not-false _ free.2
+        ap (λ t. has_opened (calls_issued t)) is ∙ same_open tr parts r at.1 (has_first tr parts r at.1 free.0) ∙ not-false _ free.2
 
     pub recovery_unclosed : (x : Traffic) → x ≡ line_at parts.lines 0 r → has_closed ks ≡ false → StandsSomewhere see parts
-        → has_closed (issued x ++ calls) ≡ false
+        → has_closed (calls_issued x ++ calls) ≡ false
     recovery_unclosed x is plain at =
         let tr = at.0 in
         let free = recovery_free _ _ _ _ _ _ (sym (hinders tr at.1)) in
-        list_any-append closes (issued x) calls
-        ∙ unclosed _ _ (ap (λ t. has_closed (issued t)) is ∙ same_closed tr parts r at.1 (has_first tr parts r at.1 free.0) ∙ free.3)
+        list_any-append closes (calls_issued x) calls
+        ∙ unclosed _ _ (ap (λ t. has_closed (calls_issued t)) is ∙ same_closed tr parts r at.1 (has_first tr parts r at.1 free.0) ∙ free.3)
         (closed_known calls ks are ∙ plain)
 
   -- ** Resolve

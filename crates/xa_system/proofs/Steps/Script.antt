@@ -174,7 +174,8 @@ heuristic_fine tr r n b how f is at same prepared =
 
 pub heuristic_bad : (tr : Trace) (r : ℕ) (n : Name) (b : Branch) (how : How) (f : Standing) → n ≡ Ours b → b.rm ≡ r
     → f ≡ facts.standing tr b → is_prepared f ≡ false → applies tr (Steps.Heuristic r n how) Refusals.Script ≡ true
-heuristic_bad tr r n b how f is at same unprepared = ap (λ m. applies tr (Steps.Heuristic r m how) Refusals.Script) is ∙ rw (eq-eqb b.rm r at, ← same) (ap not unprepared)
+heuristic_bad tr r n b how f is at same unprepared =
+    ap (λ m. applies tr (Steps.Heuristic r m how) Refusals.Script) is ∙ rw (eq-eqb b.rm r at, ← same) (ap not unprepared)
 
 -- the branch that a name is of is there
 pub is_there : (r : ℕ) (n : Name) (b : Branch) → n ≡ Ours b → b.rm ≡ r → is_at r n ≡ true

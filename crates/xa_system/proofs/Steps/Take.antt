@@ -27,7 +27,7 @@ use Rattle.xa_base.specs.declared.reply.Reply.TheVariants as Replies
 use Rattle.xa_base.specs.declared.step.Step.TheVariants as Steps
 use Rattle.xa_model.proofs.Keys.{line_eq-refl}
 use Rattle.xa_line.specs.Grid.{HasLine, line_at}
-use Rattle.xa_line.specs.Traffic.{Flow, PassesOn, Traffic, all_of, answered, heard, issued, with_one_more}
+use Rattle.xa_line.specs.Traffic.{Flow, PassesOn, Traffic, all_of, answered, answers_heard, calls_issued, with_one_more}
 use Rattle.xa_line.proofs.FlowLaws.{all_of-PassesOn}
 use Rattle.xa_line.proofs.GridLaws.{whole-with_line}
 use Rattle.xa_line.specs.Histories.{LineStands, known}
@@ -166,11 +166,11 @@ took_line : (tr : Trace) (l : Line) (k : Call) (call : Asking.Call Xid) (a : Giv
     → LineStands (Then tr (Took l k (map_answer name_of a))) l after
 took_line tr l k call a before after stands is passes put =
     line_goes_on tr (Took l k (map_answer name_of a)) l before after [] ((call, a) ∷ []) [] stands refl
-    (all_of-PassesOn before.calls call after.calls passes ∙ sym (append-nil (issued before))) refl
-    (ap all_of put ∙ sym (append_assoc (heard before) before.answers.waiting ((call, a) ∷ []))) (rw (is, line_eq-refl l) refl)
-    (ap (λ (f : Flow (Asking.Call Xid × Given.Answer Xid)). f.gone) put ∙ sym (append-nil (heard before))) refl
+    (all_of-PassesOn before.calls call after.calls passes ∙ sym (append-nil (calls_issued before))) refl
+    (ap all_of put ∙ sym (append_assoc (answers_heard before) before.answers.waiting ((call, a) ∷ []))) (rw (is, line_eq-refl l) refl)
+    (ap (λ (f : Flow (Asking.Call Xid × Given.Answer Xid)). f.gone) put ∙ sym (append-nil (answers_heard before))) refl
     (passes.through ∙ ap (λ xs. xs ++ call ∷ []) stands.each_answered
-    ∙ sym (ap (map (λ p. p.0)) (ap all_of put ∙ sym (append_assoc (heard before) before.answers.waiting ((call, a) ∷ []))) ∙ map-append (λ p. p.0)
+    ∙ sym (ap (map (λ p. p.0)) (ap all_of put ∙ sym (append_assoc (answers_heard before) before.answers.waiting ((call, a) ∷ []))) ∙ map-append (λ p. p.0)
     (answered before) ((call, a) ∷ [])))
 
 -- ** the refusals of a Take

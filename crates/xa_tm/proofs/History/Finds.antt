@@ -11,7 +11,7 @@ use Rattle.xa_model.specs.Protocol.{IsRun}
 use Rattle.xa_model.specs.Trace.{Happening.Restarted, Recorded, Trace, Trace.Then}
 use Rattle.xa_tm.specs.Book.{book_of, doubt_of, records_with, waiting_row}
 use Rattle.xa_tm.specs.BookAndLog.{IsFound, rows_of}
-use Rattle.xa_tm.proofs.History.OneMore.{has_record_is}
+use Rattle.xa_tm.proofs.History.RecordsAfter.{has_record_is}
 use Rattle.xa_tm.proofs.History.RowCounts.{drops_counted}
 
 module _ (tr : Trace) (right : IsRun tr) (apart : ApartRows (origin tr).rows) where

@@ -1,6 +1,5 @@
 -- The book of a right history is sound: its numbers are bounded by how much happened.
-use Rattle.std.proofs.Common.{◌≡◌, ◌≤◌, ◌<◌, ◌+◌, ◌-◌, ◌^◌, ◌==◌, ℕ, suc, List, [], ◌∷◌, length, map, Bool, true, false, not, ◌&&◌, ◌||◌, ◌⊎◌, inl, inr, refl, sym, ap, ◌∙◌, subst, length-append, arith}
-use Rattle.std.proofs.lemmas.List.{length-map}
+use Rattle.std.proofs.Common.{◌≡◌, ◌≤◌, ◌<◌, ◌+◌, ◌-◌, ◌^◌, ℕ, suc, List, [], ◌∷◌, length, map, Bool, true, false, ◌||◌, ◌⊎◌, inl, inr, refl, sym, ap, ◌∙◌, subst, arith}
 use Rattle.std.specs.Prelude.{if◌then◌else◌, Contains, IsSome, Option, Some, None}
 use Rattle.std.proofs.lemmas.Bool.{and_parts}
 use Rattle.xa_base.specs.declared.branch.Branch.{Branch}
@@ -17,11 +16,11 @@ use Rattle.xa_base.specs.declared.step.Outcome.TheVariants as Outcome
 use Rattle.xa_base.specs.declared.step.Part.TheVariants as Part
 use Rattle.xa_base.specs.Branch.{branch_eq, branch_of_xid, gtrid_eq}
 use Rattle.xa_model.specs.Replies.Allowed.{failed_restarts, with_steps}
-use Rattle.xa_model.specs.Facts.{Change, Change.AddRows, Change.DropRows, Change.AddRecord, Change.NoChange, adds_row, begun, doubt, fault_change, had_row, has_record, held_of, heuristic_rows, heuristics_changed, incarnation, lists_row, live, log, next_answer, origin, record_of, record_of_next, row_for, rows_changed, says_yes_in, sequence, started, was_told, up, without, without_each, begins, has_voted}
+use Rattle.xa_model.specs.Facts.{Change.AddRecord, Change.NoChange, adds_row, begun, doubt, fault_change, had_row, held_of, incarnation, lists_row, live, log, next_answer, origin, record_of_next, sequence, started, up, begins}
 use Rattle.xa_model.specs.Replies.History.{history, read}
 use Rattle.xa_model.specs.Protocol.{IsRun, Right, RightFault, RightOrigin, RightRow}
 use Rattle.xa_model.specs.Replies.Steps.{Reply, Step, accepted, call_issued, decided, happened, if_ours, log_failed, noted, refused, resolved}
-use Rattle.xa_model.specs.Trace.{Call, Fault, Fault.InDecide, Fault.InHear, Fault.InRestart, Name.Foreign, Name.Ours, line, Happening, Happening.Begun, Happening.Crashed, Happening.Decided, Happening.Done, Happening.Failed, Happening.Heard, Happening.Issued, Happening.Restarted, Origin, Recorded, Row, Trace, Trace.From, Trace.Then}
+use Rattle.xa_model.specs.Trace.{Call, Fault, Fault.InDecide, Fault.InHear, Name.Foreign, Name.Ours, line, Happening, Happening.Begun, Happening.Crashed, Happening.Decided, Happening.Failed, Happening.Issued, Happening.Restarted, Origin, Recorded, Trace, Trace.From, Trace.Then}
 use Rattle.xa_base.specs.Xid.{Xid}
 use Rattle.xa_model.proofs.Invariant.{Inv, Old}
 use Rattle.xa_base.proofs.BranchKeys.{branch_eq-true, gtrid_eq-true}
@@ -31,13 +30,13 @@ use Rattle.xa_model.proofs.Invariant.Rows.{NewRow, NewRow.Had, NewRow.By_decisio
 use Rattle.xa_log.specs.Content.{last_number}
 use Rattle.xa_log.specs.Contract.{FitsRow}
 use Rattle.xa_tm.specs.Book.{book_of, row_in}
-use Rattle.xa_tm.specs.Counts.{branch_count, is_counted, counts_as_settled, is_unsettled, lacks_vote, settler, unsettled, unvoted, voter}
 use Rattle.xa_tm.specs.LedgerBook.{IsSound}
 use Rattle.xa_tm.specs.Limits.{FitsIncarnation, counts_for, HasRoomForRun, IsWithinLimits, happenings, most_events}
 use Rattle.xa_tm.specs.Starting.{IsOld}
 use Rattle.xa_tm.proofs.History.Refusals.{has_row_is, recorded_is}
 use Rattle.xa_tm.proofs.History.RowCounts.{next_or_none}
 use Rattle.xa_tm.proofs.History.Soundness.{no_row}
+use Rattle.xa_tm.proofs.History.Numbers.{begins_cover, begins_few, failed_few, as_before, branches_few, unvoted_few, unsettled_few, adds, rows_few, records_few}
 
 -- ** events
 
@@ -112,144 +111,6 @@ as_many (e ∷ es) = ap (λ n. suc n) (as_many es)
 
 pub events_happen : (o : Origin) (events : List Event) → happenings (history o events) ≡ length events
 events_happen o events = let all = steps_happen (From o) (map read events) in let many = as_many events in omega (arith, all, many)
-
--- ** numbers
-
-begins_cover : (tr : Trace) → sequence tr ≤ begins tr
-begins_cover (From o) = omega arith
-begins_cover (Then tr (Begun g)) = let h = begins_cover tr in omega (arith, h)
-begins_cover (Then tr (Restarted i d h)) = omega arith
-begins_cover (Then tr _) = begins_cover tr
-
-begins_few : (tr : Trace) → begins tr ≤ happenings tr
-begins_few (From o) = omega arith
-begins_few (Then tr (Begun g)) = let h = begins_few tr in omega (arith, h)
-begins_few (Then tr _) = let h = begins_few tr in omega (arith, h)
-
-failed_few : (tr : Trace) → failed_restarts tr ≤ happenings tr
-failed_few (From o) = omega arith
-failed_few (Then tr (Restarted i d h)) = omega arith
-failed_few (Then tr (Failed InRestart)) = let h = failed_few tr in omega (arith, h)
-failed_few (Then tr _) = let h = failed_few tr in omega (arith, h)
-
-one_up : (t : Bool) (n m : ℕ) → n ≤ m → (if t then n + 1 else n) ≤ m + 1
-one_up true n m h = omega (arith, h)
-one_up false n m h = omega (arith, h)
-
-one_down : (t : Bool) (n m : ℕ) → n ≤ m → (if t then n - 1 else n) ≤ m + 1
-one_down true n m h = omega (arith, h)
-one_down false n m h = omega (arith, h)
-
-as_before : (n m w : ℕ) → n ≤ m → n ≤ m + w
-as_before n m w h = omega (arith, h)
-
-branches_few : (tr : Trace) (g : Gtrid) → branch_count tr g ≤ happenings tr
-branches_few (From o) g = omega arith
-branches_few (Then tr (Issued l (Calls.Start b false))) g = one_up (gtrid_eq b.gtrid g) _ _ (branches_few tr g)
-branches_few (Then tr (Issued l (Calls.Start b true))) g = one_up (gtrid_eq b.gtrid g) _ _ (branches_few tr g)
-branches_few (Then tr _) g = as_before _ _ _ (branches_few tr g)
-
-unvoted_few : (tr : Trace) (g : Gtrid) → unvoted tr g ≤ happenings tr
-unvoted_few (From o) g = omega arith
-unvoted_few (Then tr (Issued l (Calls.Start b false))) g = one_up (gtrid_eq b.gtrid g && not (has_voted tr b)) _ _ (unvoted_few tr g)
-unvoted_few (Then tr (Issued l (Calls.Start b true))) g = one_up (gtrid_eq b.gtrid g && not (has_voted tr b)) _ _ (unvoted_few tr g)
-unvoted_few (Then tr (Heard l c a)) g = one_down (is_counted (lacks_vote tr) g (voter c a)) _ _ (unvoted_few tr g)
-unvoted_few (Then tr _) g = as_before _ _ _ (unvoted_few tr g)
-
-unsettled_few : (tr : Trace) (g : Gtrid) → unsettled tr g ≤ happenings tr
-unsettled_few (From o) g = omega arith
-unsettled_few (Then tr (Issued l (Calls.Start b false))) g = one_up (gtrid_eq b.gtrid g && not (counts_as_settled tr b)) _ _ (unsettled_few tr g)
-unsettled_few (Then tr (Issued l (Calls.Start b true))) g = one_up (gtrid_eq b.gtrid g && not (counts_as_settled tr b)) _ _ (unsettled_few tr g)
-unsettled_few (Then tr (Heard l c a)) g = one_down (is_counted (is_unsettled tr) g (settler c a)) _ _ (unsettled_few tr g)
-unsettled_few (Then tr _) g = as_before _ _ _ (unsettled_few tr g)
-
--- ** numbers of rows
-
-without_fewer : (g : Gtrid) (xs : List Row) → length (without g xs) ≤ length xs
-without_fewer g [] = omega arith
-without_fewer g (x ∷ xs) = by (gtrid_eq x.gtrid g) (without_fewer g xs)
-  where
-    by : (t : Bool) → length (without g xs) ≤ length xs → length (if t then without g xs else x ∷ without g xs) ≤ length (x ∷ xs)
-    by true h = omega (arith, h)
-    by false h = omega (arith, h)
-
-without_each_fewer : (gs : List Gtrid) (xs : List Row) → length (without_each gs xs) ≤ length xs
-without_each_fewer [] xs = omega arith
-without_each_fewer (g ∷ gs) xs = let rest = without_each_fewer gs (without g xs) in let less = without_fewer g xs in omega (arith, rest, less)
-
--- how many rows a change adds
-abbrev adds : Change → ℕ
-adds (AddRows xs) = length xs
-adds _ = 0
-
-changed_few : (c : Change) (xs : List Row) → length (rows_changed c xs) ≤ length xs + adds c
-changed_few (AddRows ys) xs = let both = length-append ys xs in omega (arith, both)
-changed_few (DropRows gs) xs = let less = without_each_fewer gs xs in omega (arith, less)
-changed_few (AddRecord x) xs = omega arith
-changed_few NoChange xs = omega arith
-
-recorded_few : (c : Change) (xs : List Recorded) (n : ℕ) → length xs ≤ n → length (heuristics_changed c xs) ≤ n + 1
-recorded_few (AddRecord x) xs n h = by (has_record xs x.branch)
-  where
-    by : (t : Bool) → length (if t then xs else x ∷ xs) ≤ n + 1
-    by true = omega (arith, h)
-    by false = omega (arith, h)
-recorded_few (AddRows ys) xs n h = omega (arith, h)
-recorded_few (DropRows gs) xs n h = omega (arith, h)
-recorded_few NoChange xs n h = omega (arith, h)
-
-shifted : (n a m : ℕ) → n ≤ a + m + 1 → n ≤ a + (m + 1)
-shifted n a m h = omega (arith, h)
-
-fault_adds : (tr : Trace) (f : Fault) → adds (fault_change tr f) ≤ counts_for (Failed f)
-fault_adds tr (InDecide []) = omega arith
-fault_adds tr (InDecide (g ∷ gs)) = let long = length-map gs (row_for tr) in omega (arith, long)
-fault_adds tr (InHear l) = by (next_or_none (next_answer tr l))
-  where
-    by : ((x : Recorded) × (record_of_next (next_answer tr l) ≡ AddRecord x)) ⊎ (record_of_next (next_answer tr l) ≡ NoChange)
-        → adds (record_of_next (next_answer tr l)) ≤ 1
-    by (inl w) = let none : adds (record_of_next (next_answer tr l)) ≡ 0 = ap adds w.1 in omega (arith, none)
-    by (inr w) = let none : adds (record_of_next (next_answer tr l)) ≡ 0 = ap adds w in omega (arith, none)
-fault_adds tr _ = omega arith
-
--- with those that are in doubt
-rows_and_doubt : (tr : Trace) → length (log tr) + adds (doubt tr) ≤ length (origin tr).rows + happenings tr
-rows_and_doubt (From o) = omega arith
-rows_and_doubt (Then tr (Decided g Outcome.Commit)) = by (was_told tr (says_yes_in g)) (rows_and_doubt tr)
-  where
-    by : (t : Bool) → length (log tr) + adds (doubt tr) ≤ length (origin tr).rows + happenings tr
-        → length (if t then row_for tr g ∷ log tr else log tr) + adds (doubt tr) ≤ length (origin tr).rows + (happenings tr + 1)
-    by true h = omega (arith, h)
-    by false h = omega (arith, h)
-rows_and_doubt (Then tr (Done g)) = let less = without_fewer g (log tr) in let h = rows_and_doubt tr in omega (arith, less, h)
-rows_and_doubt (Then tr (Failed f)) = by (up tr) (rows_and_doubt tr)
-  where
-    by : (t : Bool) → length (log tr) + adds (doubt tr) ≤ length (origin tr).rows + happenings tr
-        → length (log tr) + adds (if t then fault_change tr f else doubt tr) ≤ length (origin tr).rows + (happenings tr + counts_for (Failed f))
-    by true h = let few = fault_adds tr f in omega (arith, h, few)
-    by false h = omega (arith, h)
-rows_and_doubt (Then tr (Restarted i d n)) = by (d == length (log tr)) (rows_and_doubt tr)
-  where
-    by : (t : Bool) → length (log tr) + adds (doubt tr) ≤ length (origin tr).rows + happenings tr
-        → length (if t then log tr else rows_changed (doubt tr) (log tr)) + 0 ≤ length (origin tr).rows + (happenings tr + 1)
-    by true h = omega (arith, h)
-    by false h = let few = changed_few (doubt tr) (log tr) in omega (arith, h, few)
-rows_and_doubt (Then tr _) = let h = rows_and_doubt tr in omega (arith, h)
-
-rows_few : (tr : Trace) → length (log tr) ≤ length (origin tr).rows + happenings tr
-rows_few tr = let h = rows_and_doubt tr in omega (arith, h)
-
-records_few : (tr : Trace) → length (heuristic_rows tr) ≤ length (origin tr).heuristic_rows + happenings tr
-records_few (From o) = omega arith
-records_few (Then tr (Heard l c a)) =
-    shifted _ (length (origin tr).heuristic_rows) (happenings tr) (recorded_few (record_of c a) (heuristic_rows tr) _ (records_few tr))
-records_few (Then tr (Restarted i d n)) = by (n == length (heuristic_rows tr)) (records_few tr)
-  where
-    by : (t : Bool) → length (heuristic_rows tr) ≤ length (origin tr).heuristic_rows + happenings tr
-        → length (if t then heuristic_rows tr else heuristics_changed (doubt tr) (heuristic_rows tr)) ≤ length (origin tr).heuristic_rows + (happenings tr + 1)
-    by true h = omega (arith, h)
-    by false h = shifted _ (length (origin tr).heuristic_rows) (happenings tr) (recorded_few (doubt tr) (heuristic_rows tr) _ h)
-records_few (Then tr _) = let h = records_few tr in omega (arith, h)
 
 -- ** what is begun fits a row
 
@@ -373,7 +234,8 @@ module _ (tr : Trace) (limits : IsWithinLimits tr) (sound : IsSound (book_of (Fr
       begins_fit = let few = begins_few tr in let events = limits.events in omega (arith, few, events)
 
 -- one right happening more
-pub limits_kept : (tr : Trace) (e : Happening) → IsWithinLimits tr → Right tr e → happenings (Then tr e) ≤ most_events → FitsIncarnation e → IsWithinLimits (Then tr e)
+pub limits_kept : (tr : Trace) (e : Happening) → IsWithinLimits tr → Right tr e → happenings (Then tr e) ≤ most_events → FitsIncarnation e
+    → IsWithinLimits (Then tr e)
 limits_kept tr e limits right room fit = record {
   right = (limits.right, right);
   events = room;

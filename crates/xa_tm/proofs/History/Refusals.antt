@@ -25,7 +25,8 @@ use Rattle.xa_tm.specs.Book.{book_of, row_in}
 use Rattle.xa_tm.specs.Refusing.{at_rest, has_row_in, is_settled_lately_in, is_shut_in, is_taken_up_in, is_unfinished, managers_refusal, outlived_in, refusal_in, row_settled_in, view_in, waits_for_none}
 use Rattle.xa_tm.proofs.History.Counting.{count, but, one_less, none_counted, apart, counted_branches, counted_votes}
 use Rattle.xa_tm.proofs.History.Members.{set_any, set_each}
-use Rattle.xa_tm.proofs.History.OneMore.{has_record_is, lists_is}
+use Rattle.xa_tm.proofs.History.RecordsAfter.{has_record_is}
+use Rattle.xa_tm.proofs.History.OneMore.{lists_is}
 use Rattle.xa_tm.proofs.History.Settling.{counted_settled, settled_is}
 
 -- ** rows and records

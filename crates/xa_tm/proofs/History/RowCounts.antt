@@ -1,6 +1,6 @@
 -- The rows of a right history are counted: one that leaves is one.
 use Rattle.std.proofs.Common.{◌≡◌, ◌≤◌, ◌-◌, List, [], ◌∷◌, length, Bool, true, false, ◌||◌, ◌⊎◌, inl, inr, refl, sym, ap, ◌∙◌, subst, arith}
-use Rattle.std.specs.Prelude.{if◌then◌else◌, map, is_some, Option, Some, None}
+use Rattle.std.specs.Prelude.{if◌then◌else◌, Option, Some, None}
 use Rattle.std.proofs.lemmas.Bool.{or_from, or_left, or_parts, or_right, true≢false}
 use Rattle.xa_base.specs.declared.answer.Answer.TheVariants.{Ret}
 use Rattle.xa_base.specs.declared.branch.Gtrid.{Gtrid}
@@ -8,16 +8,17 @@ use Rattle.xa_base.specs.declared.call.Call.TheVariants as Calls
 use Rattle.xa_base.specs.declared.code.Code.TheVariants as Codes
 use Rattle.xa_base.specs.Branch.{gtrid_eq}
 use Rattle.xa_model.specs.Facts.Distinct.{ApartRows, EachOnce, IsNewTo}
-use Rattle.xa_model.specs.Facts.{Change, Change.AddRows, Change.DropRows, Change.AddRecord, Change.NoChange, doubt, has_row, lists_row, log, origin, record_of, record_of_next, without, without_each}
+use Rattle.xa_model.specs.Facts.{Change.DropRows, Change.AddRecord, Change.NoChange, doubt, has_row, lists_row, log, origin, record_of, record_of_next, without, without_each}
 use Rattle.xa_model.specs.Protocol.{IsRun, Right}
 use Rattle.xa_model.specs.Trace.{Answer, Call, Happening, Happening.Done, Happening.Restarted, Recorded, Row, Trace, Trace.Then}
-use Rattle.xa_model.proofs.AgreementLemmas.Distinct.{doubt_is_new_to, rows_apart}
+use Rattle.xa_model.proofs.AgreementLemmas.Distinct.{doubt_is_new_to, rows_apart, without_apart}
 use Rattle.xa_base.proofs.BranchKeys.{gtrid_eq-true}
-use Rattle.xa_tm.specs.Book.{Waiting, doubt_of, doubt_of_happening, book_after, book_of, row_in, waiting_row}
+use Rattle.xa_tm.specs.Book.{doubt_of_happening, book_after, book_of}
 use Rattle.xa_tm.specs.BookAndLog.{IsChangeOf}
 use Rattle.xa_tm.specs.Laws.{CountsRows}
-use Rattle.xa_tm.proofs.History.OneMore.{lists_is, one_more}
-use Rattle.xa_tm.proofs.Several.Lists.{once_among, once_so, other_of}
+use Rattle.xa_tm.proofs.History.OneMore.{one_more}
+use Rattle.xa_tm.proofs.Several.Lists.{once_among, other_of}
+use Rattle.xa_tm.proofs.Log.TellsRows.{change_of}
 
 -- ** lists of rows
 
@@ -65,26 +66,8 @@ pub next_or_none : (o : Option (Call × Answer)) → ((x : Recorded) × (record_
 next_or_none (Some p) = record_or_none p.0 p.1
 next_or_none None = inr refl
 
--- the change in doubt is one of the rows that are there
-new_change : (rows : List Row) (c : Change) → IsNewTo rows c → IsChangeOf (row_in rows) (doubt_of c)
-new_change rows (AddRows xs) new =
-    subst (EachOnce (λ g. row_in rows g ≡ None)) (sym (names xs))
-    (once_so (λ g. lists_row rows g ≡ false) (λ g. row_in rows g ≡ None) (map (λ (x : Row). x.gtrid) xs)
-    (λ g none. unlisted (row_in rows g) (sym (lists_is rows g) ∙ none)) new)
-  where
-    names : (xs : List Row) → map (λ (x : Gtrid × Waiting). x.0) (map waiting_row xs) ≡ map (λ (x : Row). x.gtrid) xs
-    names [] = refl
-    names (x ∷ xs) = ap (λ l. x.gtrid ∷ l) (names xs)
-
-    unlisted : (o : Option Waiting) → is_some o ≡ false → o ≡ None
-    unlisted None e = refl
-    unlisted (Some w) e = absurd (cc)
-new_change rows (DropRows gs) new = once_so (λ g. lists_row rows g ≡ true) (λ g. is_some (row_in rows g) ≡ true) gs (λ g some. sym (lists_is rows g) ∙ some) new
-new_change rows (AddRecord x) new = tt
-new_change rows NoChange new = tt
-
 pub doubt_of_rows : (tr : Trace) → IsRun tr → IsChangeOf (book_of tr).row (book_of tr).doubt
-doubt_of_rows tr r = new_change (log tr) (doubt tr) (doubt_is_new_to tr r)
+doubt_of_rows tr r = change_of (log tr) (doubt tr) (doubt_is_new_to tr r)
 
 -- rows whose removal is in doubt are there
 pub dropped_are_there : (tr : Trace) (gs : List Gtrid) → IsRun tr → doubt tr ≡ DropRows gs → EachOnce (λ g. has_row tr g ≡ true) gs
@@ -100,14 +83,6 @@ still_unlisted g h (x ∷ xs) e =
     by true away rest = rest
     by false away rest = or_from _ _ away rest
 
-still_apart : (g : Gtrid) (xs : List Row) → ApartRows xs → ApartRows (without g xs)
-still_apart g [] apart = tt
-still_apart g (x ∷ xs) apart = by (gtrid_eq x.gtrid g) (still_apart g xs apart.1)
-  where
-    by : (t : Bool) → ApartRows (without g xs) → ApartRows (if t then without g xs else x ∷ without g xs)
-    by true rest = rest
-    by false rest = (still_unlisted g x.gtrid xs apart.0, rest)
-
 still_listed : (g h : Gtrid) (xs : List Row) → gtrid_eq g h ≡ false → lists_row xs h ≡ true → lists_row (without g xs) h ≡ true
 still_listed g h [] other e = absurd (cc)
 still_listed g h (x ∷ xs) other e = by (gtrid_eq x.gtrid g) (gtrid_eq x.gtrid h) refl refl e (still_listed g h xs other)
@@ -120,11 +95,12 @@ still_listed g h (x ∷ xs) other e = by (gtrid_eq x.gtrid g) (gtrid_eq x.gtrid 
     by false true apart here e rest = or_left _ _ here
     by false false apart away e rest = or_right _ _ (rest e)
 
-each_row_less : (gs : List Gtrid) (xs : List Row) → ApartRows xs → EachOnce (λ g. lists_row xs g ≡ true) gs → length (without_each gs xs) ≡ length xs - length gs
+pub each_row_less : (gs : List Gtrid) (xs : List Row) → ApartRows xs → EachOnce (λ g. lists_row xs g ≡ true) gs
+    → length (without_each gs xs) ≡ length xs - length gs
 each_row_less [] xs apart there = omega arith
 each_row_less (g ∷ gs) xs apart there =
     let one = one_row_less g xs apart there.0 in
-    let rest = each_row_less gs (without g xs) (still_apart g xs apart)
+    let rest = each_row_less gs (without g xs) (without_apart g xs apart)
     (once_among (λ h. lists_row xs h ≡ true) (λ h. lists_row (without g xs) h ≡ true) gs
     (λ h is has. still_listed g h xs (other_of gs g h there.1 is) has) there.2) in
     omega (arith, one, rest)

@@ -21,7 +21,7 @@ use Rattle.xa_model.proofs.AgreementLemmas.Distinct.{branches_listed}
 use Rattle.xa_tm.specs.Book.{doubt_of, recorded_with}
 use Rattle.xa_tm.specs.Counts.{settler, recorded_by, is_counted, counts_as_settled, is_unsettled, unsettled}
 use Rattle.xa_tm.proofs.History.Counting.{count, but, votes_of, apart, one_out, same_count, not_or, swap_eq}
-use Rattle.xa_tm.proofs.History.OneMore.{has_record_is, how_changed}
+use Rattle.xa_tm.proofs.History.RecordsAfter.{has_record_is, how_changed}
 
 -- the manager's reading of a settled branch is the history's
 pub settled_is : (tr : Trace) (b : Branch) → is_settled tr b ≡ counts_as_settled tr b

@@ -21,16 +21,17 @@ use Rattle.xa_log.specs.declared.log_rows.LogRows.{LogRows}
 use Rattle.xa_model.specs.Facts.{has_gtrid}
 use Rattle.xa_model.specs.Facts.Distinct.{EachOnce}
 use Rattle.xa_log.specs.KeySet.{from_list}
+use Rattle.xa_log.proofs.TakenTogether.{same_heuristics}
 use Rattle.xa_tm.specs.Book.{Waiting, Doubt.Adds, Doubt.Drops, row_among, row_without}
 use Rattle.xa_tm.specs.LedgerBook.{decided_row, doubt_of_change, as_book, gtrids_of, notes_at, row_at, waiting_of}
 use Rattle.xa_tm.specs.Swaps.{ReadsOf, decided_agrees, dropped_agrees, keeps_row, lacks_row, agrees, change_agrees_with, end_agrees, end_agrees_with, ends_agree, how_eq, is_how, kept_row, names_just, records_agree_with, row_agrees, row_agrees_with, rows_agree, rows_agree_with, same_how, same_row}
-use Rattle.xa_tm.specs.BookAndLog.{HoldsBook, IsChangeOf, MayHold, SameRows, changed_by, with_rows}
+use Rattle.xa_tm.specs.BookAndLog.{HoldsBook, IsChangeOf, MayHold, SameRowsAndRecords, changed_by, with_rows}
 use Rattle.xa_tm.specs.declared.change.Change.{Change}
 use Rattle.xa_tm.specs.declared.change.Change.TheVariants.{AddRecord, AddRows, DropRows, Nothing}
 use Rattle.xa_tm.specs.declared.ledger.Ledger.{Ledger}
 use Rattle.xa_tm.proofs.Maps.BranchSets.{sets_back}
-use Rattle.xa_tm.proofs.Log.MayHoldAgain.{Reads, as_read}
-use Rattle.xa_tm.proofs.Several.Contents.{added_heuristics, changed_at, changed_len, decided_names, dropped_at, dropped_heuristics, dropped_len, of_same, without_none, without_some}
+use Rattle.xa_tm.proofs.Log.ReadRows.{Reads, as_read}
+use Rattle.xa_tm.proofs.Several.Contents.{added_heuristics, changed_at, changed_len, decided_names, dropped_at, dropped_len, of_same, without_none, without_some}
 use Rattle.xa_tm.proofs.Several.Lists.{once_back, once_so}
 
 -- ** of one transaction, and of one branch
@@ -98,9 +99,6 @@ dropped_back gs own read q e = by (has_gtrid gs q) refl
     by true is = none_back read (e ∙ without_some gs q (option_map waiting_of own) is)
     by false is = row_back own read (e ∙ without_none gs q (option_map waiting_of own) is)
 
-lacks_back : (row : Option (Vec Branch)) → option_map waiting_of row ≡ None → not (is_some row) ≡ true
-lacks_back row e = none_back row e
-
 keeps_back : (row : Option (Vec Branch)) → is_some (option_map waiting_of row) ≡ true → is_some row ≡ true
 keeps_back (Some v) e = refl
 keeps_back None e = absurd (cc)
@@ -128,7 +126,7 @@ module _ (k n : Ledger) (c : Content) (reads : Reads n c) where
   as_before h = whole k n false (λ q. row_same q (h.rows q)) (λ q. end_same q (h.records q)) _ _
       (and_from _ _ (counted n.row_count k.row_count (sym reads.rows ∙ h.row_number)) (counted n.records k.records (sym reads.ends ∙ h.record_number))) refl
 
-  held_as : (d : Content) → SameRows c d → HoldsBook (as_book k) d → HoldsBook (as_book k) c
+  held_as : (d : Content) → SameRowsAndRecords c d → HoldsBook (as_book k) d → HoldsBook (as_book k) c
   held_as d s h = record {
     rows = λ g. ap (λ m. get m g) s.decisions ∙ h.rows g;
     row_number = ap len s.decisions ∙ h.row_number;
@@ -153,7 +151,7 @@ module _ (k n : Ledger) (c : Content) (reads : Reads n c) where
 
   -- rows were added, where there were none
   added : (v : Vec Decision) (b : Content) → k.doubt ≡ AddRows v → HoldsBook (as_book k) b → IsChangeOf (row_at k.rows) (Adds (map decided_row v.items))
-      → SameRows c (with_rows (map decided_row v.items) b) → Changed (AddRows v)
+      → SameRowsAndRecords c (with_rows (map decided_row v.items) b) → Changed (AddRows v)
   added v b doubt h of s = record {
     row = row;
     end = λ q. end_same q (ap (λ m. get m q) (s.heuristics ∙ added_heuristics xs b) ∙ h.records q);
@@ -163,7 +161,7 @@ module _ (k n : Ledger) (c : Content) (reads : Reads n c) where
     records = counted n.records k.records (sym reads.ends ∙ ap len (s.heuristics ∙ added_heuristics xs b) ∙ h.record_number);
     change = and_from _ _
         (once_back (lacks_row k) (gtrids_of v.items)
-        (once_so (λ g. row_at k.rows g ≡ None) (λ g. lacks_row k g ≡ true) (gtrids_of v.items) (λ g none. lacks_back (kept_row k.rows g) none)
+        (once_so (λ g. row_at k.rows g ≡ None) (λ g. lacks_row k g ≡ true) (gtrids_of v.items) (λ g none. none_back (kept_row k.rows g) none)
         (subst (EachOnce (λ g. row_at k.rows g ≡ None)) (decided_names v.items) of)))
         (all_of _ v.items (λ d. subst (λ x. row_agrees_with x k.rows n.rows d.gtrid ≡ true) (sym doubt) (row d.gtrid)));
   }
@@ -180,16 +178,16 @@ module _ (k n : Ledger) (c : Content) (reads : Reads n c) where
 
   -- rows were taken away, which were there
   dropped : (g : Gtrid) (v : Vec Gtrid) (b : Content) → k.doubt ≡ DropRows g v → HoldsBook (as_book k) b → IsChangeOf (row_at k.rows) (Drops (g ∷ v.items))
-      → SameRows c (without_decisions (g ∷ v.items) b) → Changed (DropRows g v)
+      → SameRowsAndRecords c (without_decisions (g ∷ v.items) b) → Changed (DropRows g v)
   dropped g v b doubt h of s = record {
     row = row;
-    end = λ q. end_same q (ap (λ m. get m q) (s.heuristics ∙ dropped_heuristics gs b) ∙ h.records q);
+    end = λ q. end_same q (ap (λ m. get m q) (s.heuristics ∙ same_heuristics gs b) ∙ h.records q);
     rows = counted (n.row_count + (length v.items + 1)) k.row_count
         (let fewer = dropped_len gs b here in
         let read : len (without_decisions gs b).decisions ≡ n.row_count = ap len (sym s.decisions) ∙ reads.rows in
         let own = h.row_number in
         omega (arith, fewer, read, own));
-    records = counted n.records k.records (sym reads.ends ∙ ap len (s.heuristics ∙ dropped_heuristics gs b) ∙ h.record_number);
+    records = counted n.records k.records (sym reads.ends ∙ ap len (s.heuristics ∙ same_heuristics gs b) ∙ h.record_number);
     change = and_from _ _
         (once_back (keeps_row k) gs
         (once_so (λ h. is_some (row_at k.rows h) ≡ true) (λ h. keeps_row k h ≡ true) gs (λ h some. keeps_back (kept_row k.rows h) some) of))
@@ -244,20 +242,22 @@ module _ (k n : Ledger) (c : Content) (reads : Reads n c) where
 
   -- each change
   made_agrees : (d : Change) → k.doubt ≡ d → (b : Content) → HoldsBook (as_book k) b → IsChangeOf (row_at k.rows) (doubt_of_change d)
-      → SameRows c (changed_by (doubt_of_change d) b) → (agrees false k n || agrees true k n) ≡ true
+      → SameRowsAndRecords c (changed_by (doubt_of_change d) b) → (agrees false k n || agrees true k n) ≡ true
   made_agrees Nothing is b h of s = or_left _ _ (as_before (held_as b s h))
   made_agrees (AddRows v) is b h of s = or_right _ _ (with_change (AddRows v) is (added v b is h of s))
   made_agrees (DropRows g v) is b h of s = or_right _ _ (with_change (DropRows g v) is (dropped g v b is h of s))
   made_agrees (AddRecord b how) is d h of s = by (contains_key d.heuristics b) refl s
     where
-      by : (t : Bool) → contains_key d.heuristics b ≡ t → SameRows c (if t then d else with_heuristic b how d) → (agrees false k n || agrees true k n) ≡ true
+      by : (t : Bool) → contains_key d.heuristics b ≡ t → SameRowsAndRecords c (if t then d else with_heuristic b how d)
+          → (agrees false k n || agrees true k n) ≡ true
       by true has s = or_left _ _ (as_before (held_as d s h))
       by false lacks s = or_right _ _ (with_change (AddRecord b how) is (noted b how d is h lacks s.decisions s.heuristics))
 
   pub may_agree : MayHold (as_book k) c → (agrees false k n || agrees true k n) ≡ true
   may_agree may = by may.2
     where
-      by : SameRows c may.0 ⊎ (IsChangeOf (row_at k.rows) (doubt_of_change k.doubt) × SameRows c (changed_by (doubt_of_change k.doubt) may.0)) → (agrees false k n || agrees true k n) ≡ true
+      by : SameRowsAndRecords c may.0 ⊎ (IsChangeOf (row_at k.rows) (doubt_of_change k.doubt)
+          × SameRowsAndRecords c (changed_by (doubt_of_change k.doubt) may.0)) → (agrees false k n || agrees true k n) ≡ true
       by (inl s) = or_left _ _ (as_before (held_as may.0 s may.1))
       by (inr s) = made_agrees k.doubt refl may.0 may.1 s.0 s.1
 

@@ -23,7 +23,8 @@ use Rattle.xa_tm.specs.Begins.{records_listed, rows_listed}
 use Rattle.xa_tm.specs.Book.{Waiting, book_of, row_in}
 use Rattle.xa_tm.specs.Starting.{ended_among, loaded, run_of, start_book}
 use Rattle.xa_tm.proofs.History.OneMore.{book_is}
-use Rattle.xa_tm.proofs.History.Starts.{end_found, ended_is}
+use Rattle.xa_tm.proofs.History.Starts.{end_found}
+use Rattle.xa_tm.proofs.History.LoadedRows.{ended_is}
 
 -- ** order
 

@@ -6,13 +6,13 @@ use Rattle.xa_model.specs.Trace.{Fault, Fault.InRestart, Happening.Crashed, Happ
 use Rattle.xa_log.specs.Content.{Content, with_bump}
 use Rattle.xa_log.specs.Contract.{LeavesAlso}
 use Rattle.xa_tm.specs.Book.{Book, Doubt, Doubt.NoDoubt, after, book_after, failed_restarts_after}
-use Rattle.xa_tm.specs.Leaving.{IsLeft}
+use Rattle.xa_tm.specs.Leaving.{LeavesTied}
 use Rattle.xa_tm.specs.BookAndLog.{IsChangeOf, IsTied, IsTiedDown, IsTiedUp, TiedBy, changed_by}
 use Rattle.xa_tm.proofs.Log.Restart.{tied_no_restart}
 use Rattle.xa_tm.proofs.Log.Ties.{tied_fault, up_content}
 
 pub left_while_up : (near : Bool) (k : Book) (log : Option Content) (may : Content → Type 0) → k.up ≡ true → IsTied near k log
-    → ((c d : Content) → log ≡ Some c → may d → d ≡ c) → IsLeft near k may
+    → ((c d : Content) → log ≡ Some c → may d → d ≡ c) → LeavesTied near k may
 left_while_up near k log may up tied holds d left = by log (up_content near k log up tied) holds
   where
     by : (log : Option Content) → IsSomeAnd log (IsTiedUp k) → ((c d : Content) → log ≡ Some c → may d → d ≡ c) → IsTiedDown near k d
@@ -26,8 +26,9 @@ left_while_up near k log may up tied holds d left = by log (up_content near k lo
     })
 
 pub left_by_a_fault : (near : Bool) (k : Book) (asked : Doubt) (f : Fault) (log : Option Content) (old new : Content → Type 0) → k.up ≡ true
-    → IsChangeOf k.row asked → failed_restarts_after (Failed f) k.failed_restarts ≡ k.failed_restarts → IsTied near k log → ((c d : Content) → log ≡ Some c → old d → d ≡ c)
-    → LeavesAlso (changed_by asked) log old new → IsLeft near (book_after k asked (Failed f)) new
+    → IsChangeOf k.row asked → failed_restarts_after (Failed f) k.failed_restarts ≡ k.failed_restarts → IsTied near k log
+    → ((c d : Content) → log ≡ Some c → old d → d ≡ c)
+    → LeavesAlso (changed_by asked) log old new → LeavesTied near (book_after k asked (Failed f)) new
 left_by_a_fault near k asked f log old new up of same tied holds leaves d left = by log tied holds (leaves d left)
   where
     by : (log : Option Content) → IsTied near k log → ((c d : Content) → log ≡ Some c → old d → d ≡ c)
@@ -36,8 +37,8 @@ left_by_a_fault near k asked f log old new up of same tied holds leaves d left =
     by (Some c) tied holds (inl o) = tied_fault near k asked f (Some c) (Some d) up of same (inr (inl (ap (λ x. Some x) (holds c d refl o)))) tied d refl
     by (Some c) tied holds (inr e) = tied_fault near k asked f (Some c) (Some d) up of same (inr (inr (ap (λ x. Some x) e))) tied d refl
 
-pub left_by_a_restart : (near : Bool) (k : Book) (log : Option Content) (old new : Content → Type 0) → k.up ≡ false → IsTied near k log → IsLeft near k old
-    → LeavesAlso with_bump log old new → IsLeft near (book_after k NoDoubt (Failed InRestart)) new
+pub left_by_a_restart : (near : Bool) (k : Book) (log : Option Content) (old new : Content → Type 0) → k.up ≡ false → IsTied near k log → LeavesTied near k old
+    → LeavesAlso with_bump log old new → LeavesTied near (book_after k NoDoubt (Failed InRestart)) new
 left_by_a_restart near k log old new down tied was leaves d left = by log tied (leaves d left)
   where
     by : (log : Option Content) → IsTied near k log → old d ⊎ IsSomeAnd log (λ b. d ≡ with_bump b) → IsTiedDown near (book_after k NoDoubt (Failed InRestart)) d
@@ -46,7 +47,7 @@ left_by_a_restart near k log old new down tied was leaves d left = by log tied (
     by None tied (inr e) = absurd e
     by (Some c) tied (inr e) = tied_no_restart near k (Some c) (Some d) down (inr (inr (ap (λ x. Some x) e))) tied d refl
 
-pub left_by_a_crash : (near : Bool) (k : Book) (p : Part) (may : Content → Type 0) → IsLeft near k may → IsLeft near (after k (Crashed p)) may
+pub left_by_a_crash : (near : Bool) (k : Book) (p : Part) (may : Content → Type 0) → LeavesTied near k may → LeavesTied near (after k (Crashed p)) may
 left_by_a_crash near k p may was d left =
     let t = was d left in
     record {

@@ -1,34 +1,34 @@
 -- A start over a log that a history leaves has the rows and the records of the history.
-use Rattle.std.proofs.Common.{◌≡◌, ◌≤◌, ◌+◌, ◌-◌, ◌⊎◌, inl, inr, suc, List, [], ◌∷◌, length, map, Bool, true, false, refl, sym, ap, subst, ◌∙◌, arith, length-append}
+use Rattle.std.proofs.Common.{◌≡◌, ◌≤◌, ◌+◌, ◌⊎◌, inl, inr, suc, List, [], ◌∷◌, length, map, Bool, true, false, refl, sym, ap, subst, ◌∙◌, arith, length-append}
 use Rattle.std.specs.Prelude.{◌==◌, ◌||◌, cond, filter, if◌then◌else◌, is_some, Option, Some, None}
 use Rattle.std.specs.FinMap.{FinMap, contains_key, empty, get, get-empty, get-insert, insert, len, len-empty, len-insert, same_map}
 use Rattle.std.specs.List.{list_any}
 use Rattle.std.specs.Ordering.{eq_by_cmp}
 use Rattle.std.proofs.lemmas.List.{length-map}
-use Rattle.std.proofs.lemmas.Bool.{eq-eqb, eqb-true, false_from_ne_true, true≢false}
+use Rattle.std.proofs.lemmas.Bool.{eq-eqb, eqb-true, true≢false}
 use Rattle.xa_base.specs.Branch.{branch_cmp, gtrid_cmp, gtrid_eq}
 use Rattle.xa_base.specs.declared.branch.Branch.{Branch}
 use Rattle.xa_base.specs.declared.branch.Gtrid.{Gtrid}
-use Rattle.xa_base.proofs.BranchKeys.{gtrid_eq-refl, gtrid_eq-true}
+use Rattle.xa_base.proofs.BranchKeys.{gtrid_eq-true}
 use Rattle.xa_base.proofs.BranchOrder.{branches_total, exact_gtrids, gtrids_total}
 use Rattle.xa_base.proofs.Orders.{branch_swap, gtrid_swap}
 use Rattle.xa_log.specs.Content.{Content, with_bump}
 use Rattle.xa_log.specs.KeySet.{contains, contains-from_list, from_list}
-use Rattle.xa_model.specs.Facts.{Change, Change.AddRecord, Change.AddRows, Change.DropRows, Change.NoChange, doubt, has_branch, has_record, heuristic_rows, heuristics_changed, how_in, lists_row, log, participants_in, rows_changed, without, without_each}
+use Rattle.xa_log.proofs.TakenTogether.{same_heuristics}
+use Rattle.xa_model.specs.Facts.{Change, Change.AddRecord, Change.AddRows, Change.DropRows, Change.NoChange, doubt, has_branch, has_record, heuristic_rows, heuristics_changed, how_in, lists_row, log, participants_in, rows_changed}
 use Rattle.xa_model.specs.Facts.Distinct.{ApartRows, IsNewTo}
 use Rattle.xa_model.specs.Promises.Processes.{SameRecords, gone, resumed, row_count}
 use Rattle.xa_model.specs.Promises.Processes as processes
 use Rattle.xa_model.specs.Trace.{Happening.Restarted, Origin, Recorded, Row, Trace}
 use Rattle.xa_tm.specs.Book.{Book, Waiting, after, book_of, doubt_of, recorded_with, row_in, row_with, waiting_row}
-use Rattle.xa_tm.specs.BookAndLog.{FoundIn, IsTied, IsTiedDown, IsTiedUp, SameRows, rows_of}
-use Rattle.xa_tm.proofs.History.OneMore.{has_record_is, how_changed, lists_is, row_changed}
-use Rattle.xa_tm.proofs.History.RowCounts.{one_row_less}
-use Rattle.xa_model.proofs.Invariant.RowLists.{without_drops, without_keeps}
-use Rattle.xa_tm.proofs.Several.Lists.{once_among, other_of}
+use Rattle.xa_tm.specs.BookAndLog.{FoundIn, IsTied, IsTiedDown, IsTiedUp, SameRowsAndRecords, rows_of}
+use Rattle.xa_tm.proofs.History.RecordsAfter.{has_record_is, how_changed}
+use Rattle.xa_tm.proofs.History.OneMore.{lists_is, row_changed}
 use Rattle.xa_tm.proofs.Log.Restart.{tied_restart}
-use Rattle.xa_tm.proofs.Several.Contents.{added_heuristics, changed_len, dropped_heuristics, of_same}
+use Rattle.xa_tm.proofs.Several.Contents.{added_heuristics, changed_len, of_same}
 use Rattle.xa_tm.specs.LogRows.{MayHoldRows, StartsOver, after_change}
 use Rattle.xa_tm.proofs.Log.TellsRows.{change_of, made_is, row_in_is, rows_may_hold}
+use Rattle.xa_tm.proofs.History.RowCounts.{each_row_less}
 
 -- ** rows as a map
 
@@ -110,33 +110,9 @@ same_rows xs ys apart apart_too number rows = record {
 
 -- ** how many there are with the change in doubt
 
-still_listed : (g h : Gtrid) (xs : List Row) → gtrid_eq g h ≡ false → lists_row xs h ≡ true → lists_row (without g xs) h ≡ true
-still_listed g h xs other has = by (lists_row (without g xs) h) refl
-  where
-    by : (t : Bool) → lists_row (without g xs) h ≡ t → lists_row (without g xs) h ≡ true
-    by true e = e
-    by false e = absurd (true≢false (sym (gtrid_eq-refl g) ∙ ap (gtrid_eq g) (without_drops g h xs has e) ∙ other))
-
-each_less : (gs : List Gtrid) (xs : List Row) → ApartRows xs → IsNewTo xs (DropRows gs) → length (without_each gs xs) ≡ length xs - length gs
-each_less [] xs apart there = omega arith
-each_less (g ∷ gs) xs apart there =
-    let one = one_row_less g xs apart there.0 in
-    let rest = each_less gs (without g xs) (less_apart g xs apart)
-    (once_among (λ h. lists_row xs h ≡ true) (λ h. lists_row (without g xs) h ≡ true) gs
-    (λ h is has. still_listed g h xs (other_of gs g h there.1 is) has) there.2) in
-    omega (arith, one, rest)
-  where
-    less_apart : (g : Gtrid) (xs : List Row) → ApartRows xs → ApartRows (without g xs)
-    less_apart g [] h = tt
-    less_apart g (x ∷ xs) h = by (gtrid_eq x.gtrid g) (less_apart g xs h.1)
-      where
-        by : (t : Bool) → ApartRows (without g xs) → ApartRows (if t then without g xs else x ∷ without g xs)
-        by true k = k
-        by false k = (false_from_ne_true _ (λ e. true≢false (sym (without_keeps g x.gtrid xs e) ∙ h.0)), k)
-
 rows_numbered : (x : Change) (rows : List Row) → ApartRows rows → IsNewTo rows x → rows_of (doubt_of x) (length rows) ≡ length (rows_changed x rows)
 rows_numbered (AddRows xs) rows apart new = let both = length-append xs rows in let same = length-map xs waiting_row in omega (arith, both, same)
-rows_numbered (DropRows gs) rows apart new = sym (each_less gs rows apart new)
+rows_numbered (DropRows gs) rows apart new = sym (each_row_less gs rows apart new)
 rows_numbered (AddRecord r) rows apart new = refl
 rows_numbered NoChange rows apart new = refl
 
@@ -151,7 +127,7 @@ records_then : (x : Change) (b : Content) (records : List Recorded) → ((q : Br
     → len b.heuristics ≡ length records
     → (len (after_change x b).heuristics ≡ length records) ⊎ (len (after_change x b).heuristics ≡ length (heuristics_changed x records))
 records_then (AddRows xs) b records at number = inl (ap len (added_heuristics (map waiting_row xs) b) ∙ number)
-records_then (DropRows gs) b records at number = inl (ap len (dropped_heuristics gs b) ∙ number)
+records_then (DropRows gs) b records at number = inl (ap len (same_heuristics gs b) ∙ number)
 records_then (AddRecord r) b records at number =
     by (contains_key b.heuristics r.branch) refl (has_record_is records r.branch ∙ ap is_some (sym (at r.branch)))
   where
@@ -212,7 +188,7 @@ module _ (past : Trace) (o : Origin) (c : Content) (new : IsNewTo (log past) (do
   row_number : length o.rows ≡ length (log (resumed past o))
   row_number = by (length o.rows == length (log past)) refl left.2
     where
-      by : (t : Bool) → (length o.rows == length (log past)) ≡ t → SameRows c left.0 ⊎ SameRows c (after_change (doubt past) left.0)
+      by : (t : Bool) → (length o.rows == length (log past)) ≡ t → SameRowsAndRecords c left.0 ⊎ SameRowsAndRecords c (after_change (doubt past) left.0)
           → length o.rows ≡ length (if t then log past else rows_changed (doubt past) (log past))
       by true e s = eqb-true _ _ e
       by false e (inl s) = absurd (true≢false (sym (eq-eqb _ _ (sym over.rows.row_number ∙ ap len s.decisions ∙ left.1.row_number)) ∙ e))
@@ -222,7 +198,8 @@ module _ (past : Trace) (o : Origin) (c : Content) (new : IsNewTo (log past) (do
   record_number : length o.heuristic_rows ≡ length (heuristic_rows (resumed past o))
   record_number = by (length o.heuristic_rows == length (heuristic_rows past)) refl left.2
     where
-      by : (t : Bool) → (length o.heuristic_rows == length (heuristic_rows past)) ≡ t → SameRows c left.0 ⊎ SameRows c (after_change (doubt past) left.0)
+      by : (t : Bool) → (length o.heuristic_rows == length (heuristic_rows past)) ≡ t
+          → SameRowsAndRecords c left.0 ⊎ SameRowsAndRecords c (after_change (doubt past) left.0)
           → length o.heuristic_rows ≡ length (if t then heuristic_rows past else heuristics_changed (doubt past) (heuristic_rows past))
       by true e s = eqb-true _ _ e
       by false e (inl s) = absurd (true≢false (sym (eq-eqb _ _ (sym over.rows.record_number ∙ ap len s.heuristics ∙ left.1.record_number)) ∙ e))

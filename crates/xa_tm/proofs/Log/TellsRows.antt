@@ -9,7 +9,7 @@ use Rattle.xa_model.specs.Facts.{Change, Change.AddRecord, Change.AddRows, Chang
 use Rattle.xa_model.specs.Facts.Distinct.{EachOnce, IsNewTo}
 use Rattle.xa_model.specs.Trace.{Row, Trace}
 use Rattle.xa_tm.specs.Book.{Waiting, book_of, doubt_of, row_in, waiting_row}
-use Rattle.xa_tm.specs.BookAndLog.{HoldsBook, IsChangeOf, MayHold, SameRows, changed_by}
+use Rattle.xa_tm.specs.BookAndLog.{HoldsBook, IsChangeOf, MayHold, SameRowsAndRecords, changed_by}
 use Rattle.xa_tm.specs.LogRows.{HoldsRows, MayHoldRows, after_change}
 use Rattle.xa_tm.proofs.History.OneMore.{lists_is}
 use Rattle.xa_tm.proofs.Several.Lists.{once_so}
@@ -60,10 +60,10 @@ holds_rows tr c holds = record {
 pub may_hold_rows : (tr : Trace) (c : Content) → MayHold (book_of tr) c → MayHoldRows tr c
 may_hold_rows tr c holds = (holds.0, holds_rows tr holds.0 holds.1, by holds.2)
   where
-    by : SameRows c holds.0 ⊎ (IsChangeOf (book_of tr).row (doubt_of (doubt tr)) × SameRows c (changed_by (doubt_of (doubt tr)) holds.0))
-        → SameRows c holds.0 ⊎ SameRows c (after_change (doubt tr) holds.0)
+    by : SameRowsAndRecords c holds.0 ⊎ (IsChangeOf (book_of tr).row (doubt_of (doubt tr)) × SameRowsAndRecords c (changed_by (doubt_of (doubt tr)) holds.0))
+        → SameRowsAndRecords c holds.0 ⊎ SameRowsAndRecords c (after_change (doubt tr) holds.0)
     by (inl same) = inl same
-    by (inr made) = inr (subst (SameRows c) (made_is (doubt tr) holds.0) made.1)
+    by (inr made) = inr (subst (SameRowsAndRecords c) (made_is (doubt tr) holds.0) made.1)
 
 -- what the history tells of is what its book says
 rows_held : (tr : Trace) (c : Content) → HoldsRows tr c → HoldsBook (book_of tr) c
@@ -77,8 +77,8 @@ rows_held tr c holds = record {
 pub rows_may_hold : (tr : Trace) (c : Content) → IsNewTo (log tr) (doubt tr) → MayHoldRows tr c → MayHold (book_of tr) c
 rows_may_hold tr c new holds = (holds.0, rows_held tr holds.0 holds.1, by holds.2)
   where
-    by : SameRows c holds.0 ⊎ SameRows c (after_change (doubt tr) holds.0) → SameRows c holds.0
-        ⊎ (IsChangeOf (book_of tr).row (doubt_of (doubt tr)) × SameRows c (changed_by (doubt_of (doubt tr)) holds.0))
+    by : SameRowsAndRecords c holds.0 ⊎ SameRowsAndRecords c (after_change (doubt tr) holds.0) → SameRowsAndRecords c holds.0
+        ⊎ (IsChangeOf (book_of tr).row (doubt_of (doubt tr)) × SameRowsAndRecords c (changed_by (doubt_of (doubt tr)) holds.0))
     by (inl same) = inl same
     by (inr same) =
-        inr (change_of (log tr) (doubt tr) new, subst (SameRows c) (sym (made_is (doubt tr) holds.0)) same)
+        inr (change_of (log tr) (doubt tr) new, subst (SameRowsAndRecords c) (sym (made_is (doubt tr) holds.0)) same)

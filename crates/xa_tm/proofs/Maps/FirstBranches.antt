@@ -18,7 +18,7 @@ use Rattle.xa_tm.specs.LedgerBook.{known_in, no_branch, notes_at}
 use Rattle.xa_tm.specs.declared.ledger.Ledger.{Ledger}
 use Rattle.xa_tm.specs.declared.notes.BranchNotes.{BranchNotes}
 use Rattle.xa_tm.proofs.Maps.StartedBranches.{known_has}
-use Rattle.xa_tm.proofs.Release.{set_filtered}
+use Rattle.xa_tm.proofs.Release.Sets.{set_filtered}
 
 -- ** the first
 
@@ -117,7 +117,8 @@ module _ (old new : Ledger) (g : Gtrid) (lost : HasLost old new g None) where
   pub lost_known : known_in new.branches ≡ from_list (filter (λ b. not (gtrid_eq g b.gtrid)) (items (known_in old.branches)))
   lost_known = same_set branches_total exact_branches _ _ (λ q.
       known_has new.branches lost.ordered q ∙ ap (λ (x : BranchNotes). x.is_started) (lost_notes q) ∙ by q (gtrid_eq g q.gtrid)
-      ∙ sym (set_filtered (λ b. not (gtrid_eq g b.gtrid)) q (known_in old.branches) ∙ ap (λ t. not (gtrid_eq g q.gtrid) && t) (known_has old.branches lost.was_ordered q)))
+      ∙ sym (set_filtered (λ b. not (gtrid_eq g b.gtrid)) q (known_in old.branches)
+      ∙ ap (λ t. not (gtrid_eq g q.gtrid) && t) (known_has old.branches lost.was_ordered q)))
     where
       by : (q : Branch) (t : Bool) → (if t then no_branch else notes_at old.branches q).is_started ≡ (not t && (notes_at old.branches q).is_started)
       by q true = refl

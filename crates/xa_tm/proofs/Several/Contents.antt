@@ -10,7 +10,7 @@ use Rattle.xa_base.specs.declared.code.How.{How}
 use Rattle.xa_base.proofs.BranchOrder.{gtrids_total}
 use Rattle.xa_base.proofs.BranchKeys.{gtrid_eq-true}
 use Rattle.xa_base.proofs.Orders.{gtrid_swap}
-use Rattle.xa_log.specs.Content.{Content, with_commit, with_commits, with_record, without_decision, without_decisions}
+use Rattle.xa_log.specs.Content.{Content, with_commit, with_commits, with_heuristic_record, without_decision, without_decisions}
 use Rattle.xa_log.specs.declared.decision.Decision.{Decision}
 use Rattle.xa_model.specs.Facts.{has_gtrid}
 use Rattle.xa_model.specs.Facts.Distinct.{EachOnce}
@@ -175,14 +175,6 @@ added_incarnation (x ∷ xs) c = added_incarnation xs (with_commit x.0 x.1 c) �
     by true = refl
     by false = refl
 
-pub dropped_heuristics : (gs : List Gtrid) (c : Content) → (without_decisions gs c).heuristics ≡ c.heuristics
-dropped_heuristics [] c = refl
-dropped_heuristics (g ∷ gs) c = dropped_heuristics gs (without_decision g c)
-
-pub dropped_incarnation : (gs : List Gtrid) (c : Content) → (without_decisions gs c).incarnation ≡ c.incarnation
-dropped_incarnation [] c = refl
-dropped_incarnation (g ∷ gs) c = dropped_incarnation gs (without_decision g c)
-
 -- ** any change
 
 pub of_same : (r s : Gtrid → Option Waiting) (d : Doubt) → ((g : Gtrid) → s g ≡ r g) → IsChangeOf r d → IsChangeOf s d
@@ -191,7 +183,7 @@ of_same r s (Drops gs) same is = once_so (λ g. is_some (r g) ≡ true) (λ g. i
 of_same r s (Records b how) same is = tt
 of_same r s NoDoubt same is = tt
 
-recorded_rows : (b : Branch) (how : How) (c : Content) → (with_record b how c).decisions ≡ c.decisions
+recorded_rows : (b : Branch) (how : How) (c : Content) → (with_heuristic_record b how c).decisions ≡ c.decisions
 recorded_rows b how c = by (contains_key c.heuristics b)
   where
     by : (t : Bool) → (if t then c else record c { heuristics = insert c.heuristics b how }).decisions ≡ c.decisions

@@ -20,7 +20,7 @@ use Rattle.xa_tm.specs.Book.{Book, Waiting, after, voted_yes}
 use Rattle.xa_tm.specs.Calls.{IsOpenIn}
 use Rattle.xa_tm.specs.Refusing.{is_shut_in, outlived_in, refusal_in, refusal_in_turn, view_in, at_rest, waits_for_none}
 use Rattle.xa_tm.proofs.Log.Asks.{is_fault}
-use Rattle.xa_tm.proofs.Log.Ties.{done_up}
+use Rattle.xa_tm.proofs.Log.TiedSteps.{done_up}
 use Rattle.xa_tm.proofs.Several.Lists.{named_push}
 
 -- the refusal where these have passed, of which each is refused again
@@ -37,7 +37,8 @@ module _ (step : Gtrid → Step) (happening : Gtrid → Happening) (again : Book
     refuses : (h : Gtrid) → refusal_in l (step h) ≡ (if has_gtrid before h then Some (again k h) else refusal_in k (step h))
     still : (h : Gtrid) → again l h ≡ again k h
 
-  passed_more : (before : List Gtrid) (l : Book) (g : Gtrid) → refusal_in l (step g) ≡ None → Passed before l → Passed (before ++ g ∷ []) (after l (happening g))
+  passed_more : (before : List Gtrid) (l : Book) (g : Gtrid) → refusal_in l (step g) ≡ None → Passed before l
+      → Passed (before ++ g ∷ []) (after l (happening g))
   passed_more before l g none p = record {
     refuses = λ h. once l g h none ∙ by h (gtrid_eq g h)
         ∙ sym (ap (λ (t : Bool). if t then Some (again k h) else refusal_in k (step h)) (named_push before g h));
@@ -51,7 +52,8 @@ module _ (step : Gtrid → Step) (happening : Gtrid → Happening) (again : Book
 
   turned : (gs before : List Gtrid) (l : Book) → Passed before l → refusal_in_turn step happening l gs ≡ turn step again k before gs
   turned [] before l p = refl
-  turned (g ∷ gs) before l p = by (has_gtrid before g) (p.refuses g) (λ none. turned gs (before ++ g ∷ []) (after l (happening g)) (passed_more before l g none p))
+  turned (g ∷ gs) before l p = by (has_gtrid before g) (p.refuses g)
+      (λ none. turned gs (before ++ g ∷ []) (after l (happening g)) (passed_more before l g none p))
     where
       rest : Option Refusal
       rest = refusal_in_turn step happening (after l (happening g)) gs

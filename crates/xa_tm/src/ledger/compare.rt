@@ -6,7 +6,7 @@ ghost use Rattle.xa_model.specs.Facts.{has_gtrid};
 ghost use Rattle.xa_tm.specs.LedgerBook.{gtrids_of, notes_at};
 ghost use Rattle.xa_tm.specs.Swaps.{decided_agrees, dropped_agrees, each_once, keeps_row, lacks_row};
 ghost use Rattle.xa_tm.specs.Swaps.{agrees, change_agrees, counts_agree, end_agrees, end_agrees_with, ends_agree};
-ghost use Rattle.xa_tm.specs.Swaps.{are_among, is_among, is_how, kept_row, names_just, records_agree_with, same_branches, row_agrees, row_agrees_with};
+ghost use Rattle.xa_tm.specs.Swaps.{are_among, is_branch_among, is_how, kept_row, names_just, records_agree_with, same_branches, row_agrees, row_agrees_with};
 ghost use Rattle.xa_tm.specs.Swaps.{ReadsOf, ends_agree_at, rows_agree, rows_agree_at, rows_agree_with, same_how, same_row};
 
 use crate::change::Change;
@@ -319,7 +319,7 @@ pub(super) fn is_more_by(number: u64, other: u64, by: u64) -> bool
 
 /// Whether a branch is among these.
 fn is_among(branch: Branch, branches: &[Branch]) -> bool
-    ensures { result ≡ is_among branch branches.now }
+    ensures { result ≡ is_branch_among branch branches.now }
 {
     branches.contains(&branch)
 }

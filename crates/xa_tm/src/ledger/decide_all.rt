@@ -22,7 +22,8 @@ use xa_log::Decision;
 impl Ledger {
     /// The refusal of the first of these decisions that is refused, each after the ones before it.
     pub(crate) fn check_decide_all(&self, gtrids: &[Gtrid], outcome: Outcome) -> Result<(), Refusal>
-        ensures { result_err result ≡ refusal_in_turn (λ g. Steps.Decide g outcome) (λ g. Decided g outcome)
+        ensures { result_err result
+            ≡ refusal_in_turn (λ g. Steps.Decide g outcome) (λ g. Decided g outcome)
             (as_book self.now) gtrids.now }
     {
         for (i, g) in gtrids.iter().enumerate() {

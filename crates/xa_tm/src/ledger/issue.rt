@@ -1,6 +1,6 @@
 //! The refusals of calls, and what is noted of a call that is issued.
 
-ghost use Rattle.std.specs.Prelude.{true, false, ◌≡◌, Bool, nat_eq, if◌then◌else◌, Option, Some, None, IfErr, OnOk, OnErr};
+ghost use Rattle.std.specs.Prelude.{true, false, ◌≡◌, nat_eq, if◌then◌else◌, Option, Some, None, IfErr, OnOk, OnErr};
 ghost use Rattle.std.specs.Result.{result_err, result_ok};
 ghost use Rattle.xa_tm.specs.Book.{after};
 ghost use Rattle.xa_base.specs.declared.call.Call.TheVariants as Calls;

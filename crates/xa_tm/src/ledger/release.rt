@@ -77,7 +77,8 @@ impl Ledger {
         ensures notes { (q : _) → notes_at self.new.branches q ≡
             (if gtrid_eq g q.gtrid then no_branch else notes_at self.old.branches q) }
         ensures known { known_in self.new.branches ≡
-            from_list (filter (λ b. not (gtrid_eq g b.gtrid)) (items (known_in self.old.branches))) }
+            from_list (filter (λ b. not (gtrid_eq g b.gtrid))
+            (items (known_in self.old.branches))) }
         ensures gone { (b : _) → b.gtrid ≡ g → get branch_cmp self.new.branches b ≡ None }
     {
         let mut next = self.first_branch(g);
@@ -104,7 +105,8 @@ impl Ledger {
 fn end_of(g: Gtrid) -> Bound<Branch>
     ensures forward { IsForward (IsLeBy branch_cmp) (IsLtBy branch_cmp)
         (Included (record { gtrid = g; thread = 0; rm = 0 })) result }
-    ensures own { (q : Branch) → gtrid_eq q.gtrid g ≡ true → is_past_end branch_cmp result q ≡ false }
+    ensures own { (q : Branch) → gtrid_eq q.gtrid g ≡ true →
+        is_past_end branch_cmp result q ≡ false }
 {
     match g.sequence.checked_add(1) {
         Some(sequence) => Bound::Excluded(Branch {

@@ -59,7 +59,8 @@ impl<L: DecisionLog + Drop> Manager<L> {
         // What the book then says.
         ensures ok { OnOk result (book_in self.new ≡ after (book_in self.old) (Decided g outcome)) }
         ensures err { IfErr result
-            (FailsBy (Adds (rows_for (book_in self.old) (g ∷ []))) (InDecide (g ∷ [])) (book_in self.old)
+            (FailsBy (Adds (rows_for (book_in self.old) (g ∷ []))) (InDecide (g ∷ []))
+            (book_in self.old)
             (book_in self.new)) }
         ensures asked { result ≡ Err Refusals.LogFault →
             AddsRow outcome ((book_in self.old).transaction g) }
@@ -106,7 +107,8 @@ impl<L: DecisionLog + Drop> Manager<L> {
         ensures ok { OnOk result
             (book_in self.new ≡ after (book_in self.old) (Decided g Outcomes.Commit)) }
         ensures err { IfErr result
-            (FailsBy (Adds (rows_for (book_in self.old) (g ∷ []))) (InDecide (g ∷ [])) (book_in self.old)
+            (FailsBy (Adds (rows_for (book_in self.old) (g ∷ []))) (InDecide (g ∷ []))
+            (book_in self.old)
             (book_in self.new)) }
         // What becomes of the log.
         ensures tied { (near : Bool) → (L.moment (log_in self.old)).is_in_order →

@@ -26,7 +26,8 @@ impl<L: DecisionLog + Drop> Manager<L> {
         ensures ok { OnOk result (book_in self.new ≡ after (book_in self.old) (Done g)) }
         ensures err { refusal_in (book_in self.old) (Steps.Done g) ≡ None →
             IfErr result (λ n. (n ≡ Refusals.LogFault) ×
-            (book_in self.new ≡ book_after (book_in self.old) (Drops (g ∷ [])) (Failed (InDone (g ∷ []))))) }
+            (book_in self.new ≡ book_after (book_in self.old) (Drops (g ∷ []))
+            (Failed (InDone (g ∷ []))))) }
         // What becomes of the log.
         ensures tied { (near : Bool) → (L.moment (log_in self.old)).is_in_order →
             (L.moment (log_in self.new)).is_honest →

@@ -1,14 +1,14 @@
 use Rattle.std.proofs.Common.{Some, subst}
 use Rattle.std.specs.Io.Buffered.{reader_remaining}
 use Rattle.uses.proofs.TwoManagers.{known_left}
-use Rattle.xa_coordinator.specs.NamedLines.{ServesUnder}
-use Rattle.xa_coordinator.specs.Replies.{greeting_of}
+use Rattle.xa_server.specs.NamedLines.{ServesUnder}
+use Rattle.xa_server.specs.Replies.{greeting_of}
 use Rattle.uses.proofs.managers.served_under.Goals as goal
 
 pub returns-in-Ok-serve_under : goal.returns-in-Ok-serve_under
 returns-in-Ok-serve_under g c =
     let made = c.in-Ok.ensures in
-    let first = c.in-Ok.coordinator in
+    let first = c.in-Ok.server in
     let last = c.serve_under.new.self in
     let written = c.serve_under.new.output.items in
     let left = reader_remaining (λ slice. Some slice.now) c.serve_under.new.input in

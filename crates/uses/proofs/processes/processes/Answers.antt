@@ -1,8 +1,9 @@
 use Rattle.std.proofs.Common.{◌≤◌, ◌<◌, ◌++◌, ◌∷◌, [], ◌∙◌, arith, ap, length, map, subst, take}
+use Rattle.std.proofs.lemmas.List.{take_all}
 use Rattle.xa_log.specs.contracts.mem_log.MemLogDecisionLog.TheImpl as memory
 use Rattle.xa_rm.specs.contracts.mem_rm.MemRmResourceManager.TheImpl as mem_rm
 use Rattle.xa_system.specs.SystemView.{observes}
-use Rattle.uses.proofs.LaterProcesses.{all_taken, lists_more}
+use Rattle.uses.proofs.LaterProcesses.{lists_more}
 use Rattle.uses.proofs.OwnLogs.{always_honest}
 use Rattle.uses.specs.Processes.{AreProcesses}
 use Rattle.uses.proofs.processes.processes.Goals as goal
@@ -30,4 +31,4 @@ returns c =
     let later = c.args.later.now in
     let i = c.loop-steps.steps-index in
     let many : length later ≤ i = omega (arith, c.loop-steps-test.false) in
-    subst (λ ls. AreProcesses see (c.args.first.now ∷ map (λ steps. steps.items) ls) c.loop-steps.system) (all_taken later i many) c.loop-steps.invariant
+    subst (λ ls. AreProcesses see (c.args.first.now ∷ map (λ steps. steps.items) ls) c.loop-steps.system) (take_all i later many) c.loop-steps.invariant

@@ -1,14 +1,14 @@
 use Rattle.std.proofs.Common.{true, Some, subst}
 use Rattle.std.specs.Io.Buffered.{reader_remaining}
 use Rattle.uses.proofs.Sessions.{known_left}
-use Rattle.xa_coordinator.specs.Replies.{greeting_of}
-use Rattle.xa_coordinator.specs.Serving.{Serves}
+use Rattle.xa_server.specs.Replies.{greeting_of}
+use Rattle.xa_server.specs.Serving.{Serves}
 use Rattle.uses.proofs.serve.served_over.Goals as goal
 
 pub returns-in-Ok-serve : goal.returns-in-Ok-serve
 returns-in-Ok-serve g c =
     let made = c.in-Ok.ensures in
-    let first = c.in-Ok.coordinator in
+    let first = c.in-Ok.server in
     let last = c.serve.new.self in
     let written = c.serve.new.output.items in
     let left = reader_remaining (λ slice. Some slice.now) c.serve.new.input in

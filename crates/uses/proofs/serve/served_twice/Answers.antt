@@ -1,4 +1,4 @@
-use Rattle.uses.proofs.Sessions.{served_so}
+use Rattle.uses.proofs.TwoSessions.{served_so}
 use Rattle.uses.proofs.serve.served_twice.Goals as goal
 
 pub returns : goal.returns

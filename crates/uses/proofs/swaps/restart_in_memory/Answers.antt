@@ -1,10 +1,10 @@
 use Rattle.std.proofs.Common.{refl, sym, subst, ◌∙◌}
+use Rattle.std.proofs.lemmas.Result.{IfErr-weaker}
 use Rattle.xa_log.specs.Memory.{content_held}
 use Rattle.xa_log.specs.contracts.mem_log.MemLogDecisionLog.TheImpl as memory
 use Rattle.xa_rm.specs.contracts.mem_rm.MemRmResourceManager.TheImpl as mem_rm
 use Rattle.uses.proofs.LogSwaps.{down_taken, is_left, order_taken}
 use Rattle.uses.proofs.OwnLogs.{always_honest}
-use Rattle.uses.proofs.Results.{for_err}
 use Rattle.uses.proofs.swaps.restart_in_memory.Goals as goal
 
 pub returns-clause-given : goal.returns-clause-given
@@ -30,4 +30,4 @@ returns-clause-given c =
     let left_order = order_taken look memory.ghosts old log crashed.parts old_order here in
     let is = is_left look memory.ghosts old taken log log (content_held log) crashed.parts down took.others here
     (took.out down) (took.was log c.in-Some.is) old_order near tt refl left_order refl in
-    for_err c.restart_over-restarted.result _ _ (λ e given. given (content_held log) is tt) c.restart_over-restarted.ensures.given
+    IfErr-weaker c.restart_over-restarted.result _ _ (λ e given. given (content_held log) is tt) c.restart_over-restarted.ensures.given

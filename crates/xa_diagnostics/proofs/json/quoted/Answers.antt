@@ -7,6 +7,7 @@ use Rattle.xa_diagnostics.proofs.json.quoted.Goals as goal
 
 pub returns : goal.returns
 returns c =
-    let t = YieldsList-end (YieldsList-from_chars c.args.text.now c.utf8.text cc) c.loop-letter.yielded _ c.loop-letter.yielded_by _ _ c.in-None.is c.next.ensures.steps in
+    let t = YieldsList-end (YieldsList-from_chars c.args.text.now c.utf8.text cc) c.loop-letter.yielded _ c.loop-letter.yielded_by _ _ c.in-None.is
+    c.next.ensures.steps in
     let e = all_escaped c.args.text.now (string_bytes c.loop-letter.told) c.loop-letter.yielded t.0 c.loop-letter.invariant in
     grind (arith, common_steps)

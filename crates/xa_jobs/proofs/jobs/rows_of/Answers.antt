@@ -4,7 +4,7 @@ use Rattle.std.proofs.lemmas.List.Elements.{All-push}
 use Rattle.std.proofs.lemmas.Result.{err_from_is_err_and}
 use Rattle.toml.specs.View.{items_view, view}
 use Rattle.xa_jobs.specs.JobFiles.{job_at, jobs_from, rows_in}
-use Rattle.xa_files.specs.Refusals.{fault_of}
+use Rattle.xa_files.specs.Misfits.{document_fault_of}
 use Rattle.xa_files.proofs.DocumentLemmas.{fails_on}
 use Rattle.xa_jobs.proofs.JobLemmas.{job_goes_on, job_stops, jobs_end}
 use Rattle.xa_jobs.proofs.jobs.rows_of.Goals as goal
@@ -14,7 +14,7 @@ returns-in_err-job_at-clause-jobs c =
     let p = err_from_is_err_and c.from_residual.result c.from_residual.ensures.1 in
     let all = jobs_from c.args.rms 1 (items_view c.args.items.now) in
     let one = job_at c.args.rms (c.loop-i.i + 1) (view c.index-items-i.result) in
-    let fault = fault_of c.in_err-job_at.field-0.0 in
+    let fault = document_fault_of c.in_err-job_at.field-0.0 in
     rw (p.1, p.2) (fails_on fault one all (λ is.
     job_stops c.args.rms (rows_in c.loop-i.jobs.items) fault (c.loop-i.i + 1) c.args.items.now
     c.loop-i.i c.index-items-i.result all

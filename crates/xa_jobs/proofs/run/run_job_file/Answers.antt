@@ -1,5 +1,5 @@
 use Rattle.std.proofs.lemmas.Result.{err_from_is_err_and}
-use Rattle.xa_jobs.specs.JobFiles.{jobs_of, plan_of}
+use Rattle.xa_jobs.specs.JobFiles.{job_plan_of, jobs_of}
 use Rattle.xa_files.proofs.ReadingLemmas.{ends_with}
 use Rattle.xa_files.proofs.TablesInTurnLemmas.{same_err}
 use Rattle.xa_jobs.proofs.RunLemmas.{begun_at_output, explains, not_of_output, not_of_work, run_explains, no_fault, ends_begun, file_run, where_by_work, where_well}
@@ -28,18 +28,18 @@ returns-clause-ok g c =
     c.args.log c.run_and_print.result c.in_ok-jobs.ensures.read c.run_and_print.ensures.ends
 
 pub returns-clause-fault : goal.returns-clause-fault
-returns-clause-fault g c = run_explains (plan_of c.in_ok-jobs.jobs) (jobs_of c.args.text.now) c.run_and_print.result
+returns-clause-fault g c = run_explains (job_plan_of c.in_ok-jobs.jobs) (jobs_of c.args.text.now) c.run_and_print.result
     c.in_ok-jobs.ensures.read c.run_and_print.ensures.fault
 
 pub returns-clause-refused : goal.returns-clause-refused
 returns-clause-refused g c = λ e other. absurd
-    (no_fault (plan_of c.in_ok-jobs.jobs) (jobs_of c.args.text.now) e c.in_ok-jobs.ensures.read other)
+    (no_fault (job_plan_of c.in_ok-jobs.jobs) (jobs_of c.args.text.now) e c.in_ok-jobs.ensures.read other)
 
 pub returns-clause-begun : goal.returns-clause-begun
 returns-clause-begun g c =
     let contents = g.W.Write.contents in
     begun_at_output c.run_and_print.result _ _
-    (λ written. ends_begun c.args.text.now (plan_of c.in_ok-jobs.jobs) (contents c.args.out.now)
+    (λ written. ends_begun c.args.text.now (job_plan_of c.in_ok-jobs.jobs) (contents c.args.out.now)
     (contents c.run_and_print.new.out) c.in_ok-jobs.ensures.read written)
     c.run_and_print.ensures.begun
 

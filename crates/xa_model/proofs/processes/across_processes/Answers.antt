@@ -12,7 +12,8 @@ pub returns-clause-headline : goal.returns-clause-headline
 returns-clause-headline c past o events p = headline_since _ events (joined_faces past o events p.right p.resumes p.allowed).0
 
 pub returns-clause-passes_on : goal.returns-clause-passes_on
-returns-clause-passes_on c past o events next p n = resumes_both _ _ _ next (gone_right past p.right) (joined_faces past o events p.right p.resumes p.allowed).1 n
+returns-clause-passes_on c past o events next p n =
+    resumes_both _ _ _ next (gone_right past p.right) (joined_faces past o events p.right p.resumes p.allowed).1 n
 
 pub returns-clause-all : goal.returns-clause-all
 returns-clause-all c whole p = of_processes_right whole p

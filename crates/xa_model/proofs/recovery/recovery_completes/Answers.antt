@@ -1,4 +1,4 @@
-use Rattle.xa_model.proofs.RecoveryLemmas.RecoveredStart.{recovered}
+use Rattle.xa_model.proofs.RecoveryLemmas.RecoveryCalls.{recovered}
 use Rattle.xa_model.proofs.recovery.recovery_completes.Goals as goal
 
 pub returns : goal.returns

@@ -1,6 +1,6 @@
 use Rattle.std.proofs.Common.{◌+◌, ◌∙◌, ap, drop, sym}
 use Rattle.std.specs.Prelude.{Some}
-use Rattle.xa_requests.specs.Names.{each, gtrid_named}
+use Rattle.xa_requests.specs.Names.{each_named, gtrid_named}
 use Rattle.xa_requests.proofs.EachLemmas.{ends, goes_on, stops, texts, with_front}
 use Rattle.xa_requests.proofs.names.gtrids_named.Goals as goal
 
@@ -11,7 +11,7 @@ returns-in_default c =
 
 pub loop-word-preserved : goal.loop-word-preserved
 loop-word-preserved c =
-    ap (λ items. with_front gtrid_named items (each gtrid_named (texts (drop (c.loop-word.word-index + 1) c.args.words.now)))) c.in_ok-push.ensures.items
+    ap (λ items. with_front gtrid_named items (each_named gtrid_named (texts (drop (c.loop-word.word-index + 1) c.args.words.now)))) c.in_ok-push.ensures.items
     ∙ goes_on gtrid_named c.loop-word.gtrids.items c.in-Some.gtrid c.args.words.now c.loop-word.word-index _ _ c.loop-word-test.true (sym c.in-Some.ensures)
     c.loop-word.invariant
 

@@ -1,6 +1,6 @@
 use Rattle.std.proofs.Common.{[], refl, subst, sym}
 use Rattle.xa_model.specs.Protocol.{RightOrigin}
-use Rattle.xa_scenario.specs.Plays.{IsPlay, Performs}
+use Rattle.xa_scenario.specs.Plays.{IsPlay, PerformsSteps}
 use Rattle.xa_scenario.specs.Runs.{IsStartOf}
 use Rattle.xa_scenario.specs.Scenarios.{plan_of}
 use Rattle.xa_scenario.proofs.PlayLemmas.{performs_also}
@@ -13,8 +13,8 @@ returns-clause-run g c =
     let look = g.R.ResourceManager.look in
     let plan = plan_of c.args.scenario.now in
     let system = c.play.new.system in
-    let played = subst (λ entries. Performs (IsPlay [] entries) c.args.system.events system.events) c.deref.ensures.value
-    (subst (λ gtrids. Performs (IsPlay gtrids c.deref.result.now) c.args.system.events system.events) c.new.ensures.items
+    let played = subst (λ entries. PerformsSteps (IsPlay [] entries) c.args.system.events system.events) c.deref.ensures.value
+    (subst (λ gtrids. PerformsSteps (IsPlay gtrids c.deref.result.now) c.args.system.events system.events) c.new.ensures.items
     (performs_also (λ steps h. h.0) c.in_ok-play.ensures.performs)) in
     let start = origin_in look system in
     let begins = subst (IsStartOf plan) (sym c.in_ok-play.ensures.start) c.requires.start in

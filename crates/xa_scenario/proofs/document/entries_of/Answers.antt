@@ -4,7 +4,7 @@ use Rattle.std.proofs.lemmas.List.{map_push}
 use Rattle.toml.specs.View.{view, items_view}
 use Rattle.xa_scenario.specs.Scenarios.{entries_from, entry_at, names_after}
 use Rattle.xa_scenario.proofs.EntryLemmas.{goes_on, stops, ends, names_after-some, names_after-none}
-use Rattle.xa_files.specs.Refusals.{fault_of}
+use Rattle.xa_files.specs.Misfits.{document_fault_of}
 use Rattle.xa_files.proofs.DocumentLemmas.{fails_on}
 use Rattle.xa_scenario.proofs.document.entries_of.Goals as goal
 use Rattle.xa_scenario.proofs.document.entries_of.Goals.{in-Some+in_ok-push-2, in_default}
@@ -14,7 +14,7 @@ returns-in_err-entry_at c =
     let p = err_from_is_err_and c.from_residual-in_err-entry_at.result c.from_residual-in_err-entry_at.ensures.1 in
     let all = entries_from 1 (map string_bytes c.args.names.now) (items_view c.args.items.now) in
     let names = map (λ name. name.now) c.loop-i.begun.items in
-    let fault = fault_of c.in_err-entry_at.field-0.0 in
+    let fault = document_fault_of c.in_err-entry_at.field-0.0 in
     rw (p.1, p.2) (fails_on fault (entry_at (c.loop-i.i + 1) names (view c.index-items-i.result)) all
     (λ is. stops c.loop-i.entries.items fault (c.loop-i.i + 1) names c.args.items.now c.loop-i.i c.index-items-i.result all
     c.loop-i-test.true c.index-items-i.is is c.loop-i.invariant)

@@ -4,7 +4,7 @@ use Rattle.std.specs.Io.KnownBytes.{Appends}
 use Rattle.xa_files.proofs.TablesInTurnLemmas.{same_err}
 use Rattle.xa_files.specs.Outputs.{AppendsBeginning}
 use Rattle.xa_rm.specs.contracts.mem_rm.MemRmResourceManager.TheImpl as memory
-use Rattle.xa_scenario.specs.Files.{AreAlike}
+use Rattle.xa_scenario.specs.Files.{AreOfOneSize}
 use Rattle.xa_scenario.specs.Processes.{IsLast, heading, shown}
 use Rattle.xa_scenario.specs.Replies.{trace_lines}
 use Rattle.xa_scenario.specs.Scenarios.{plan_of}
@@ -17,7 +17,7 @@ use Rattle.xa_scenario.proofs.processes.run_scenarios.Goals as goal
 pub first_process-requires-clause-sized : goal.first_process-requires-clause-sized
 first_process-requires-clause-sized g c =
     sized_first (plan_of c.in-Some.first.now) (map plan_of c.in-Some.later.now)
-    (subst (λ xs. AreAlike (map plan_of xs)) c.in-Some.ensures.cases.0 c.requires.alike)
+    (subst (λ xs. AreOfOneSize (map plan_of xs)) c.in-Some.ensures.cases.0 c.requires.alike)
 
 pub loop-i-init : goal.loop-i-init
 loop-i-init g c = (
@@ -36,14 +36,14 @@ loop-i-init g c = (
 pub next_process-requires-clause-sized : goal.next_process-requires-clause-sized
 next_process-requires-clause-sized g c =
     let inv = c.loop-i.invariant in
-    sized_later plan_of inv.0 c.in-Some.later.now c.loop-i.i c.index-later-i.result (subst AreAlike (sym inv.1) c.requires.alike)
+    sized_later plan_of inv.0 c.in-Some.later.now c.loop-i.i c.index-later-i.result (subst AreOfOneSize (sym inv.1) c.requires.alike)
     c.loop-i-test.true c.index-later-i.is
 
 pub next_process-requires-clause-count : goal.next_process-requires-clause-count
 next_process-requires-clause-count g c =
     let inv = c.loop-i.invariant in
     inv.2.last.count
-    ∙ sym (as_large plan_of inv.0 c.in-Some.later.now c.loop-i.i c.index-later-i.result (subst AreAlike (sym inv.1) c.requires.alike)
+    ∙ sym (as_large plan_of inv.0 c.in-Some.later.now c.loop-i.i c.index-later-i.result (subst AreOfOneSize (sym inv.1) c.requires.alike)
     c.loop-i-test.true c.index-later-i.is)
 
 pub returns-in_err-write_text-clause-begun : goal.returns-in_err-write_text-clause-begun
@@ -91,7 +91,7 @@ loop-i-preserved g c =
     let more = plans ++ plan_of x ∷ [] in
     let printed = inv.2 in
     let piece = heading (i + 2) ++ trace_lines 1 next.system.events in
-    let large = as_large plan_of inv.0 later i x (subst AreAlike (sym inv.1) c.requires.alike) c.loop-i-test.true c.index-later-i.is in
+    let large = as_large plan_of inv.0 later i x (subst AreOfOneSize (sym inv.1) c.requires.alike) c.loop-i-test.true c.index-later-i.is in
     let last = subst (λ rms. IsLast see c.args.log rms more next.gtrids.items next.names.items next.system ((printed.before ++ printed.piece) ++ piece)) large
     (c.in_ok-process-2.ensures.last c.args.log plans (printed.before ++ printed.piece) (counted plan_of inv.0 later i (omega (arith, c.loop-i-test.true)))
     (subst (λ rms. IsLast see c.args.log rms plans process.gtrids.items process.names.items process.system (printed.before ++ printed.piece)) (sym large)

@@ -1,7 +1,7 @@
 use Rattle.std.proofs.Common.{[], string_bytes, subst, sym}
 use Rattle.std.proofs.lemmas.Result.{on_ok_weaker}
 use Rattle.xa_model.specs.Protocol.{RightOrigin}
-use Rattle.xa_scenario.specs.Plays.{IsPlay, Performs}
+use Rattle.xa_scenario.specs.Plays.{IsPlay, PerformsSteps}
 use Rattle.xa_scenario.specs.Runs.{IsRunOf, IsTextOf}
 use Rattle.xa_scenario.specs.Scenarios.{plan_of}
 use Rattle.xa_scenario.proofs.PlayLemmas.{performs_also}
@@ -15,8 +15,8 @@ returns-clause-prints g c =
     let contents = g.W.Write.contents in
     let plan = plan_of c.args.scenario.now in
     let system = c.play.new.system in
-    let played = subst (λ entries. Performs (IsPlay [] entries) c.args.system.events system.events) c.deref.ensures.value
-    (subst (λ gtrids. Performs (IsPlay gtrids c.deref.result.now) c.args.system.events system.events) c.new.ensures.items
+    let played = subst (λ entries. PerformsSteps (IsPlay [] entries) c.args.system.events system.events) c.deref.ensures.value
+    (subst (λ gtrids. PerformsSteps (IsPlay gtrids c.deref.result.now) c.args.system.events system.events) c.new.ensures.items
     (performs_also (λ steps h. h.0) c.in_ok-play.ensures.performs)) in
     let start = origin_in look c.args.system in
     let headline = c.agree.ensures.headline (subst RightOrigin (sym c.in_ok-play.ensures.start) c.requires.right) in
@@ -39,8 +39,8 @@ returns-clause-begun g c =
     let contents = g.W.Write.contents in
     let plan = plan_of c.args.scenario.now in
     let system = c.play.new.system in
-    let played = subst (λ entries. Performs (IsPlay [] entries) c.args.system.events system.events) c.deref.ensures.value
-    (subst (λ gtrids. Performs (IsPlay gtrids c.deref.result.now) c.args.system.events system.events) c.new.ensures.items
+    let played = subst (λ entries. PerformsSteps (IsPlay [] entries) c.args.system.events system.events) c.deref.ensures.value
+    (subst (λ gtrids. PerformsSteps (IsPlay gtrids c.deref.result.now) c.args.system.events system.events) c.new.ensures.items
     (performs_also (λ steps h. h.0) c.in_ok-play.ensures.performs)) in
     let start = origin_in look c.args.system in
     let headline = c.agree.ensures.headline (subst RightOrigin (sym c.in_ok-play.ensures.start) c.requires.right) in

@@ -6,8 +6,9 @@ use Rattle.sqlite.specs.Value.{owned}
 use Rattle.xa_log.specs.Content.{without_decision}
 use Rattle.xa_sql_log.proofs.Texts.{delete_decision, delete_decision_plain}
 use Rattle.xa_sql_log.proofs.Contents.{gtrid_params, two_params}
-use Rattle.xa_sql_log.proofs.States.{opened_clean, did_makes, held_before, ran_however_many, run_makes, run_changes}
-use Rattle.xa_sql_log.proofs.DecisionRows.{deletes, deletes_some, delete_commits}
+use Rattle.xa_sql_log.proofs.States.{opened_clean, did_makes}
+use Rattle.xa_sql_log.proofs.StatesAfter.{held_before, ran_however_many, run_makes, run_changes}
+use Rattle.xa_sql_log.proofs.DecisionDeletes.{deletes, deletes_some, delete_commits}
 use Rattle.xa_sql_log.proofs.decisions.done.Goals as goal
 
 pub changed-requires : goal.changed-requires

@@ -7,9 +7,10 @@ use Rattle.xa_log.specs.declared.decision_log.Logged.TheVariants.{New}
 use Rattle.xa_log.proofs.Parts.{if_ok, some_and}
 use Rattle.xa_sql_log.specs.Sql.{AreThere, AreThereIn, content_in}
 use Rattle.xa_sql_log.proofs.GroupedRows.{new_are_there}
-use Rattle.xa_sql_log.proofs.Inside.{again, from_kept, kept_anyway, on_ok_gives}
+use Rattle.xa_sql_log.proofs.Inside.{again, from_kept, kept_anyway}
 use Rattle.xa_sql_log.proofs.States.{opened_clean}
 use Rattle.xa_sql_log.proofs.groups.commit_all.Goals as goal
+use Rattle.xa_base.proofs.Options.{on_ok}
 
 none_named : (ds : List Decision) (answers items : List Logged) (k : ℕ) → answers ≡ items → items ≡ replicate k New → (x : Content) → AreThere ds answers x
 none_named ds answers items k value is x = subst (λ l. AreThere ds l x) (sym (value ∙ is)) (new_are_there ds k x)
@@ -45,7 +46,7 @@ returns-in-Err-Store-clause-ok g c order clean =
     let there : AreThereIn c.args.decisions.now c.as_slice.result.now a =
     λ x _. none_named c.args.decisions.now _ _ _ c.as_slice.ensures.value c.in_ok-answers.ensures.ok x in
     let early = c.write_missing-in-Err-Store.ensures.changes.honest clean in
-    on_ok_gives c.write_missing-in-Err-Store.result _ _
+    on_ok c.write_missing-in-Err-Store.result _ _
     (from_kept (λ x. content_in d ≡ Some (with_commits c.args.decisions.now x)) (content_in a) (content_in b) (c.in-Err-Store.ensures.kept there order early))
     (c.write_missing-in-Err-Store.ensures.ok ((c.in-Err-Store.ensures.changes there).order order) clean)
 

@@ -1,6 +1,6 @@
 use Rattle.std.proofs.Common.{◌<◌, ◌∙◌, arith, length, sym}
 use Rattle.sqlite.specs.Held.{state}
-use Rattle.xa_sql_log.proofs.GroupedRows.{found_all, found_more, some_asked}
+use Rattle.xa_sql_log.proofs.FoundDecisions.{found_all, found_more, some_asked}
 use Rattle.xa_sql_log.proofs.groups.find_each.Goals as goal
 
 pub loop-i-preserved : goal.loop-i-preserved

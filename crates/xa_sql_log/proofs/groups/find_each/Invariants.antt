@@ -1,6 +1,6 @@
 use Rattle.std.proofs.Common.{◌≡◌, ◌≤◌, length, vec_capacity, vec_len}
 use Rattle.sqlite.specs.Held.{state}
-use Rattle.xa_sql_log.proofs.GroupedRows.{HasFound}
+use Rattle.xa_sql_log.proofs.FoundDecisions.{HasFound}
 use Rattle.xa_sql_log.proofs.groups.find_each.Given as goal
 
 abbrev pub invariant-loop-i : goal.invariant-loop-i

@@ -4,7 +4,7 @@ use Rattle.sqlite.specs.State.{HasCleanDisk}
 use Rattle.sqlite.proofs.Callers.{survives_begin}
 use Rattle.sqlite.proofs.StateLemmas.{survives_then}
 use Rattle.xa_log.specs.Content.{logged_each, with_commits}
-use Rattle.xa_log.specs.Contract.{Keeps, Makes}
+use Rattle.xa_log.specs.Contract.{IsShutOrSame, Makes}
 use Rattle.xa_log.proofs.Parts.{on_err}
 use Rattle.xa_sql_log.specs.Sql.{IsOrderly, MayChange, content_in}
 use Rattle.xa_sql_log.proofs.GroupedRows.{may_begin, told_before}
@@ -126,7 +126,7 @@ returns-in_err-insert_new-clause-kept g c there order =
     let begins = c.transaction-tx.ensures.begun in
     let early : HasCleanDisk (state g.S.Store end) → HasCleanDisk (state g.S.Store mid) = λ clean. omega (arith, c.drop-tx.ensures.survives.clean) in
     subst (λ h. HasCleanDisk (state g.S.Store h)
-    → OnErr c.from_residual.result (Keeps (content_in (state g.S.Store old)) (content_in (state g.S.Store h)))) same
+    → OnErr c.from_residual.result (IsShutOrSame (content_in (state g.S.Store old)) (content_in (state g.S.Store h)))) same
     (λ clean. on_err _ _ (undone_content (state g.S.Store old) (state g.S.Store end) (opened_clean _ _ (g.met.S.Store.shut_if_dirty end.store))
     (undone_after (state g.S.Store old) (state g.S.Store mid) (state g.S.Store end)
     (rw begins at (c.insert_new.ensures.kept (early clean))) (c.drop-tx.ensures.undone clean)) order))
@@ -145,7 +145,7 @@ returns-in_err-of_store-clause-kept g c there order =
     rw begins at (c.in_ok-insert_new.ensures.written clean
     (rw begins (may_begin ds (state g.S.Store old) (state g.S.Store mid) (state g.S.Store end) c.args.answers.now there order))) in
     subst (λ h. HasCleanDisk (state g.S.Store h)
-    → OnErr c.from_residual-in_err-of_store.result (Keeps (content_in (state g.S.Store old)) (content_in (state g.S.Store h)))) same
+    → OnErr c.from_residual-in_err-of_store.result (IsShutOrSame (content_in (state g.S.Store old)) (content_in (state g.S.Store h)))) same
     (λ clean. on_err _ _ (undone_content (state g.S.Store old) (state g.S.Store end) (opened_clean _ _ (g.met.S.Store.shut_if_dirty end.store))
     (made_failed (with_commits ds) (state g.S.Store old) (state g.S.Store mid) (state g.S.Store end) c.in_err-of_store.ensures.err.1.0
     (rw begins at (c.insert_new.ensures.kept (early clean))) (written (early clean)).made

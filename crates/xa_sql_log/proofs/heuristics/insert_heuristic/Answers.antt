@@ -2,9 +2,10 @@ use Rattle.std.proofs.Common.{◌≡◌, [], ◌∷◌, arith}
 use Rattle.sqlite.specs.Held.{state}
 use Rattle.sqlite.specs.Values.{bound_value}
 use Rattle.sqlite.specs.Value.{owned}
-use Rattle.xa_log.specs.Content.{with_record}
+use Rattle.xa_log.specs.Content.{with_heuristic_record}
 use Rattle.xa_sql_log.proofs.Texts.{insert_heuristic, insert_heuristic_plain}
-use Rattle.xa_sql_log.proofs.States.{held_there, opened_clean, run_ok, run_changes}
+use Rattle.xa_sql_log.proofs.StatesAfter.{held_there, run_ok, run_changes}
+use Rattle.xa_sql_log.proofs.States.{opened_clean}
 use Rattle.xa_sql_log.proofs.HeuristicRows.{end_params, five_params, records, record_commits}
 use Rattle.xa_sql_log.proofs.heuristics.insert_heuristic.Goals as goal
 
@@ -33,7 +34,7 @@ returns-clause-changes g c lacks =
       c.number.ensures,
     )
     (five_params b how c.requires (omega arith) (omega arith)) in
-    run_changes g.S.Store insert_heuristic _ (with_record b how) c.args.conn.now new (opened_clean _ _ (g.met.S.Store.shut_if_dirty new.store))
+    run_changes g.S.Store insert_heuristic _ (with_heuristic_record b how) c.args.conn.now new (opened_clean _ _ (g.met.S.Store.shut_if_dirty new.store))
     (λ mid same ready. records b how c.requires _ given mid ready (lacks _ (held_there _ mid same)) (state g.S.Store new))
     (λ mid same ready. record_commits b how c.requires _ given mid ready (lacks _ (held_there _ mid same)))
     c.run.result c.run.ensures.honest c.run.ensures.ran c.run.ensures.rests c.run.ensures.crash
@@ -60,7 +61,7 @@ returns-clause-ok g c lacks order clean =
       c.number.ensures,
     )
     (five_params b how c.requires (omega arith) (omega arith)) in
-    run_ok g.S.Store insert_heuristic _ (with_record b how) c.args.conn.now new (opened_clean _ _ (g.met.S.Store.shut_if_dirty new.store))
+    run_ok g.S.Store insert_heuristic _ (with_heuristic_record b how) c.args.conn.now new (opened_clean _ _ (g.met.S.Store.shut_if_dirty new.store))
     (λ mid same ready. records b how c.requires _ given mid ready (lacks _ (held_there _ mid same)) (state g.S.Store new))
     (λ mid same ready. record_commits b how c.requires _ given mid ready (lacks _ (held_there _ mid same)))
     c.run.result order (c.run.ensures.ran order clean)

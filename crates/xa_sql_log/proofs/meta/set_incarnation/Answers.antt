@@ -6,7 +6,8 @@ use Rattle.sqlite.specs.declared.types.Value.TheVariants.{Int}
 use Rattle.xa_log.specs.Content.{with_incarnation}
 use Rattle.xa_sql_log.proofs.Texts.{set_incarnation, set_incarnation_plain}
 use Rattle.xa_sql_log.proofs.Contents.{one_param}
-use Rattle.xa_sql_log.proofs.States.{opened_clean, run_ok, run_changes}
+use Rattle.xa_sql_log.proofs.States.{opened_clean}
+use Rattle.xa_sql_log.proofs.StatesAfter.{run_ok, run_changes}
 use Rattle.xa_sql_log.proofs.MetaRows.{updates, update_commits}
 use Rattle.xa_sql_log.proofs.meta.set_incarnation.Goals as goal
 

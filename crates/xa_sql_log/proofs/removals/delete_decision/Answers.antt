@@ -3,7 +3,7 @@ use Rattle.sqlite.specs.Held.{state}
 use Rattle.sqlite.specs.Values.{bound_value}
 use Rattle.sqlite.specs.Value.{owned}
 use Rattle.xa_sql_log.proofs.Contents.{gtrid_params, two_params}
-use Rattle.xa_sql_log.proofs.DecisionRows.{deletes_inside}
+use Rattle.xa_sql_log.proofs.DecisionDeletes.{deletes_inside}
 use Rattle.xa_sql_log.proofs.removals.delete_decision.Goals as goal
 
 pub returns-clause-taken : goal.returns-clause-taken

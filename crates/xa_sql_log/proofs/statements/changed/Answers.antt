@@ -3,7 +3,8 @@ use Rattle.sqlite.specs.State.{HasCleanDisk, Executes, CommitsBy}
 use Rattle.sqlite.specs.Held.{state}
 use Rattle.sqlite.specs.Values.{bound}
 use Rattle.xa_log.proofs.Parts.{on_err}
-use Rattle.xa_sql_log.proofs.States.{rests_not_run, rests_execute, rests_after}
+use Rattle.xa_sql_log.proofs.States.{rests_not_run, rests_execute}
+use Rattle.xa_sql_log.proofs.StatesAfter.{rests_after}
 use Rattle.xa_sql_log.proofs.statements.changed.Goals as goal
 
 pub returns-in_err-statement-clause-rests : goal.returns-in_err-statement-clause-rests

@@ -1,4 +1,5 @@
-use Rattle.std.proofs.Common.{rules, inl, inr, [], ap, subst, ◌∙◌, pos, Result, Ok, Err, IfErr}
+use Rattle.std.proofs.Common.{rules, inl, inr, [], ap, subst, ◌∙◌, pos}
+use Rattle.std.proofs.lemmas.Result.{IfErr-weaker}
 use Rattle.std.specs.List.{Contains}
 use Rattle.sqlite.specs.declared.types.Value.TheVariants.{Int}
 use Rattle.sqlite.specs.Held.{state}
@@ -8,10 +9,6 @@ use Rattle.xa_log.proofs.Parts.{on_err, on_ok}
 use Rattle.xa_sql_log.proofs.States.{rests_query}
 use Rattle.xa_sql_log.proofs.Versions.{read_meta, looks, looks_at, number_of_one, names, look_survives}
 use Rattle.xa_sql_log.proofs.version.check_version.Goals as goal
-
-if_err : {A E : Type 0} (r : Result A E) (P Q : E → Type 0) → ((e : E) → P e → Q e) → IfErr r P → IfErr r Q
-if_err (Ok x) P Q f h = tt
-if_err (Err e) P Q f h = f e h
 
 pub returns-in_err-rows-clause-rests : goal.returns-in_err-rows-clause-rests
 returns-in_err-rows-clause-rests g c has clean =
@@ -61,7 +58,7 @@ returns-clause-known g c i row clean =
     looks_at c.args.version i (state g.S.Store c.args.conn.now) (state g.S.Store c.query_all.new.self) c.in_ok-rows.rows.items row
     (rw c.in_ok-rows.ensures.ok at (c.query_all.ensures.ok clean)) in
     let found = c.in_ok-found.ensures.ok in
-    if_err c.match_version.result _ _
+    IfErr-weaker c.match_version.result _ _
     (λ fault other. absurd (other.1 (number_of_one c.args.version i c.in_ok-found.found _ found.0 (c.as_slice.ensures.value ∙ is) found.1 found.2)))
     c.match_version.ensures.err
 

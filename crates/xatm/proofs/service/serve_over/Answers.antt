@@ -1,7 +1,7 @@
 use Rattle.std.proofs.Common.{◌≡◌, ◌⊎◌, inl, inr, ℕ, List, Option, refl, sym, subst}
 use Rattle.std.specs.Prelude.{Result, Err}
 use Rattle.std.proofs.lemmas.Result.{err_from_is_err_and}
-use Rattle.xa_coordinator.proofs.LineLemmas.{keeps_all}
+use Rattle.xa_server.proofs.LineLemmas.{keeps_all}
 use Rattle.xa_log.specs.declared.decision_log.DecisionLog as DecisionLog
 use Rattle.xa_tm.specs.StartFaults.{IsOnlyRead, IsToBlame}
 use Rattle.xa_tm.specs.declared.manager.start.StartFault.{StartFault}
@@ -30,18 +30,18 @@ starts_not {L = L} logs handed written fault failure log memory is = record {
       (why_not fault (IsToBlame logs handed) ((left : L) × IsOnlyRead logs handed left) log memory);
 }
 
-pub returns-in_err-coordinator-clause-broken : goal.returns-in_err-coordinator-clause-broken
-returns-in_err-coordinator-clause-broken g c =
+pub returns-in_err-server-clause-broken : goal.returns-in_err-server-clause-broken
+returns-in_err-server-clause-broken g c =
     let p = err_from_is_err_and c.from_residual.result c.from_residual.ensures.1 in
-    let e = c.in_err-coordinator.ensures in
+    let e = c.in_err-server.ensures in
     rw p.1 (inl (starts_not g.L.DecisionLog c.args.log (g.W.Write.contents c.args.out.now) _ p.0 e.log_fault e.memory_fault p.2))
 
 pub returns-in_err-serve_under-clause-broken : goal.returns-in_err-serve_under-clause-broken
 returns-in_err-serve_under-clause-broken g c =
     let p = err_from_is_err_and c.from_residual-in_err-serve_under.result c.from_residual-in_err-serve_under.ensures.1 in
-    let made = c.in_ok-coordinator.ensures in
+    let made = c.in_ok-server.ensures in
     rw p.1 (inr (
-      c.in_ok-coordinator.coordinator,
+      c.in_ok-server.server,
       c.serve_under.new.self,
       record {
         starts = record { stands = made.stands; old = made.old; over = made.over; holds = made.holds };
@@ -51,8 +51,8 @@ returns-in_err-serve_under-clause-broken g c =
 
 pub returns-clause-served : goal.returns-clause-served
 returns-clause-served g c =
-    let made = c.in_ok-coordinator.ensures in (
-      c.in_ok-coordinator.coordinator,
+    let made = c.in_ok-server.ensures in (
+      c.in_ok-server.server,
       c.serve_under.new.self,
       record {
         starts = record { stands = made.stands; old = made.old; over = made.over; holds = made.holds };

@@ -31,7 +31,8 @@ returns g c tr stands few =
     let v = c.args.times in
     let at = rm_read see tr p r c.index_mut.result.now stands c.in_default.ensures.there c.index_mut.ensures.value in
     script_told see tr (Steps.Busy r x v) (λ b. PutOff b v) p r c.index_mut.result.now c.retry.new.self c.noted.result x
-    (retrying v) c.retry.result stands c.requires.has_xid at c.noted.ensures (λ tr stands. sym (ap result_err c.in_default.is) ∙ c.check_script.ensures.why tr stands) refl
+    (retrying v) c.retry.result stands c.requires.has_xid at c.noted.ensures
+    (λ tr stands. sym (ap result_err c.in_default.is) ∙ c.check_script.ensures.why tr stands) refl
     (λ b named here told. absurd (never_scripts c.retry.result told c.retry.ensures.never_script))
     (λ b named here other. ap not (is_there r (name_of x) b named here))
     refl tt (λ b named. ap (λ m. known.happened (Steps.Busy r m v) Replies.Noted) named) c.requires.has_xid (λ b. put_off tr b v)

@@ -8,7 +8,7 @@ use Rattle.xa_base.specs.declared.reply.Reply.TheVariants as Replies
 use Rattle.xa_base.specs.declared.step.Step.TheVariants as Steps
 use Rattle.xa_model.proofs.Replies.Guards.{issue_why}
 use Rattle.xa_line.specs.Grid.{line_at}
-use Rattle.xa_line.specs.Traffic.{barred, issued}
+use Rattle.xa_line.specs.Traffic.{barred, calls_issued}
 use Rattle.xa_line.proofs.SeveralCalls.{line_took}
 use Rattle.xa_tm.specs.Calls.{book_in}
 use Rattle.xa_system.specs.Parts.{sees}
@@ -60,7 +60,8 @@ returns-then-not-index g c =
     refused_goes see (Steps.Issue t r call) p c.refused-then-not-index.result Refusals.RmDown c.requires.has_xid c.refused-then-not-index.ensures
     (λ tr stands. issue_found see tr p t r c.index.result.now call stands there up
     (site_read see tr p t r c.index.result.now stands there c.index.ensures)
-    ∙ ap (λ u. issue_why true true u (barred (issued (line_at p.lines t r)) call) (refusal_in (book_in p.manager) (Steps.Issue t r (map_call name_of call)))
+    ∙ ap (λ u. issue_why true true u (barred (calls_issued (line_at p.lines t r)) call)
+    (refusal_in (book_in p.manager) (Steps.Issue t r (map_call name_of call)))
     (nat_le 64 (length (line_at p.lines t r).calls.waiting))) c.if-not-index.true)
 
 pub returns-in-Err : goal.returns-in-Err
@@ -72,7 +73,7 @@ returns-in-Err g c =
     let call = c.args.call.now in
     let there = sym c.has.ensures.value ∙ c.if-not-has.false in
     let up = sym c.is_up.ensures ∙ c.if-not-is_up.false in
-    let barred_so = sym (c.check.ensures ∙ ap (λ l. barred (issued l) call) c.line.ensures.value) ∙ ap result_err c.in-Err.is in
+    let barred_so = sym (c.check.ensures ∙ ap (λ l. barred (calls_issued l) call) c.line.ensures.value) ∙ ap result_err c.in-Err.is in
     refused_goes see (Steps.Issue t r call) p c.refused-in-Err.result c.in-Err.refusal c.requires.has_xid c.refused-in-Err.ensures
     (λ tr stands. issue_found see tr p t r c.index.result.now call stands there up
     (site_read see tr p t r c.index.result.now stands there c.index.ensures)
@@ -88,7 +89,7 @@ returns-in-Some g c =
     let call = c.args.call.now in
     let there = sym c.has.ensures.value ∙ c.if-not-has.false in
     let up = sym c.is_up.ensures ∙ c.if-not-is_up.false in
-    let barred_so = sym (c.check.ensures ∙ ap (λ l. barred (issued l) call) c.line.ensures.value) ∙ ap result_err c.in_default.is in
+    let barred_so = sym (c.check.ensures ∙ ap (λ l. barred (calls_issued l) call) c.line.ensures.value) ∙ ap result_err c.in_default.is in
     refused_goes see (Steps.Issue t r call) p c.refused-in-Some.result c.in-Some.refusal c.requires.has_xid
     c.refused-in-Some.ensures
     (λ tr stands. issue_found see tr p t r c.index.result.now call stands there up
@@ -105,7 +106,7 @@ returns-then-free_calls-eq0 g c =
     let call = c.args.call.now in
     let there = sym c.has.ensures.value ∙ c.if-not-has.false in
     let up = sym c.is_up.ensures ∙ c.if-not-is_up.false in
-    let barred_so = sym (c.check.ensures ∙ ap (λ l. barred (issued l) call) c.line.ensures.value) ∙ ap result_err c.in_default.is in
+    let barred_so = sym (c.check.ensures ∙ ap (λ l. barred (calls_issued l) call) c.line.ensures.value) ∙ ap result_err c.in_default.is in
     let free = sym c.may_issue.ensures ∙ c.in_default-may_issue.is in
     let full =
     is_full_at c.free_calls.result (length (line_at p.lines t r).calls.waiting)
@@ -124,7 +125,7 @@ returns-in-Err-note_issued g c tr stands few =
     let call = c.args.call.now in
     let there = sym c.has.ensures.value ∙ c.if-not-has.false in
     let up = sym c.is_up.ensures ∙ c.if-not-is_up.false in
-    let barred_so = sym (c.check.ensures ∙ ap (λ l. barred (issued l) call) c.line.ensures.value) ∙ ap result_err c.in_default.is in
+    let barred_so = sym (c.check.ensures ∙ ap (λ l. barred (calls_issued l) call) c.line.ensures.value) ∙ ap result_err c.in_default.is in
     let free = sym c.may_issue.ensures ∙ c.in_default-may_issue.is in
     let full =
     has_room_at c.free_calls.result (length (line_at p.lines t r).calls.waiting)
@@ -133,7 +134,8 @@ returns-in-Err-note_issued g c tr stands few =
     issue_found see tr p t r c.index.result.now call stands there up (site_read see tr p t r c.index.result.now stands there c.index.ensures)
     ∙ λ i. issue_why true true (c.if-not-index.false i) (barred_so i) (free i) (full i) in
     lacking_goes see tr (Steps.Issue t r call) p c.note_issued.new.self c.refused-in-Err-note_issued.result stands c.requires.has_xid
-    (c.refused-in-Err-note_issued.ensures ∙ ap (λ n. Replies.Refused n) c.in-Err-note_issued.ensures.err.0) none tt c.in-Err-note_issued.ensures.err.1 c.in-Err-note_issued.ensures.log
+    (c.refused-in-Err-note_issued.ensures ∙ ap (λ n. Replies.Refused n) c.in-Err-note_issued.ensures.err.0) none tt c.in-Err-note_issued.ensures.err.1
+    c.in-Err-note_issued.ensures.log
 
 pub returns : goal.returns
 returns g c tr stands few =
@@ -144,7 +146,7 @@ returns g c tr stands few =
     let call = c.args.call.now in
     let there = sym c.has.ensures.value ∙ c.if-not-has.false in
     let up = sym c.is_up.ensures ∙ c.if-not-is_up.false in
-    let barred_so = sym (c.check.ensures ∙ ap (λ l. barred (issued l) call) c.line.ensures.value) ∙ ap result_err c.in_default.is in
+    let barred_so = sym (c.check.ensures ∙ ap (λ l. barred (calls_issued l) call) c.line.ensures.value) ∙ ap result_err c.in_default.is in
     let free = sym c.may_issue.ensures ∙ c.in_default-may_issue.is in
     let full =
     has_room_at c.free_calls.result (length (line_at p.lines t r).calls.waiting)

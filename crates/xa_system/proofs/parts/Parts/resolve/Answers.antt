@@ -30,7 +30,8 @@ issue_all-requires-clause-open g c =
     let p = c.args.self.now in
     let r = c.args.rm in
     recovery_open see p r c.resolve_len-count.result (resolved_in (book_in p.manager) r) c.in-Ok.calls.items
-    (λ tr stands. sym (ap result_err c.in_default.is) ∙ c.check_recovery.ensures tr stands) c.in-Ok.ensures.ok c.line_mut.result.now c.line_mut.ensures.value c.requires
+    (λ tr stands. sym (ap result_err c.in_default.is) ∙ c.check_recovery.ensures tr stands) c.in-Ok.ensures.ok c.line_mut.result.now c.line_mut.ensures.value
+    c.requires
 
 pub issue_all-requires-clause-unclosed : goal.issue_all-requires-clause-unclosed
 issue_all-requires-clause-unclosed g c =
@@ -55,5 +56,6 @@ returns-in-Err-resolve g c =
     let see = sees g.R.ResourceManager.look g.L.DecisionLog.moment in
     let p = c.args.self.now in
     let r = c.args.rm in
-    resolve_lacks see p r c.resolve_len-count.result c.in-Err-resolve.refusal c.refused-in-Err-resolve.result c.refused-in-Err-resolve.ensures c.in-Err-resolve.ensures.err
+    resolve_lacks see p r c.resolve_len-count.result c.in-Err-resolve.refusal c.refused-in-Err-resolve.result c.refused-in-Err-resolve.ensures
+    c.in-Err-resolve.ensures.err
     c.resolve_len-count.ensures (λ tr stands. sym (ap result_err c.in_default.is) ∙ c.check_recovery.ensures tr stands)

@@ -32,7 +32,8 @@ issue_all-requires-clause-open g c =
     let p = c.args.self.now in
     let r = c.args.rm in
     recovery_open see p r c.resolve_open_len-count.result (resolved_open_in (book_in p.manager) r) c.in-Ok.calls.items
-    (λ tr stands. sym (ap result_err c.in_default.is) ∙ c.check_recovery.ensures tr stands) c.in-Ok.ensures.calls c.line_mut.result.now c.line_mut.ensures.value c.requires
+    (λ tr stands. sym (ap result_err c.in_default.is) ∙ c.check_recovery.ensures tr stands) c.in-Ok.ensures.calls c.line_mut.result.now c.line_mut.ensures.value
+    c.requires
 
 pub issue_all-requires-clause-unclosed : goal.issue_all-requires-clause-unclosed
 issue_all-requires-clause-unclosed g c =
@@ -50,7 +51,8 @@ returns-in-Ok g c =
     let r = c.args.rm in
     let put = c.issue_all.ensures ∙ ap (λ (t : Traffic). record t { calls = with_more t.calls c.in-Ok.calls.items }) c.line_mut.ensures.value in
     open_did see p r c.resolve_open_len-count.result c.in-Ok.calls.items c.issue_all.new.self c.resolve_open.new.self c.new.result c.new.ensures
-    c.resolve_open_len-count.ensures (λ tr stands. sym (ap result_err c.in_default.is) ∙ c.check_recovery.ensures tr stands) c.in-Ok.ensures.calls put c.in-Ok.ensures.ok
+    c.resolve_open_len-count.ensures (λ tr stands. sym (ap result_err c.in_default.is) ∙ c.check_recovery.ensures tr stands) c.in-Ok.ensures.calls put
+    c.in-Ok.ensures.ok
     (λ tr. log_kept see.moment (ResolvedOpen r) p.manager c.resolve_open.new.self (λ n. refl) c.in-Ok.ensures.log c.in-Ok.ensures.tied)
 
 pub returns-in-Err-resolve_open : goal.returns-in-Err-resolve_open
@@ -58,5 +60,7 @@ returns-in-Err-resolve_open g c =
     let see = sees g.R.ResourceManager.look g.L.DecisionLog.moment in
     let p = c.args.self.now in
     let r = c.args.rm in
-    open_lacks see p c.resolve_open.new.self r c.resolve_open_len-count.result c.in-Err-resolve_open.refusal c.refused-in-Err-resolve_open.result c.refused-in-Err-resolve_open.ensures
-    c.in-Err-resolve_open.ensures.err c.resolve_open_len-count.ensures (λ tr stands. sym (ap result_err c.in_default.is) ∙ c.check_recovery.ensures tr stands) c.in-Err-resolve_open.ensures.log
+    open_lacks see p c.resolve_open.new.self r c.resolve_open_len-count.result c.in-Err-resolve_open.refusal c.refused-in-Err-resolve_open.result
+    c.refused-in-Err-resolve_open.ensures
+    c.in-Err-resolve_open.ensures.err c.resolve_open_len-count.ensures (λ tr stands. sym (ap result_err c.in_default.is) ∙ c.check_recovery.ensures tr stands)
+    c.in-Err-resolve_open.ensures.log

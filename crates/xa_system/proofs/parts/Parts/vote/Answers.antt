@@ -30,7 +30,8 @@ returns g c tr stands few =
     let v = c.args.vote in
     let at = rm_read see tr p r c.index_mut.result.now stands c.in_default.ensures.there c.index_mut.ensures.value in
     script_told see tr (Steps.Vote r x v) (λ b. Voted b v) p r c.index_mut.result.now c.vote.new.self c.noted.result x
-    (voting v) c.vote.result stands c.requires.has_xid at c.noted.ensures (λ tr stands. sym (ap result_err c.in_default.is) ∙ c.check_script.ensures.why tr stands) refl
+    (voting v) c.vote.result stands c.requires.has_xid at c.noted.ensures
+    (λ tr stands. sym (ap result_err c.in_default.is) ∙ c.check_script.ensures.why tr stands) refl
     (λ b named here told. vote_bad tr r (name_of x) b v ((see.look c.index_mut.result.now.rm).held x).standing named here
     (held_here see tr p r c.index_mut.result.now x b at c.requires.has_xid named here stands) (c.vote.ensures.script.0 told))
     (λ b named here other. vote_fine tr r (name_of x) b v ((see.look c.index_mut.result.now.rm).held x).standing named here

@@ -9,7 +9,7 @@ use Rattle.xa_tm.specs.Calls.{book_in, log_in}
 use Rattle.xa_tm.specs.Slots.{TakesIn, honest_in, last_out, log_held, order_in, slot_moment}
 use Rattle.xa_tm.specs.declared.slot.Slot.{Slot}
 use Rattle.xa_system.specs.LogInHistory.{MayHoldRows}
-use Rattle.xa_system.specs.SystemView.{observes, view_of, trace_in}
+use Rattle.xa_system.specs.SystemView.{observes, system_view_of, trace_in}
 use Rattle.xa_model.proofs.AgreementLemmas.Distinct.{doubt_is_new_to}
 use Rattle.xa_tm.proofs.Log.TellsRows.{rows_may_hold}
 use Rattle.xa_tm.specs.BookAndLog.{MayHold}
@@ -19,7 +19,7 @@ use Rattle.xa_system.proofs.system.System.give_log.Goals as goal
 pub returns-clause-back : goal.returns-clause-back
 returns-clause-back g c =
     let see = observes g.R.ResourceManager.look g.L.DecisionLog.moment in
-    let tr = trace_in see.look (view_of c.self.inside) in
+    let tr = trace_in see.look (system_view_of c.self.inside) in
     if_err c.give_log-given.result _ _ (λ e gave. record {
       looks = gave.looks;
       memory = gave.memory;
@@ -28,7 +28,8 @@ returns-clause-back g c =
       other = λ is order honest content held may.
           gave.other is order honest content held
           (subst (λ k. MayHold k content) (sym c.self.invariant.stands.book)
-          (rows_may_hold tr content (doubt_is_new_to tr c.self.invariant.stands.kept.run) (subst (λ v. MayHoldRows (trace_in see.look v) content) (sym c.self.view_is) may)));
+          (rows_may_hold tr content (doubt_is_new_to tr c.self.invariant.stands.kept.run)
+          (subst (λ v. MayHoldRows (trace_in see.look v) content) (sym c.self.view_is) may)));
     }) c.give_log-given.ensures.back
 
 pub invariant_of-self : goal.invariant_of-self

@@ -38,7 +38,8 @@ invariant_of-result g c =
     new_sound see moment c.args.threads rms parts made.parts made.manager c.args.log made.log
     (past_over see c.args.threads rms parts.manager made.manager few past still) (past_old see c.args.threads rms parts.manager made.manager few past still)
     (record { first = c.of-first.result; handed = c.of-handed.result; parts = parts; events = c.in_ok-events.events }) refl
-    (slot_durable moment g.met.L.DecisionLog.durable) some c.in_ok-events.ensures.items c.in_ok-events.ensures.len c.in_ok-events.ensures.exact c.of-first.ensures
+    (slot_durable moment g.met.L.DecisionLog.durable) some c.in_ok-events.ensures.items c.in_ok-events.ensures.len c.in_ok-events.ensures.exact
+    c.of-first.ensures
     c.of-handed.ensures
 
 pub returns-then-not-are_past-clause-only_newer : goal.returns-then-not-are_past-clause-only_newer

@@ -11,7 +11,7 @@ use Rattle.xa_system.specs.KeptLog.{KeepsItsLog}
 use Rattle.xa_tm.specs.Calls.{log_in}
 use Rattle.xa_tm.specs.Slots.{log_held}
 use Rattle.xa_system.proofs.Histories.Standing.{refused_as_nothing, stays_same}
-use Rattle.xa_system.specs.SystemView.{HoldsItsTrace, IsAsBefore, IsFailed, observes, origin_in, view_of, trace_in}
+use Rattle.xa_system.specs.SystemView.{HoldsItsTrace, IsAsBefore, IsFailed, observes, origin_in, system_view_of, trace_in}
 use Rattle.xa_system.proofs.Histories.SystemView.{as_before, began_kept, down_after, failed_so, fault_has_cause, holds, honest_before, other_fault_has_cause, restart_may_follow, restart_may_follow_a_crash, somewhere, sound_then, start_kept, was_allowed}
 use Rattle.xa_system.proofs.system.System.step.Goals as goal
 
@@ -52,7 +52,7 @@ returns-clause-parts g c =
 pub returns-clause-start : goal.returns-clause-start
 returns-clause-start g c =
     let see = observes g.R.ResourceManager.look g.L.DecisionLog.moment in
-    subst (λ v. origin_in see.look (view_of (record {
+    subst (λ v. origin_in see.look (system_view_of (record {
       first = c.self.inside.first;
       handed = c.self.inside.handed;
       parts = c.step.new.self;
@@ -74,7 +74,7 @@ returns-then-len-ge-EVENT_LIMIT-clause-nothing g c n is other = refl
 pub returns-clause-refused : goal.returns-clause-refused
 returns-clause-refused g c n is other =
     let see = observes g.R.ResourceManager.look g.L.DecisionLog.moment in
-    subst (λ v. IsAsBefore see v (view_of (record {
+    subst (λ v. IsAsBefore see v (system_view_of (record {
       first = c.self.inside.first;
       handed = c.self.inside.handed;
       parts = c.step.new.self;
@@ -92,7 +92,8 @@ returns-clause-failed g c is =
     let see = observes g.R.ResourceManager.look g.L.DecisionLog.moment in
     let told = sym (ap (λ p. p.0) c.split-reply.ensures) ∙ is in
     record {
-      down = down_after _ _ c.self.inside c.step.new.self c.push_reserved.new.self c.args.step c.step.result c.split-reply.result.1 c.self.invariant c.step.ensures.goes
+      down = down_after _ _ c.self.inside c.step.new.self c.push_reserved.new.self c.args.step c.step.result c.split-reply.result.1 c.self.invariant
+          c.step.ensures.goes
           (ap (λ p. p.1) c.split-reply.ensures) (rw c.len.ensures at c.if-len-ge-EVENT_LIMIT.false) c.push_reserved.ensures.items told;
       left = subst (λ v. (see.moment v.handed).is_in_order → (see.place (log_in c.step.new.self.manager)).is_honest
           → MayHaveFailed (trace_in see.look v) (log_failed (step_of c.args.step)) (see.place v.log).content
@@ -105,7 +106,7 @@ pub returns-clause-no_restart : goal.returns-clause-no_restart
 returns-clause-no_restart g c is few down =
     let see = observes g.R.ResourceManager.look g.L.DecisionLog.moment in
     let same = ap (λ p. p.0) c.split-reply.ensures in
-    let then = trace_in see.look (view_of c.self.inside) in
+    let then = trace_in see.look (system_view_of c.self.inside) in
     let allowed = was_allowed _ _ c.self.inside c.step.new.self c.args.step c.step.result c.self.invariant c.step.ensures.goes
     (rw c.len.ensures at c.if-len-ge-EVENT_LIMIT.false) in
     let as_restart = subst (λ s. Allowed then (step_of s) (reply_of c.step.result)) is allowed in
@@ -120,7 +121,8 @@ returns-clause-no_restart g c is few down =
     subst IsFailed (sym same) (not_restarted then c.step.result as_restart was_down
     (λ i d h restarted. subst (λ v. IsBeforeNext (trace_in see.look v) holds.content → ⊥) (sym c.self.view_is) holds.other
     (followed then c.step.result as_restart i d h restarted holds.content
-    (found_in (see.place (log_in c.self.inside.parts.manager)).content holds.content i d h held ((c.step.ensures.read i d h is restarted).found in_order holds.honest))))))
+    (found_in (see.place (log_in c.self.inside.parts.manager)).content holds.content i d h held
+    ((c.step.ensures.read i d h is restarted).found in_order holds.honest))))))
 
 pub returns-then-len-ge-EVENT_LIMIT-clause-log :
     goal.returns-then-len-ge-EVENT_LIMIT-clause-log
@@ -132,7 +134,7 @@ returns-clause-log g c =
     let room = rw c.len.ensures at c.if-len-ge-EVENT_LIMIT.false in
     let copied = ap (λ p. p.1) c.split-reply.ensures in
     let durable = slot_durable g.L.DecisionLog.moment g.met.L.DecisionLog.durable in
-    subst (λ v. KeepsItsLog see v (view_of (record {
+    subst (λ v. KeepsItsLog see v (system_view_of (record {
       first = c.self.inside.first;
       handed = c.self.inside.handed;
       parts = c.step.new.self;

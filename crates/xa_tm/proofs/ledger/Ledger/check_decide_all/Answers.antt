@@ -22,7 +22,8 @@ returns-in_err-check_decide c =
     let low : c.loop-i.i < length gs = omega arith in
     let p = err_from_is_err_and c.from_residual.result c.from_residual.ensures.1 in
     ap result_err p.1 ∙ ap (λ n. Some n) p.2
-    ∙ sym (turn_refused (λ g. Steps.Decide g c.args.outcome) decided_again k gs c.loop-i.i _ low _ (sym c.if-is_named.ensures) (sym c.in_err-check_decide.ensures)) ∙ c.loop-i.invariant
+    ∙ sym (turn_refused (λ g. Steps.Decide g c.args.outcome) decided_again k gs c.loop-i.i _ low _ (sym c.if-is_named.ensures)
+    (sym c.in_err-check_decide.ensures)) ∙ c.loop-i.invariant
     ∙ sym (in_turn (λ g. Steps.Decide g c.args.outcome) (λ g. Decided g c.args.outcome) decided_again k (decided_once c.args.outcome) (λ l g h. refl) gs)
 
 pub loop-i-preserved : goal.loop-i-preserved
@@ -30,7 +31,8 @@ loop-i-preserved c =
     let k = as_book c.args.self.now in
     let gs = c.args.gtrids.now in
     let low : c.loop-i.i < length gs = omega arith in
-    sym (turn_refused (λ g. Steps.Decide g c.args.outcome) decided_again k gs c.loop-i.i _ low None (sym c.if-is_named.ensures) (sym c.in_ok-check_decide.ensures)) ∙ c.loop-i.invariant
+    sym (turn_refused (λ g. Steps.Decide g c.args.outcome) decided_again k gs c.loop-i.i _ low None (sym c.if-is_named.ensures)
+    (sym c.in_ok-check_decide.ensures)) ∙ c.loop-i.invariant
 
 pub returns : goal.returns
 returns c =

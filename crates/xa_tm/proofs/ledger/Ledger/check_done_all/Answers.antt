@@ -12,7 +12,8 @@ returns-then-is_named c =
     let k = as_book c.args.self.now in
     let gs = c.args.gtrids.now in
     let low : c.loop-i.i < length gs = omega arith in
-    ap (λ n. Some n) c.refusal_without_row.ensures ∙ sym (turn_named (λ g. Steps.Done g) done_again k gs c.loop-i.i _ low (sym c.if-is_named.ensures)) ∙ c.loop-i.invariant
+    ap (λ n. Some n) c.refusal_without_row.ensures ∙ sym (turn_named (λ g. Steps.Done g) done_again k gs c.loop-i.i _ low (sym c.if-is_named.ensures))
+    ∙ c.loop-i.invariant
     ∙ sym (in_turn (λ g. Steps.Done g) (λ g. Done g) done_again k (done_once) (λ l g h. refl) gs)
 
 pub returns-in_err-check_done : goal.returns-in_err-check_done
@@ -22,7 +23,8 @@ returns-in_err-check_done c =
     let low : c.loop-i.i < length gs = omega arith in
     let p = err_from_is_err_and c.from_residual.result c.from_residual.ensures.1 in
     ap result_err p.1 ∙ ap (λ n. Some n) p.2
-    ∙ sym (turn_refused (λ g. Steps.Done g) done_again k gs c.loop-i.i _ low _ (sym c.if-is_named.ensures) (sym c.in_err-check_done.ensures)) ∙ c.loop-i.invariant
+    ∙ sym (turn_refused (λ g. Steps.Done g) done_again k gs c.loop-i.i _ low _ (sym c.if-is_named.ensures) (sym c.in_err-check_done.ensures))
+    ∙ c.loop-i.invariant
     ∙ sym (in_turn (λ g. Steps.Done g) (λ g. Done g) done_again k (done_once) (λ l g h. refl) gs)
 
 pub loop-i-preserved : goal.loop-i-preserved
@@ -30,7 +32,8 @@ loop-i-preserved c =
     let k = as_book c.args.self.now in
     let gs = c.args.gtrids.now in
     let low : c.loop-i.i < length gs = omega arith in
-    sym (turn_refused (λ g. Steps.Done g) done_again k gs c.loop-i.i _ low None (sym c.if-is_named.ensures) (sym c.in_ok-check_done.ensures)) ∙ c.loop-i.invariant
+    sym (turn_refused (λ g. Steps.Done g) done_again k gs c.loop-i.i _ low None (sym c.if-is_named.ensures) (sym c.in_ok-check_done.ensures))
+    ∙ c.loop-i.invariant
 
 pub returns : goal.returns
 returns c =

@@ -16,7 +16,8 @@ loop-decision-preserved c =
     let d = c.in-Some.decision in
     let all = c.loop-decision.decisions.items in
     record {
-      room = front_room front d all c.in-Some.ensures.items c.loop-decision.map c.put_decision.new.map c.put_decision.ensures.kept c.loop-decision.invariant.room;
+      room = front_room front d all c.in-Some.ensures.items c.loop-decision.map c.put_decision.new.map c.put_decision.ensures.kept
+          c.loop-decision.invariant.room;
       rows = λ q. put_last front d all c.in-Some.ensures.items q _ _ (c.put_decision.ensures.at q) ∙ c.loop-decision.invariant.rows q;
     }
 

@@ -4,7 +4,7 @@ use Rattle.xa_tm.specs.Book.{Book, rows_for}
 use Rattle.xa_tm.specs.Calls.{IsOpenIn, log_in, written_by}
 use Rattle.xa_tm.specs.Concluding.{Concludes}
 use Rattle.xa_tm.specs.LedgerBook.{HasRoomForDecisions, IsSound}
-use Rattle.xa_tm.proofs.Several.Decisions.{open_fit, sequences_fit}
+use Rattle.xa_tm.proofs.Several.FittingNumbers.{open_fit, sequences_fit}
 use Rattle.xa_tm.proofs.manager.Manager.conclude_all.Goals as goal
 
 pub prepare_decisions-requires : goal.prepare_decisions-requires
@@ -33,5 +33,6 @@ write_decisions-requires-clause-all g c =
 
 pub returns : goal.returns
 returns g c =
-    subst (λ k. Concludes g.L.DecisionLog.moment c.args.outcome c.args.gtrids.now k (log_in c.args.self.now) c.write_decisions.new.self c.write_decisions.result)
+    subst (λ k. Concludes g.L.DecisionLog.moment c.args.outcome c.args.gtrids.now k (log_in c.args.self.now) c.write_decisions.new.self
+    c.write_decisions.result)
     c.prepare_decisions.ensures.book c.write_decisions.ensures

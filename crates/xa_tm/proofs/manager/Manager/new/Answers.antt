@@ -15,7 +15,8 @@ use Rattle.xa_tm.specs.LedgerBook.{IsSound, as_book}
 use Rattle.xa_tm.specs.Release.{RowsAreOwn}
 use Rattle.xa_tm.specs.declared.ledger.Ledger.{Ledger}
 use Rattle.xa_tm.specs.Starting.{IsOld, ended_among, fits_before, loaded, book_at_start}
-use Rattle.xa_tm.proofs.History.Starts.{in_incarnation, loaded_own, raised_over, start_old, start_sound, start_tied, started_over}
+use Rattle.xa_tm.proofs.History.Starts.{in_incarnation, raised_over, start_old, start_sound, start_tied, started_over}
+use Rattle.xa_tm.proofs.History.LoadedRows.{loaded_own}
 use Rattle.xa_tm.proofs.Log.Pasts.{not_past, past_of}
 use Rattle.xa_tm.proofs.manager.Manager.new.Goals as goal
 
@@ -100,7 +101,8 @@ returns-in_err-ledger-clause-memory_fault g c = λ is. (
 )
 
 pub returns-in_err-incarnation-clause-log_fault : goal.returns-in_err-incarnation-clause-log_fault
-returns-in_err-incarnation-clause-log_fault g c = λ is. (c.bump.new.self, inl (c.in_err-incarnation.ensures.changes.faults ∙ ap one_more_fault c.in_ok-rows.ensures.reads.faults))
+returns-in_err-incarnation-clause-log_fault g c =
+    λ is. (c.bump.new.self, inl (c.in_err-incarnation.ensures.changes.faults ∙ ap one_more_fault c.in_ok-rows.ensures.reads.faults))
 
 pub returns-else-can_start-clause-log_fault : goal.returns-else-can_start-clause-log_fault
 returns-else-can_start-clause-log_fault g c = λ is.

@@ -1,7 +1,7 @@
 use Rattle.std.proofs.Common.{sym, subst}
 use Rattle.xa_tm.specs.LedgerBook.{as_book}
 use Rattle.xa_tm.specs.BookAndLog.{IsTied}
-use Rattle.xa_tm.proofs.Log.Ties.{tied_released}
+use Rattle.xa_tm.proofs.Log.TiedSteps.{tied_released}
 use Rattle.xa_tm.proofs.manager.Manager.release.Goals as goal
 
 pub returns-then-is_over-clause-tied : goal.returns-then-is_over-clause-tied

@@ -1,7 +1,7 @@
 use Rattle.std.proofs.Common.{sym, subst}
 use Rattle.xa_tm.specs.LedgerBook.{as_book}
 use Rattle.xa_tm.specs.BookAndLog.{IsTied}
-use Rattle.xa_tm.proofs.Log.Ties.{tied_opened}
+use Rattle.xa_tm.proofs.Log.TiedSteps.{tied_opened}
 use Rattle.xa_tm.proofs.manager.Manager.resolve_open.Goals as goal
 
 pub returns-clause-tied : goal.returns-clause-tied

@@ -6,7 +6,8 @@ use Rattle.xa_tm.specs.BookAndLog.{IsTied}
 use Rattle.xa_tm.specs.LedgerBook.{as_book}
 use Rattle.xa_tm.proofs.Log.Asks.{asks_failed, asks_made}
 use Rattle.xa_tm.proofs.Log.Ties.{tied_fault}
-use Rattle.xa_tm.proofs.Several.Decisions.{kept_fit, rows_dropped}
+use Rattle.xa_tm.proofs.Several.FittingNumbers.{kept_fit}
+use Rattle.xa_tm.proofs.Several.Decisions.{rows_dropped}
 use Rattle.xa_tm.proofs.manager.Manager.take_rows.Goals as goal
 
 pub drop_rows-requires : goal.drop_rows-requires
@@ -21,7 +22,8 @@ returns-in-Ok-clause-tied g c = λ near order honest tied.
 
 pub returns-in-Ok-clause-asks : goal.returns-in-Ok-clause-asks
 returns-in-Ok-clause-asks g c =
-    asks_made (g.L.DecisionLog.moment c.args.self.now.log) (g.L.DecisionLog.moment c.drop_rows.new.log) (without_decisions c.args.gtrids.now) _ tt c.in-Ok.ensures
+    asks_made (g.L.DecisionLog.moment c.args.self.now.log) (g.L.DecisionLog.moment c.drop_rows.new.log) (without_decisions c.args.gtrids.now) _ tt
+    c.in-Ok.ensures
 
 pub returns-in-Err-clause-err : goal.returns-in-Err-clause-err
 returns-in-Err-clause-err g c = (

@@ -12,7 +12,8 @@ use Rattle.xa_tm.specs.Calls.{AsksFor, written_by}
 use Rattle.xa_tm.specs.LedgerBook.{NamesOwn, as_book}
 use Rattle.xa_tm.proofs.Log.Asks.{asks_failed, asks_made, asks_none}
 use Rattle.xa_tm.proofs.Log.Ties.{tied_fault}
-use Rattle.xa_tm.proofs.Several.Decisions.{commits_change, decided_unwritten, decided_written, none_written, some_written, written_fit, written_new, written_up}
+use Rattle.xa_tm.proofs.Several.Decisions.{commits_change, decided_unwritten, decided_written, none_written, some_written, written_new, written_up}
+use Rattle.xa_tm.proofs.Several.FittingNumbers.{written_fit}
 use Rattle.xa_tm.proofs.Several.Lists.{no_items, some_items}
 use Rattle.xa_tm.proofs.manager.Manager.write_decisions.Goals as goal
 
@@ -66,7 +67,8 @@ returns-in-Ok g c =
       asked = λ is. absurd (cc);
       tied = λ near order honest tied.
           subst (λ b. IsTied near b new.content) (sym c.note_decisions-in-Ok.ensures)
-          (decided_written near k o gs old.content new.content (written_up k o gs c.requires.open some) (written_new k o gs c.requires.sound.no_row c.requires.open)
+          (decided_written near k o gs old.content new.content (written_up k o gs c.requires.open some)
+          (written_new k o gs c.requires.sound.no_row c.requires.open)
           (subst (λ (f : Content → Content). Makes f old.content new.content) change (c.in-Ok.ensures.ok order honest)) tied);
       kept = tt;
       without_row = λ none. absurd (some none);

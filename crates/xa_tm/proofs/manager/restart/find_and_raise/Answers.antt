@@ -1,5 +1,5 @@
 use Rattle.std.proofs.Common.{◌∙◌}
-use Rattle.xa_tm.proofs.Log.Restart.{found}
+use Rattle.xa_tm.proofs.Log.FoundContent.{found}
 use Rattle.xa_tm.proofs.manager.restart.find_and_raise.Goals as goal
 
 pub returns-clause-found : goal.returns-clause-found

@@ -1,7 +1,0 @@
-use Rattle.xa_coordinator.proofs.ReleaseLemmas.{releases_by}
-use Rattle.xa_coordinator.proofs.coordinator.Coordinator.release.Goals as goal
-
-pub returns-clause-releases : goal.returns-clause-releases
-returns-clause-releases g c =
-    let call = c.release in
-    releases_by c.args.gtrid c.args.self.now call.new.self call.result call.ensures.forgets call.ensures.owed call.ensures.same

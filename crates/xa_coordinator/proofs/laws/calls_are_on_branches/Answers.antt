@@ -1,5 +1,0 @@
-use Rattle.xa_coordinator.proofs.BranchLemmas.{calls_on_branches}
-use Rattle.xa_coordinator.proofs.laws.calls_are_on_branches.Goals as goal
-
-pub returns : goal.returns
-returns c = calls_on_branches

@@ -1,5 +1,0 @@
-use Rattle.xa_coordinator.proofs.LineLemmas.{ReadsPart}
-use Rattle.xa_coordinator.proofs.lines.read_line.Given as goal
-
-abbrev pub invariant-loop : goal.invariant-loop
-invariant-loop g l = ReadsPart (g.R.Read.remaining l.fn.input) (g.R.Read.remaining l.input) l.bytes.items

@@ -1,5 +1,0 @@
-use Rattle.xa_serve.proofs.Tracking.{calls_tracked}
-use Rattle.xa_serve.proofs.laws.waiting_calls_are_tracked.Goals as goal
-
-pub returns : goal.returns
-returns g c = λ o seen s t r n keeps lt lr. calls_tracked o seen s keeps t r n lt lr

@@ -1,8 +1,0 @@
--- How large a session is.
-use Rattle.std.specs.Prelude.{◌≡◌}
-use Rattle.xa_line.specs.Grid.{Grid}
-use Rattle.xa_tm.specs.Book.{Book}
-
--- the book has the threads and the resource managers that have lines
-abbrev pub IsSized : Book → Grid → Type 0
-IsSized k g = (k.threads ≡ g.threads) × (k.rms ≡ g.rms)

@@ -1,0 +1,360 @@
+-- Sessions of drivers one after another agree.
+use Rattle.std.proofs.Common.{◌≡◌, ◌⊎◌, inl, inr, ◌<◌, ◌≤◌, ◌+◌, ℕ, true, List, [], ◌∷◌, length, Option, Some, None, IsSomeAnd, refl, sym, ap, ◌∙◌, subst, arith}
+use Rattle.std.specs.FinMap.{get, len}
+use Rattle.std.specs.Prelude.{◌==◌, if◌then◌else◌, is_some}
+use Rattle.xa_base.specs.HeldBranch.{new_branch}
+use Rattle.xa_base.specs.Scan.{Scan.NotOpen}
+use Rattle.xa_base.specs.StateTable.{broken}
+use Rattle.xa_base.specs.declared.answer.Answer.TheVariants.{Ret}
+use Rattle.xa_base.specs.declared.state.Standing.{Standing}
+use Rattle.xa_base.specs.declared.state.Standing.TheVariants.{Prepared}
+use Rattle.xa_server.proofs.BranchLemmas.{calls_on_branches}
+use Rattle.xa_server.proofs.Failures.{IsFailedToHear, failed_in_answer, failed_in_request}
+use Rattle.xa_server.proofs.LogLemmas.{replies_keep, same_keeps}
+use Rattle.xa_server.specs.Sessions.{AreServed, AreServed.Between, AreServed.NoneYet, AreServed.OneMore, CommitStandsInLog, IsEmptyLog, IsHandedOn, IsSession, IsSessionLeft, IsSessionLeft.AfterLine, IsSessionLeft.InAnswer, IsSessionLeft.InRequest, LogDecides, StartsOver, WasFoundDecidedInLog, WasLeft}
+use Rattle.xa_server.specs.Votes.{IsLogged}
+use Rattle.xa_server.specs.declared.server.Server.{Server}
+use Rattle.xa_line.specs.Grid.{HasLine}
+use Rattle.xa_log.specs.Content.{Content, with_bump}
+use Rattle.xa_log.specs.Contract.{Moment}
+use Rattle.xa_base.specs.declared.branch.Gtrid.{Gtrid}
+use Rattle.xa_model.specs.Facts.{lists_row}
+use Rattle.xa_model.specs.Facts.Distinct.{ApartRows}
+use Rattle.xa_model.specs.Promises.Processes.{SameRecords, SameRows as SameRowLists}
+use Rattle.xa_model.specs.Trace.{Branch, Call, Code, Fault, Line, Origin, Trace.From, line}
+use Rattle.xa_session.proofs.Logging.{both_keep, left_tied}
+use Rattle.xa_session.specs.Logging.{HoldsItsBook, KeepsLog}
+use Rattle.xa_session.proofs.FailedAnswers.{fit_line}
+use Rattle.xa_session.specs.Session.{known_at, known_waiting}
+use Rattle.xa_session.specs.Tracking.{FailedAnswersAreFound, FailedDecisionsAreFound, FailedDonesAreFound, FailedSettlementsAreFound, IsFailedAnswer, IsRaisedFrom, SessionsAreExplained, StartsFindTheLog, WaitingCallsAreTracked}
+use Rattle.xa_monitor.proofs.Agreeing.{history_begins}
+use Rattle.xa_monitor.proofs.Chains.{IsUntold, KnowsCalls, one_untold}
+use Rattle.xa_monitor.specs.Agreement.{IsLineOf, MayAllStand, WaitsAt}
+use Rattle.xa_monitor.specs.Explained.{HasOnlyOlderRows}
+use Rattle.xa_monitor.specs.Named.{AreOnBranches}
+use Rattle.xa_monitor.specs.Seen.{Seen, Seen.Answered, Seen.Start}
+use Rattle.xa_monitor.specs.Sessions.{AfterSessions, AfterSessions.Between as Ends_between, AfterSessions.NoneYet as No_session, AfterSessions.OneMore as One_session, CommitStands as Commit_stands, Finds, FindsLog, IsSession as Is_session, Log, Log.Empty, Log.LeftBy, MayFail, RowsDecide, WasFoundDecided as Was_found, nothing_yet}
+use Rattle.xa_monitor.specs.Standings.{Comes}
+use Rattle.xa_tm.specs.Begins.{BeginsWith}
+use Rattle.xa_tm.specs.Book.{Book, book_of}
+use Rattle.xa_tm.specs.BookAndLog.{IsTied}
+use Rattle.xa_tm.specs.Calls.{book_in, log_in}
+use Rattle.xa_tm.proofs.History.OneMore.{lists_is}
+use Rattle.xa_tm.specs.Laws.{StartRowsAreApart}
+use Rattle.xa_tm.specs.Starting.{HasContent, StartsHaveContent, book_at_start, records_from, rows_from}
+
+-- ** a start over a log that was handed on
+
+module _ {L : Type 0} (moment : L → Moment) (threads rms : ℕ) (handed : L) (first : Server L) (starts : StartsOver moment threads rms handed first)
+    (order : (moment handed).is_in_order) (honest : (moment (log_in first.session.manager)).is_honest) where
+  abbrev k : Book
+  k = book_in first.session.manager
+
+  -- it raised the incarnation of what it found, and its book is what it found
+  book_is : (d : Content) → (moment handed).content ≡ Some d → k ≡ book_at_start threads rms (with_bump d)
+  book_is d has =
+      let made : (moment (log_in first.session.manager)).content ≡ Some (with_bump d) =
+      subst (λ x. IsSomeAnd x (λ b. (moment (log_in first.session.manager)).content ≡ Some (with_bump b))) has (starts.over.raised order honest) in
+      subst (λ x. IsSomeAnd x (λ b. k ≡ book_at_start threads rms b)) made (starts.over.book order honest)
+
+  module _ (d : Content) (has : (moment handed).content ≡ Some d) (o : Origin) (begins : BeginsWith threads rms first.session.manager o) where
+    same : book_of (From o) ≡ book_at_start threads rms (with_bump d)
+    same = sym (starts.started.book o begins) ∙ book_is d has
+
+    has_content : HasContent o (with_bump d)
+    has_content = record {
+      incarnation = ap (λ (b : Book). b.incarnation) same;
+      rows = λ g. ap (λ (b : Book). b.row g) same;
+      row_number = ap (λ (b : Book). b.rows) same;
+      records = λ b. ap (λ (b' : Book). b'.recorded b) same;
+      record_number = ap (λ (b : Book). b.records) same;
+    }
+
+    pub raised_from : (c : Content) → d.decisions ≡ c.decisions → d.heuristics ≡ c.heuristics → c.incarnation ≤ d.incarnation → IsRaisedFrom c o
+    raised_from c rows records least = record {
+      found = with_bump d;
+      has = has_content;
+      rows = rows;
+      records = records;
+      raised = let more : c.incarnation < d.incarnation + 1 = omega (arith, least) in more;
+      apart = subst ApartRows (sym begins.rows) starts.started.apart;
+    }
+
+-- ** the first start
+
+no_items : {X : Type 0} (xs : List X) → length xs ≡ 0 → xs ≡ []
+no_items [] e = refl
+no_items (x ∷ xs) e = absurd (omega (arith, e))
+
+-- it has no rows and no records
+pub record HasNone (o : Origin) : Type 0 where
+  pub rows : o.rows ≡ []
+  pub records : o.heuristic_rows ≡ []
+
+pub none_there : (c : Content) (o : Origin) → IsEmptyLog c → IsRaisedFrom c o → HasNone o
+none_there c o none raised = record {
+  rows = no_items o.rows (raised.has.row_number ∙ (ap len raised.rows ∙ none.no_rows));
+  records = no_items o.heuristic_rows (raised.has.record_number ∙ (ap len raised.records ∙ none.no_records));
+}
+
+-- so it finds an empty log
+empty_found : (c : Content) (o : Origin) → IsEmptyLog c → IsRaisedFrom c o → FindsLog (nothing_yet 0) o
+empty_found c o none raised = record {
+  later =
+      let has = raised.has.incarnation in
+      let more = raised.raised in
+      omega (arith, has, more);
+  rows = subst (λ xs. SameRowLists xs (if length xs == 0 then [] else [])) (sym has.rows) no_rows;
+  records = subst (λ xs. SameRecords xs (if length xs == 0 then [] else [])) (sym has.records) no_records;
+}
+  where
+    has : HasNone o
+    has = none_there c o none raised
+
+    no_rows : SameRowLists [] []
+    no_rows = record { number = refl; count = λ g. refl; participants = λ g b. refl }
+
+    no_records : SameRecords [] []
+    no_records = record { number = refl; branches = λ b. refl }
+
+-- ** one session
+
+-- what is proved of sessions
+pub record Laws (L : Type 0) : Type 0 where
+  pub left : StartsFindTheLog L
+  pub decision : FailedDecisionsAreFound L
+  pub settlement : FailedSettlementsAreFound L
+  pub done : FailedDonesAreFound L
+  pub answer : FailedAnswersAreFound L
+  pub explained : SessionsAreExplained L
+  pub waiting : WaitingCallsAreTracked L
+
+-- a start finds the log of sessions that left the branches there, and that found such branches decided
+pub record GoesOn (f : Branch → Standing) (Decided : Branch → Type 0) (next : Origin) : Type 0 where
+  pub log : Log
+  pub after : AfterSessions log f
+  pub finds : Finds log next
+  pub decided : (b : Branch) → Decided b → Was_found b log f after
+
+module _ {L : Type 0} (moment : L → Moment) where
+  -- the log of a server has what its book says, if there was one
+  abbrev pub Holds : Option (Server L) → Type 0
+  Holds None = Unit
+  Holds (Some last) = HoldsItsBook moment true last.session.manager
+
+  -- they are sessions one after another, and each start over what was left goes on from such
+  pub record AreSessions (last : Option (Server L)) (f : Branch → Standing) (Decided : Branch → Type 0) : Type 0 where
+    pub log : Log
+    pub after : AfterSessions log f
+    pub next : (c : Content) (o : Origin) → WasLeft moment last c → IsRaisedFrom c o → GoesOn f Decided o
+    pub holds : Holds last
+
+  module _ (laws : Laws L) (handed : L) (o : Origin) (told : Seen) (now : Server L) (is : IsSession moment handed o told now) where
+    old : HasOnlyOlderRows o
+    old = is.starts.old o is.begins
+
+    on_branches : AreOnBranches told
+    on_branches = calls_on_branches o.threads is.lines is.replies Start told is.told tt
+
+    -- ** the lines of the session
+
+    line_is : (t r : ℕ) → HasLine now.session.lines t r → IsLineOf o (line t r)
+    line_is t r has =
+        let some = laws.explained o told now.session old is.tracks in
+        let stands = is.tracks.1 some.history some.is_history some.runs in
+        let begins = (history_begins o told some.history some.is_history).1 in (
+          subst (λ n. t < n) (stands.threads ∙ ap (λ (p : Origin). p.threads) begins) has.0,
+          subst (λ n. r < n) (stands.rms ∙ ap (λ (p : Origin). p.rms) begins) has.1,
+        )
+
+    knows : KnowsCalls o told
+    knows l n of = (known_at now.session.lines l.thread l.rm n, laws.waiting o told now.session l.thread l.rm n is.tracks of.0 of.1)
+
+    -- ** how it was left
+
+    module _ (last : Option (Server L)) (from to : Branch → Standing) (Decided : Branch → Type 0) (before : AreSessions last from Decided)
+        (handed_on : IsHandedOn moment last handed) (left : Server L) (keeps : KeepsLog moment now.session.manager left.session.manager)
+        (honest : (moment (log_in left.session.manager)).is_honest) (done cut : List Line) where
+      since_start : KeepsLog moment is.first.session.manager left.session.manager
+      since_start =
+          both_keep moment is.first.session.manager now.session.manager left.session.manager
+          (replies_keep moment is.lines is.replies is.first now is.replied) keeps
+
+      honest_first : (moment (log_in is.first.session.manager)).is_honest
+      honest_first = since_start.honest honest
+
+      holds : HoldsItsBook moment true left.session.manager
+      holds = since_start.holds true (is.starts.over.order handed_on.order) honest (is.starts.holds handed_on.order honest_first)
+
+      raised : IsRaisedFrom handed_on.left o
+      raised =
+          raised_from moment is.threads is.rms handed is.first is.starts handed_on.order honest_first handed_on.content handed_on.has o is.begins
+          handed_on.left handed_on.same.decisions handed_on.same.heuristics handed_on.raised
+
+      -- its start goes on from the sessions before it
+      prior : GoesOn from Decided o
+      prior = before.next handed_on.left o handed_on.was_left raised
+
+      -- the start has the rows of its log
+      logged_rows : (content : Option Content) (g : Gtrid) → content ≡ Some handed_on.content → IsLogged content g
+          → is_some (get handed_on.content.decisions g) ≡ true
+      logged_rows None g has row = absurd row
+      logged_rows (Some c) g has row = subst (λ d. is_some (get d.decisions g) ≡ true) (let same : c ≡ handed_on.content = cc in same) row
+
+      listed_there : (b : Branch) → IsLogged (moment handed).content b.gtrid → lists_row o.rows b.gtrid ≡ true
+      listed_there b row =
+          lists_is o.rows b.gtrid ∙ ap is_some (raised.has.rows b.gtrid)
+          ∙ ap (λ m. is_some (get m b.gtrid)) (raised.rows ∙ sym handed_on.same.decisions)
+          ∙ logged_rows (moment handed).content b.gtrid handed_on.has row
+
+      -- what was found decided
+      abbrev Found : Branch → Type 0
+      Found b = ((from b ≡ Prepared) × IsLogged (moment handed).content b.gtrid) ⊎ Decided b
+
+      found_so : (b : Branch) → Found b → ((from b ≡ Prepared) × (lists_row o.rows b.gtrid ≡ true)) ⊎ Was_found b prior.log from prior.after
+      found_so b (inl found) = inl (found.0, listed_there b found.1)
+      found_so b (inr earlier) = inr (prior.decided b earlier)
+
+      -- what is left is tied to the book
+      tied : (c : Content) → WasLeft moment (Some left) c → IsTied true (book_in left.session.manager) (Some c)
+      tied c was = left_tied moment true left.session.manager c holds was
+
+      -- a start goes on from this session
+      on_from : (seen : Seen) (fails : Option Fault) → Is_session o seen fails → MayAllStand o seen (λ b. Comes seen b (broken (from b))) done cut to
+          → (next : Origin) → Finds (LeftBy o seen fails) next → GoesOn to Found next
+      on_from seen fails session may next finds = record {
+        log = LeftBy o seen fails;
+        after = One_session prior.log from to o seen fails done cut prior.after prior.finds session may;
+        finds = finds;
+        decided = found_so;
+      }
+
+      -- after a line, or in a step in which its log failed
+      left_in : (fails : Option Fault) → MayFail o told fails
+          → ((c : Content) (next : Origin) → IsTied true (book_in left.session.manager) (Some c) → IsRaisedFrom c next → Finds (LeftBy o told fails) next)
+          → MayAllStand o told (λ b. Comes told b (broken (from b))) done cut to → AreSessions (Some left) to Found
+      left_in fails may_fail finds may = record {
+        log = LeftBy o told fails;
+        after = One_session prior.log from to o told fails done cut prior.after prior.finds session may;
+        next = λ c next was raised. on_from told fails session may next (finds c next (tied c was) raised);
+        holds = holds;
+      }
+        where
+          session : Is_session o told fails
+          session = record { old = old; keeps = is.tracks.0; on_branches = on_branches; may_fail = may_fail }
+
+      -- in an answer: what the next start finds is what was left behind it, or before it, with the call under way
+      left_in_answer : (t r : ℕ) (code : Code) (call : Call) → known_waiting now.session.lines t r ≡ Some call → IsFailedToHear t r code call now left
+          → MayAllStand o (Answered told (line t r) call (Ret code)) (λ b. Comes (Answered told (line t r) call (Ret code)) b (broken (from b))) done cut to
+          → AreSessions (Some left) to Found
+      left_in_answer t r code call waits failed may = record {
+        log = LeftBy o told None;
+        after = before_it.after;
+        next = λ c next was raised. either next (found.finds c next (subst (λ k. IsTied true k (Some c)) failed.book (tied c was)) raised);
+        holds = holds;
+      }
+        where
+          found : IsFailedAnswer o told now.session (line t r) call (Ret code)
+          found = laws.answer o told now.session t r (Ret code) call is.tracks failed.fit failed.first
+
+          session : Is_session o (Answered told (line t r) call (Ret code)) None
+          session = record { old = old; keeps = found.keeps; on_branches = (on_branches, tt); may_fail = tt }
+
+          here : IsLineOf o (line t r)
+          here = line_is t r (fit_line now.session t r (Ret code) failed.fit)
+
+          before_it : IsUntold prior.log from to o told prior.after
+          before_it =
+              one_untold prior.log from to o told (line t r) call (Ret code) done cut prior.after prior.finds session here
+              (subst (WaitsAt o told (line t r) 0) waits (laws.waiting o told now.session t r 0 is.tracks here.0 here.1)) knows may
+
+          either : (next : Origin) → Finds (LeftBy o (Answered told (line t r) call (Ret code)) None) next ⊎ Finds (LeftBy o told None) next
+              → GoesOn to Found next
+          either next (inl finds) = on_from (Answered told (line t r) call (Ret code)) None session may next finds
+          either next (inr finds) =
+              record { log = LeftBy o told None; after = before_it.after; finds = finds; decided = λ b was. before_it.decided b (found_so b was) }
+
+    module _ (last : Option (Server L)) (from to : Branch → Standing) (Decided : Branch → Type 0) (before : AreSessions last from Decided)
+        (handed_on : IsHandedOn moment last handed) where
+      pub one_more : (seen : Seen) (left : Server L) → IsSessionLeft moment told now seen left → (moment (log_in left.session.manager)).is_honest
+          → (done cut : List Line) → MayAllStand o seen (λ b. Comes seen b (broken (from b))) done cut to
+          → AreSessions (Some left) to (λ b. ((from b ≡ Prepared) × IsLogged (moment handed).content b.gtrid) ⊎ Decided b)
+      one_more _ _ AfterLine honest done cut may =
+          left_in last from to Decided before handed_on now (same_keeps moment now now refl) honest done cut None tt
+          (λ c next tied raised. laws.left o told now.session c next is.tracks tied raised) may
+      one_more _ _ (InRequest request left asks performs) honest done cut may =
+          let failed = failed_in_request moment laws.decision laws.settlement laws.done o told now left is.tracks request asks performs in
+          left_in last from to Decided before handed_on left performs.keeps honest done cut (Some failed.fault) failed.step.may_fail
+          (λ c next tied raised. failed.step.finds c next (subst (λ k. IsTied true k (Some c)) failed.book tied) raised) may
+      one_more _ _ (InAnswer t r name code call left waits performs) honest done cut may =
+          left_in_answer last from to Decided before handed_on left performs.keeps honest done cut t r code call waits
+          (failed_in_answer moment now left t r name code call waits performs) may
+
+  -- ** all of them
+
+  pub are_sessions : Laws L → (last : Option (Server L)) (f : Branch → Standing) (served : AreServed moment last f)
+      → AreSessions last f (λ b. WasFoundDecidedInLog moment b last f served)
+  are_sessions laws _ _ NoneYet = record {
+    log = Empty 0;
+    after = No_session 0;
+    next = λ c o left raised.
+        record { log = Empty 0; after = No_session 0; finds = empty_found c o left raised; decided = λ b found. absurd found };
+    holds = tt;
+  }
+  are_sessions laws _ _ (OneMore last from to handed o told seen now left done cut before handed_on is is_left honest may) =
+      one_more laws handed o told now is last from to (λ b. WasFoundDecidedInLog moment b last from before) (are_sessions laws last from before) handed_on
+      seen left is_left honest done cut may
+  are_sessions laws _ _ (Between last from to d how before was final) =
+      let b = are_sessions laws last from before in
+      record {
+        log = b.log;
+        after = Ends_between b.log from to d how b.after was final;
+        next = λ c o left raised.
+            let on = b.next c o left raised in
+            record { log = on.log; after = Ends_between on.log from to d how on.after was final; finds = on.finds; decided = on.decided };
+        holds = b.holds;
+      }
+
+-- ** what the log says that is left
+
+-- a start over a content
+abbrev pub start_of : Content → Origin
+start_of c = record {
+  threads = 0;
+  rms = 0;
+  incarnation = c.incarnation + 1;
+  rows = rows_from c;
+  heuristic_rows = records_from c;
+  held = λ r x. new_branch;
+  in_doubt = λ r. [];
+  scans = λ r. NotOpen;
+}
+
+module _ (have_content : StartsHaveContent) (are_apart : StartRowsAreApart) (c : Content) where
+  has_it : HasContent (start_of c) (with_bump c)
+  has_it = have_content (start_of c) (with_bump c) refl refl refl
+
+  pub raised_once : IsRaisedFrom c (start_of c)
+  raised_once = record {
+    found = with_bump c;
+    has = has_it;
+    rows = refl;
+    records = refl;
+    raised = let more : c.incarnation < c.incarnation + 1 = omega arith in more;
+    apart = are_apart c;
+  }
+
+  listed : (g : Gtrid) → lists_row (start_of c).rows g ≡ is_some (get c.decisions g)
+  listed g = lists_is (start_of c).rows g ∙ ap is_some (has_it.rows g)
+
+  pub log_decides : (f : Branch → Standing) → RowsDecide f (start_of c) → LogDecides f c
+  log_decides f rows = record {
+    committed = λ b d same committed prepared. sym (listed b.gtrid) ∙ rows.committed b d same committed prepared;
+    undone = λ b u. sym (listed b.gtrid) ∙ rows.undone b u;
+  }
+
+  pub commit_stands : (f : Branch → Standing) (b : Branch) → Commit_stands f (start_of c) b → CommitStandsInLog f c b
+  commit_stands f b stands = record {
+    commits = stands.commits;
+    row_stays = λ prepared. sym (listed b.gtrid) ∙ stands.row_stays prepared;
+  }

@@ -1,0 +1,141 @@
+//! How a session tracks what a driver tells. These functions do nothing: each contract is a theorem.
+
+ghost use Rattle.xa_server.specs.Branches.{CallsAreOnBranches};
+ghost use Rattle.xa_server.specs.Faults.{FaultsLeaveAllOrNone};
+ghost use Rattle.xa_server.specs.Managers.{ManagersAreApart, RepliesTellOwn};
+ghost use Rattle.xa_server.specs.Sessions.{ServedCommitsStand, ServedLogsDecide};
+ghost use Rattle.xa_server.specs.Sessions.{ServedSessionsAgree, ServedSessionsAreSeen};
+ghost use Rattle.xa_server.specs.Tracking.{RepliesAreTracked, ServedDatabasesAgree};
+ghost use Rattle.xa_server.specs.Tracking.{ServedSessionsAreExplained, SessionsAreTracked};
+ghost use Rattle.xa_server.specs.Votes.{CommitsAreLogged, VotedCommitsAreLogged};
+
+use xa_log::DecisionLog;
+use xa_monitor::{answers_are_explained, sessions_agree};
+use xa_names::names_part_identifiers;
+use xa_session::{
+    answers_are_tracked, losses_are_tracked, refusals_are_tracked, releases_are_tracked,
+    sessions_are_explained, starts_are_tracked, starts_find_the_log, steps_are_tracked,
+    waiting_calls_are_tracked,
+};
+use xa_tm::starts_are_histories;
+
+/// A session that tracks what was seen does so with each request and its reply (`performs` of
+/// [`Server::perform`](crate::Server::perform)), as long as the log doesn't fail: just what both tell is seen
+/// more (`Tells`).
+pub fn replies_are_tracked<L: DecisionLog + Drop>()
+    ensures { RepliesAreTracked L.moment }
+{
+    steps_are_tracked::<L>();
+    answers_are_tracked::<L>();
+    losses_are_tracked::<L>();
+    refusals_are_tracked::<L>();
+    releases_are_tracked::<L>();
+}
+
+/// And so it does with all lines and their replies (`served` and `broken` of
+/// [`Server::serve`](crate::Server::serve)), up to where the log failed.
+pub fn sessions_are_tracked<L: DecisionLog + Drop>()
+    ensures { SessionsAreTracked L.moment }
+{
+    steps_are_tracked::<L>();
+    answers_are_tracked::<L>();
+    losses_are_tracked::<L>();
+    refusals_are_tracked::<L>();
+    releases_are_tracked::<L>();
+}
+
+/// What a driver told a new server has a right history, wherever it was cut off and whatever the resource managers
+/// are: of them it is only known what the driver says that they answered. The server stands at a start (`stands` of
+/// [`Server::new`](crate::Server::new)), from an old log (`old`).
+///
+/// What was told is read off the requests, each as a line of its own, and their replies alone (`HaveTold`). It ends where
+/// the log failed: the manager is then down, and hears nothing more.
+pub fn served_sessions_are_explained<L: DecisionLog + Drop>()
+    ensures explained { ServedSessionsAreExplained L.moment }
+{
+    starts_are_tracked::<L>();
+    sessions_are_tracked::<L>();
+    sessions_are_explained::<L>();
+}
+
+/// And databases that obey the branch state table agree, behind each line that a driver told a new server. Let the
+/// branches stand wherever they may by what was told; of the calls that wait on any line let the first ones be done, however
+/// many, though their answers aren't told; let lines be cut off, as all are where the driver is killed; and let databases
+/// end prepared branches by themselves. Then no branch of a transaction that this session began is committed beside one that is rolled back or
+/// lost.
+///
+/// That a database obeys the table is the one premise about it (`StandSo`), and that it has no branch of this incarnation
+/// at the start. Where the log failed, this is of the moment before, at which all that waits on the lines may still be done.
+pub fn served_databases_agree<L: DecisionLog + Drop>()
+    ensures agree { ServedDatabasesAgree L.moment }
+{
+    starts_are_tracked::<L>();
+    sessions_are_tracked::<L>();
+    sessions_are_explained::<L>();
+    waiting_calls_are_tracked::<L>();
+    answers_are_explained();
+}
+
+/// So sessions of drivers agree, one after another over one log and the same databases, of which each obeys the branch
+/// state table (`AreServed`). Each session starts over the log that the one before it left, or that a crash of its store
+/// left, the first over an empty one. A session may be left after any line, or in a request in which its log failed, or
+/// in which the program was killed; calls may be under way then, several on a line too, and in between what was open is
+/// lost.
+///
+/// - `agree`: no branch of any transaction is committed beside one that is rolled back or lost, whichever session began,
+///   decided or recovered it;
+/// - `rows`: the log that is left decides of what is prepared still. It has the row of each transaction of which a branch
+///   is committed, and no row of one of which a branch is rolled back or lost;
+/// - `decided`: a branch that a session found prepared, and its transaction's row in the log, commits, or its database ends
+///   it by itself. The row is there as long as the branch stands prepared, so a log without it says that this is over;
+/// - `seen`: each session that starts so is one of these.
+pub fn served_sessions_agree<L: DecisionLog + Drop>()
+    ensures agree { ServedSessionsAgree L.moment }
+    ensures rows { ServedLogsDecide L.moment }
+    ensures decided { ServedCommitsStand L.moment }
+    ensures seen { ServedSessionsAreSeen L.moment }
+{
+    sessions_agree();
+    starts_are_histories();
+    starts_find_the_log::<L>();
+    starts_are_tracked::<L>();
+    sessions_are_tracked::<L>();
+    sessions_are_explained::<L>();
+    waiting_calls_are_tracked::<L>();
+}
+
+/// What lines and their replies tell is of branches that have identifiers (XA, section 4.2): each call that was let wait is on
+/// one, and each branch of this manager that a page listed has one.
+pub fn calls_are_on_branches()
+    ensures { CallsAreOnBranches }
+{}
+
+/// Where a `decide` of commits, a `settle` or a `done` is replied that the log failed (reply 15 of a manager that was up), the log
+/// has either all of the change that was asked for or nothing of it, unless it is shut; and so has whatever a crash of its
+/// store then leaves.
+pub fn faults_leave_all_or_none<L: DecisionLog + Drop>()
+    ensures { FaultsLeaveAllOrNone L.moment }
+{}
+
+/// Behind lines that tell a vote each, XA_OK to an xa_prepare, and are heard, a line commits their transactions and is replied by
+/// `decided`: the log then has the row of each. It was in order and had what the book says before, and has been honest since.
+pub fn voted_commits_are_logged<L: DecisionLog + Drop>()
+    ensures { VotedCommitsAreLogged L.moment }
+{}
+
+/// Where a request to commit is replied by `decided`, the log has the row of each of its transactions that some branch voted XA_OK
+/// for, which waits for those that did. It was in order and had what the book says before, and has been honest since.
+pub fn commits_are_logged<L: DecisionLog + Drop>()
+    ensures { CommitsAreLogged L.moment }
+{}
+
+/// A manager tells its driver calls on identifiers of its own name alone (`own`). So managers of different names never tell
+/// their drivers calls on the same identifier (`apart`): what one does at a database touches no branch of another. Nothing
+/// is asked of what other managers do, nor of the databases.
+pub fn managers_stay_apart<L: DecisionLog + Drop>()
+    ensures own { RepliesTellOwn L.moment }
+    ensures apart { ManagersAreApart L.moment }
+{
+    names_part_identifiers();
+    sessions_are_explained::<L>();
+}

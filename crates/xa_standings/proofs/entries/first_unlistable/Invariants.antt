@@ -1,7 +1,0 @@
-use Rattle.std.proofs.Common.{drop}
-use Rattle.xa_standings.specs.Entries.{AreListable, states_at}
-use Rattle.xa_standings.proofs.entries.first_unlistable.Given as goal
-
-abbrev pub invariant-loop-xid : goal.invariant-loop-xid
-invariant-loop-xid l =
-    AreListable l.rm (states_at l.incarnation l.branches) (drop l.xid-index l.xids) → AreListable l.rm (states_at l.incarnation l.branches) l.xids

@@ -1,5 +1,0 @@
-use Rattle.xa_standings.proofs.RowLemmas.{found_iff}
-use Rattle.xa_standings.proofs.states.States.found.Goals as goal
-
-pub returns : goal.returns
-returns c = found_iff

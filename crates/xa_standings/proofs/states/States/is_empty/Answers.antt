@@ -1,5 +1,0 @@
-use Rattle.xa_standings.proofs.RowLemmas.{empty_iff}
-use Rattle.xa_standings.proofs.states.States.is_empty.Goals as goal
-
-pub returns : goal.returns
-returns c = empty_iff c.args.self c.is_some.result c.is_some.ensures
