@@ -68,6 +68,27 @@ pub enum CallKind {
     Recover,
 }
 
+impl CallKind {
+    ghost use Rattle.xa_base.specs.Call.{kind_name};
+
+    /// The name of the call in XA (chapter 5).
+    pub fn name(self) -> &'static str
+        ensures { result.now ≡ kind_name self }
+    {
+        match self {
+            CallKind::OpenRm => "xa_open",
+            CallKind::CloseRm => "xa_close",
+            CallKind::Start => "xa_start",
+            CallKind::End => "xa_end",
+            CallKind::Prepare => "xa_prepare",
+            CallKind::Commit => "xa_commit",
+            CallKind::Rollback => "xa_rollback",
+            CallKind::Forget => "xa_forget",
+            CallKind::Recover => "xa_recover",
+        }
+    }
+}
+
 impl Call {
     ghost use Rattle.xa_base.specs.Call.{call_with, xid_in};
 

@@ -26,13 +26,13 @@ mod words;
 mod xid;
 
 pub use answer::{Answer, Page};
-pub use branch::{Branch, Gtrid};
+pub use branch::{Branch, Gtrid, OWN_FORMAT};
 pub use call::{Call, CallKind, calls_have_their_parts};
 pub use code::{Code, How, RbCode};
 pub use fault::{Memory, XidFault};
 pub use flags::{TMENDRSCAN, TMFAIL, TMJOIN, TMNOFLAGS, TMONEPHASE, TMSTARTRSCAN, TMSUCCESS};
 pub use identifiers::branches_in_order;
-pub use limits::{BEGIN_LIMIT, LINE_LIMIT};
+pub use limits::{BEGIN_LIMIT, LAST_NUMBER, LINE_LIMIT, MAX_RMS, MAX_THREADS};
 pub use refusal::Refusal;
 pub use reply::{Event, Reply};
 pub use state::{BranchState, Fate, Standing};
