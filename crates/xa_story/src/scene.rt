@@ -8,7 +8,7 @@ ghost use Rattle.xa_story.specs.Stories.{IsToldOf};
 use crate::asked::asked_text;
 use crate::effect::{Effect, plain_effect};
 use crate::ledger::Ledger;
-use crate::line::Line;
+use crate::line::StoryLine;
 use crate::names::Names;
 use crate::party::sides_of;
 use crate::replies::reply_text;
