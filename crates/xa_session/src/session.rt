@@ -1,6 +1,7 @@
 //! A session: the manager over its log, the lines, and the monitor of the branches. A file for each family of requests.
 
 ghost use Rattle.xa_tm.specs.Calls.{book_in};
+ghost use Rattle.xa_session.specs.Sizes.{HasItsLines};
 
 pub(crate) mod answers;
 mod calls;
@@ -32,7 +33,7 @@ pub struct Session<L: Drop> {
     pub(crate) monitor: Monitor,
     /// How many steps have happened since the start, a failure of the log among them.
     pub(crate) happenings: u64,
-    ghost sized: { IsSized (book_in manager) lines },
+    ghost sized: { HasItsLines (book_in manager) lines },
 }
 
 impl<L: DecisionLog + Drop> Session<L> {

@@ -32,6 +32,7 @@ impl SessionLines {
     ghost use Rattle.xa_line.specs.Grid.{HasLine, IsWhole, grid_has_line, line_at, new_grid, place};
     ghost use Rattle.xa_base.specs.Opening.{has_opened};
     ghost use Rattle.xa_line.specs.Traffic.{calls_issued, no_traffic};
+    ghost use Rattle.xa_session.specs.Lending.{LendsSessionLine};
 
     /// The lines of so many threads to so many resource managers, all of them new.
     pub(crate) fn new(alloc: Global, threads: u32, rms: u32) -> Result<SessionLines, Memory>
@@ -86,7 +87,7 @@ impl SessionLines {
     /// The line of a thread to a resource manager, to be changed. All other lines stay as they are.
     pub(crate) fn line_mut(&mut self, thread: u32, rm: u32) -> &mut SessionLine
         requires { HasLine self.old thread rm }
-        ensures* writes_back { sem 𝓛 (LendsLine self.entry thread rm result) }
+        ensures* writes_back { sem 𝓛 (LendsSessionLine self.entry thread rm result) }
         ensures value { result.now ≡ line_at self.old thread rm }
         ensures whole { IsWhole self.old }
     {
