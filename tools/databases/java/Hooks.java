@@ -2,6 +2,7 @@ import java.lang.reflect.InvocationTargetException;
 import java.lang.reflect.Method;
 import java.lang.reflect.Proxy;
 import java.sql.Connection;
+import java.sql.Statement;
 import javax.sql.XAConnection;
 import javax.sql.XADataSource;
 import javax.transaction.xa.XAResource;
@@ -42,11 +43,11 @@ final class Hooks {
     }
 
     private XAConnection hooked(XAConnection xa) throws Exception {
-        Connection connection = xa.getConnection();
+        Connection plain = xa.getConnection(), connection = hooked(plain);
         XAResource resource = (XAResource) Proxy.newProxyInstance(Hooks.class.getClassLoader(), new Class<?>[] {XAResource.class}, (proxy, method, words) -> {
-            reach("before " + method.getName(), connection);
+            reach("before " + method.getName(), plain);
             Object answer = direct(xa.getXAResource(), method, words);
-            reach("after " + method.getName(), connection);
+            reach("after " + method.getName(), plain);
             return answer;
         });
         return (XAConnection) Proxy.newProxyInstance(Hooks.class.getClassLoader(), new Class<?>[] {XAConnection.class}, (proxy, method, words) -> {
@@ -57,6 +58,32 @@ final class Hooks {
                 default: return direct(xa, method, words);
             }
         });
+    }
+
+    /** The connection. At MariaDB xa_end and xa_prepare are one statement: it has what comes before the one and after the other. */
+    private Connection hooked(Connection plain) {
+        return proxy(Connection.class, plain, (method, words) -> {
+            Object made = direct(plain, method, words);
+            return method.getName().equals("createStatement") ? proxy(Statement.class, (Statement) made, (inner, text) -> {
+                boolean isBoth = inner.getName().equals("execute") && ((String) text[0]).startsWith("BEGIN NOT ATOMIC XA END");
+                return isBoth ? both((Statement) made, inner, text, plain) : direct(made, inner, text);
+            }) : made;
+        });
+    }
+
+    private Object both(Statement statement, Method method, Object[] text, Connection plain) throws Throwable {
+        reach("before end", plain);
+        Object answer = direct(statement, method, text);
+        reach("after prepare", plain);
+        return answer;
+    }
+
+    private interface Calls {
+        Object made(Method method, Object[] words) throws Throwable;
+    }
+
+    private static <F> F proxy(Class<F> face, F plain, Calls calls) {
+        return face.cast(Proxy.newProxyInstance(Hooks.class.getClassLoader(), new Class<?>[] {face}, (proxy, method, words) -> calls.made(method, words)));
     }
 
     private static Object direct(Object target, Method method, Object[] words) throws Throwable {

@@ -7,6 +7,7 @@ import java.sql.ResultSet;
 import java.sql.SQLException;
 import java.sql.Statement;
 import java.time.Duration;
+import java.util.ArrayList;
 import java.util.Arrays;
 import java.util.List;
 import java.util.UUID;
@@ -216,6 +217,12 @@ public class Tour {
                 // It doesn't care, but the database has given the transaction up.
             }
         });
+        if (!isPostgreSQL(1)) {
+            story("the program goes on after a deadlock at MariaDB", UNDONE, token -> {
+                writeBoth(token);
+                runIntoADeadlock();
+            });
+        }
         story("PostgreSQL votes no", UNDONE, token -> {
             writeBoth(token);
             run(isPostgreSQL(0) ? 0 : 1, "INSERT INTO once VALUES (1)");
@@ -231,6 +238,34 @@ public class Tour {
         });
     }
 
+    /** Another transaction waits for a row of this one, which then asks for one of that; and this one has done less, so it is rolled back. */
+    private void runIntoADeadlock() throws Exception {
+        javax.sql.XAConnection xa = plain[1].getXAConnection();
+        try (Connection other = xa.getConnection(); Statement statement = other.createStatement()) {
+            other.setAutoCommit(false);
+            statement.execute("UPDATE account SET balance = balance + 1 WHERE id > 1");
+            run(1, "UPDATE account SET balance = balance + 1 WHERE id = 1");
+            Thread waiting = new Thread(() -> {
+                try {
+                    statement.execute("UPDATE account SET balance = balance + 1 WHERE id = 1");
+                } catch (SQLException error) {
+                    error.printStackTrace();
+                }
+            });
+            waiting.start();
+            Thread.sleep(300);
+            try {
+                run(1, "UPDATE account SET balance = balance + 1 WHERE id = 2");
+            } catch (SQLException error) {
+                // It doesn't care, but the database has rolled the branch back.
+            }
+            waiting.join();
+            other.rollback();
+        } finally {
+            xa.close();
+        }
+    }
+
     private void connectionsAreLost() {
         for (int database = 0; database < 2; database++) {
             int one = database;
@@ -242,7 +277,12 @@ public class Tour {
                 Thread.sleep(100);
                 run(one, "SELECT 1");
             });
-            for (String moment : List.of("before end", "after end", "before prepare", "after prepare", "before commit", "after commit")) {
+            List<String> moments = new ArrayList<>(List.of("before end", "after end", "before prepare", "after prepare", "before commit", "after commit"));
+            if (!isPostgreSQL(one)) {
+                // MariaDB gets both calls by one request.
+                moments.removeAll(List.of("after end", "before prepare"));
+            }
+            for (String moment : moments) {
                 story("the connection to database " + one + " is lost " + moment, moment.endsWith("commit") || moment.equals("after prepare") ? ENDED : UNDONE,
                     token -> {
                         writeBoth(token);

@@ -103,12 +103,32 @@ final class Branch {
         }
     }
 
+    /** xa_end, and xa_prepare, which waits on the line: the vote. Except after XA_OK the branch is over. */
+    int vote() throws Fault {
+        if (resource instanceof PreparesAtEnd) {
+            shut();
+            // This comes before the loss of a connection in the call: then xa_prepare waits first, since it may have been made.
+            ended();
+            return voted(prepareBy(() -> ((PreparesAtEnd) resource).endAndPrepare(xid)));
+        }
+        end();
+        return voted(vote == Code.OK ? prepareBy(() -> resource.prepare(xid)) : rolledBackAtOnce());
+    }
+
     /** xa_end of a branch that is to be committed. It needs no reply of the coordinator, as xa_start doesn't. */
-    void end() throws Fault {
+    private void end() throws Fault {
+        shut();
+        vote = endResource(XAResource.TMSUCCESS);
+        ended();
+    }
+
+    private void shut() throws Fault {
         if (!gate.shut(NO_MORE_WORK, Manager.WORK_PATIENCE)) {
             throw lost(new Fault.Lost("work on the connection doesn't end", null), S0);
         }
-        vote = endResource(XAResource.TMSUCCESS);
+    }
+
+    private void ended() {
         may = IDLE;
         line.report("xa_end " + name(), Code.OK);
     }
@@ -133,11 +153,6 @@ final class Branch {
         line.see();
     }
 
-    /** xa_prepare, which waits on the line: the vote. Except after XA_OK the branch is over. */
-    int prepare() throws Fault {
-        return voted(vote == Code.OK ? prepareResource() : rolledBackAtOnce());
-    }
-
     private int voted(int code) {
         line.report("xa_prepare " + name(), code);
         if (code == Code.OK) {
@@ -148,9 +163,13 @@ final class Branch {
         return code;
     }
 
-    private int prepareResource() throws Fault {
+    private interface Prepare {
+        int make() throws XAException;
+    }
+
+    private int prepareBy(Prepare prepare) throws Fault {
         try {
-            int code = resource.prepare(xid);
+            int code = prepare.make();
             if (code == Code.OK || code == Code.RDONLY) {
                 return code;
             }

@@ -68,8 +68,7 @@ final class TwoPhases {
     /** xa_end and xa_prepare: why the branch can't be committed, or null. They are made also after a no of another, since they wait on the line. */
     private static Fault voteOf(Branch branch) {
         try {
-            branch.end();
-            int vote = branch.prepare();
+            int vote = branch.vote();
             return vote == Code.OK || vote == Code.RDONLY ? null : new Fault.RolledBack(branch.rm() + " voted " + Code.name(vote), null);
         } catch (Fault error) {
             return failed(branch, error);

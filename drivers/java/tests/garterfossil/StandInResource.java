@@ -24,6 +24,8 @@ final class StandInResource implements Resource {
     /** The branches that were committed, and those that were rolled back. */
     final List<BranchXid> committed = Collections.synchronizedList(new ArrayList<>()), rolledBack = Collections.synchronizedList(new ArrayList<>());
     volatile boolean isDown;
+    /** Whether connections that are made from now on take xa_end and xa_prepare by one request. */
+    volatile boolean isPreparedAtEnd;
     /** Before each call. */
     volatile Runnable before = () -> { };
     private final String name;
@@ -77,10 +79,25 @@ final class StandInResource implements Resource {
         if (isDown) {
             throw new Fault.Lost("no connection to " + name, null);
         }
-        return new StandInLink(++numbers);
+        return isPreparedAtEnd ? new LinkThatPreparesAtEnd(++numbers) : new StandInLink(++numbers);
     }
 
-    final class StandInLink implements Link, XAResource {
+    /** A connection that takes xa_end and xa_prepare by one request. */
+    private final class LinkThatPreparesAtEnd extends StandInLink implements PreparesAtEnd {
+        LinkThatPreparesAtEnd(long number) {
+            super(number);
+        }
+
+        @Override
+        public int endAndPrepare(Xid xid) throws XAException {
+            return make("end and prepare", xid, () -> {
+                move(xid, State.PREPARED, State.ACTIVE);
+                return XA_OK;
+            });
+        }
+    }
+
+    class StandInLink implements Link, XAResource {
         private final long number;
         private BranchXid own;
         private boolean isLost;
@@ -117,11 +134,11 @@ final class StandInResource implements Resource {
             }
         }
 
-        private interface Does {
+        interface Does {
             int it() throws XAException;
         }
 
-        private int make(String call, Xid xid, Does does) throws XAException {
+        int make(String call, Xid xid, Does does) throws XAException {
             before.run();
             calls.add(call);
             int told = toldFor(call);
@@ -147,7 +164,7 @@ final class StandInResource implements Resource {
             return code;
         }
 
-        private void move(Xid xid, State into, State... from) throws XAException {
+        void move(Xid xid, State into, State... from) throws XAException {
             State state = branches.get(BranchXid.copyOf(xid));
             if (state == null) {
                 throw new XAException(XAException.XAER_NOTA);

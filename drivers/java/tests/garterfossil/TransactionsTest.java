@@ -64,6 +64,37 @@ public class TransactionsTest {
     }
 
     @Test
+    public void endsAndPreparesByOneRequest() throws Exception {
+        world.b.isPreparedAtEnd = true;
+        world.overBoth().commit();
+        assertEquals(List.of("start", "end", "prepare", "commit"), callsOf(world.a));
+        assertEquals(List.of("start", "end and prepare", "commit"), callsOf(world.b));
+        GlobalTransaction refused = world.overBoth();
+        world.b.answer("end and prepare", XAException.XA_RBDEADLOCK);
+        Fault.RolledBack error = assertThrows(Fault.RolledBack.class, refused::commit);
+        assertTrue(error.getMessage(), error.getMessage().contains("b voted XA_RBDEADLOCK"));
+        GlobalTransaction alone = world.begin();
+        alone.enlist(world.b);
+        alone.commit();
+        world.overBoth().rollback();
+        assertEquals(List.of("start", "end", "commit TMONEPHASE", "start", "end", "rollback"), callsOf(world.b).subList(5, 11));
+        assertTrue(world.a.branches.isEmpty() && world.b.branches.isEmpty());
+    }
+
+    @Test
+    public void connectionsLostInEndAndPrepare() throws Exception {
+        world.b.isPreparedAtEnd = true;
+        for (int when : new int[] {StandInResource.LOST_BEFORE, StandInResource.LOST_AFTER}) {
+            GlobalTransaction transaction = world.overBoth();
+            world.b.answer("end and prepare", when);
+            assertThrows(Fault.RolledBack.class, transaction::commit);
+            World.eventually(() -> world.manager.owing() == 0);
+            assertTrue(world.a.branches.isEmpty() && world.b.branches.isEmpty());
+        }
+        assertTrue(world.a.committed.isEmpty() && world.b.committed.isEmpty());
+    }
+
+    @Test
     public void aReadOnlyVoteIsNotCommitted() throws Exception {
         GlobalTransaction transaction = world.overBoth();
         world.a.answer("prepare", XAResource.XA_RDONLY);

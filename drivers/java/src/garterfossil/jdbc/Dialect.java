@@ -1,9 +1,11 @@
 package garterfossil.jdbc;
 
 import garterfossil.Fault;
+import garterfossil.Resource;
 import java.lang.reflect.Method;
 import java.nio.charset.StandardCharsets;
 import java.sql.Connection;
+import java.sql.DatabaseMetaData;
 import java.sql.PreparedStatement;
 import java.sql.ResultSet;
 import java.sql.SQLException;
@@ -14,6 +16,7 @@ import java.util.List;
 import java.util.Set;
 import java.util.stream.Collectors;
 import java.util.stream.IntStream;
+import javax.transaction.xa.XAResource;
 
 /** How a kind of database knows its connections, and how they are ended from outside. */
 enum Dialect {
@@ -83,6 +86,8 @@ enum Dialect {
     MARIADB {
         // Each connection holds a named lock, by which the next run of the manager knows it.
         private static final int LOCKS = 512;
+        // 10.1 has blocks of statements outside of procedures (BEGIN NOT ATOMIC). MySQL, which this is for too, has none.
+        private static final int FIRST_WITH_BLOCKS = 1001;
 
         @Override
         long number(Connection connection, String label) throws SQLException {
@@ -120,6 +125,14 @@ enum Dialect {
             List<Long> found = holders(connection, label);
             found.removeIf(number -> number == 0);
             return found;
+        }
+
+        @Override
+        XAResource xaResource(Resource owner, XAResource inner, Connection connection) throws SQLException {
+            DatabaseMetaData data = connection.getMetaData();
+            boolean hasBlocks = data.getDatabaseProductName().equalsIgnoreCase("MariaDB")
+                && 100 * data.getDatabaseMajorVersion() + data.getDatabaseMinorVersion() >= FIRST_WITH_BLOCKS;
+            return hasBlocks ? new MariaDbXaResource(owner, this, inner, connection) : super.xaResource(owner, inner, connection);
         }
 
         @Override
@@ -169,6 +182,11 @@ enum Dialect {
     abstract List<Long> all(Connection connection, String label) throws SQLException;
 
     abstract void end(Connection connection, long number) throws SQLException;
+
+    /** The XAResource of a connection, as the manager calls it: over that of the driver. */
+    XAResource xaResource(Resource owner, XAResource inner, Connection connection) throws SQLException {
+        return new JdbcXaResource(owner, this, inner, connection);
+    }
 
     /** Whether the database has given the transaction of the connection up, and would answer otherwise as it is prepared. */
     boolean isGivenUp(Connection connection) throws SQLException {

@@ -27,7 +27,7 @@ final class JdbcLink implements Link {
         try {
             connection = xa.getConnection();
             Dialect dialect = owner.dialect(connection);
-            resource = new JdbcXaResource(owner, dialect, xa.getXAResource(), connection);
+            resource = dialect.xaResource(owner, xa.getXAResource(), connection);
             number = dialect.number(connection, owner.label());
         } catch (SQLException | RuntimeException error) {
             close();

@@ -12,7 +12,7 @@ import javax.transaction.xa.Xid;
  * A database driver's XAResource, which says whose it is, and doesn't prepare what the database has given up: PostgreSQL's driver
  * answers XA_OK to the prepare of a transaction in which a statement failed, and the database has rolled it back by then.
  */
-final class JdbcXaResource implements OwnedXaResource {
+class JdbcXaResource implements OwnedXaResource {
     private final Resource owner;
     private final Dialect dialect;
     private final XAResource inner;
@@ -57,7 +57,7 @@ final class JdbcXaResource implements OwnedXaResource {
         }
     }
 
-    private static XAException failed(int code, SQLException cause) {
+    static XAException failed(int code, SQLException cause) {
         XAException error = new XAException(code);
         error.initCause(cause);
         return error;

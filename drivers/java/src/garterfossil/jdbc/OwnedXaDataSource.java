@@ -38,7 +38,7 @@ final class OwnedXaDataSource {
         Connection first = xa.getConnection();
         Dialect dialect = owner.dialect(first);
         long number = dialect.number(first, owner.label());
-        XAResource resource = new JdbcXaResource(owner, dialect, xa.getXAResource(), first);
+        XAResource resource = dialect.xaResource(owner, xa.getXAResource(), first);
         open.add(number);
         return (XAConnection) Proxy.newProxyInstance(getClass().getClassLoader(), new Class<?>[] {XAConnection.class}, (proxy, method, words) -> {
             switch (method.getName()) {

@@ -1,0 +1,66 @@
+package garterfossil.jdbc;
+
+import garterfossil.PreparesAtEnd;
+import garterfossil.Resource;
+import java.sql.Connection;
+import java.sql.SQLException;
+import java.sql.Statement;
+import java.util.HexFormat;
+import javax.transaction.xa.XAException;
+import javax.transaction.xa.XAResource;
+import javax.transaction.xa.Xid;
+
+/** An XAResource of MariaDB, at which XA END and XA PREPARE are one statement: the second isn't made where the first fails. */
+final class MariaDbXaResource extends JdbcXaResource implements PreparesAtEnd {
+    /** XAER_RMFAIL, which it answers to XA END after a deadlock; XA_RBROLLBACK, XA_RBTIMEOUT and XA_RBDEADLOCK. */
+    private static final int RMFAIL = 1399, RBROLLBACK = 1402, RBTIMEOUT = 1613, RBDEADLOCK = 1614;
+
+    private final Connection connection;
+
+    MariaDbXaResource(Resource owner, Dialect dialect, XAResource inner, Connection connection) {
+        super(owner, dialect, inner, connection);
+        this.connection = connection;
+    }
+
+    @Override
+    public int endAndPrepare(Xid xid) throws XAException {
+        String text = text(xid);
+        try (Statement statement = connection.createStatement()) {
+            statement.execute("BEGIN NOT ATOMIC XA END " + text + "; XA PREPARE " + text + "; END");
+            return XA_OK;
+        } catch (SQLException error) {
+            throw failed(rolledBack(xid, error), error);
+        }
+    }
+
+    /** Rolls back what MariaDB has given up: the vote. What it was that failed is known by the code alone. */
+    private int rolledBack(Xid xid, SQLException error) throws XAException {
+        int vote = vote(error.getErrorCode());
+        if (vote != XAException.XAER_RMFAIL) {
+            try {
+                rollback(xid);
+            } catch (XAException second) {
+                // An XA PREPARE that fails has rolled back.
+                if (second.errorCode != XAException.XAER_NOTA || vote != XAException.XA_RBROLLBACK) {
+                    throw failed(XAException.XAER_RMFAIL, error);
+                }
+            }
+        }
+        return vote;
+    }
+
+    private static int vote(int code) {
+        switch (code) {
+            case RBROLLBACK: return XAException.XA_RBROLLBACK;
+            case RBTIMEOUT: return XAException.XA_RBTIMEOUT;
+            case RMFAIL: case RBDEADLOCK: return XAException.XA_RBDEADLOCK;
+            default: return XAException.XAER_RMFAIL;
+        }
+    }
+
+    private static String text(Xid xid) {
+        HexFormat hex = HexFormat.of();
+        return "0x" + hex.formatHex(xid.getGlobalTransactionId()) + ",0x" + hex.formatHex(xid.getBranchQualifier()) + ","
+            + xid.getFormatId();
+    }
+}
