@@ -3,11 +3,11 @@ package garterfossil;
 import java.util.ArrayList;
 import java.util.List;
 import java.util.concurrent.locks.LockSupport;
-import java.util.stream.Collectors;
 
 /**
  * Decides to commit. The coordinator writes the rows of one request by one write of its log, which takes a while: what other
- * threads ask for meanwhile is then decided together, by whichever of them is first.
+ * threads ask for meanwhile is then decided together. The thread that waits for a reply writes the next request as soon as that is there,
+ * so that the coordinator needn't wait until another thread runs.
  */
 final class Commits {
     /** What is asked for behind a decision, by the same write. It is refused where the decision is. */
@@ -21,8 +21,9 @@ final class Commits {
         final String gtrid;
         final Behind behind;
         private final Thread asking = Thread.currentThread();
-        // Whether its thread is to decide what was asked for, and whether that was done.
-        private volatile boolean isFirst, isOver;
+        // What was asked for together with it, if its thread is to wait for the reply.
+        private volatile Group led;
+        private volatile boolean isOver;
         private Fault fault;
 
         Commit(String gtrid, Behind behind) {
@@ -33,7 +34,7 @@ final class Commits {
         /** An interrupt waits: whether it is decided has to be known. */
         void await() {
             boolean isInterrupted = false;
-            while (!isFirst && !isOver) {
+            while (led == null && !isOver) {
                 LockSupport.park(this);
                 isInterrupted |= Thread.interrupted();
             }
@@ -42,14 +43,23 @@ final class Commits {
             }
         }
 
-        void lead() {
-            isFirst = true;
-            LockSupport.unpark(asking);
-        }
-
         void end() {
             isOver = true;
             LockSupport.unpark(asking);
+        }
+    }
+
+    /** What is decided by one request. */
+    private static final class Group {
+        final List<Commit> commits;
+        private Coordinator.Reply reply;
+
+        Group(List<Commit> commits) {
+            this.commits = commits;
+        }
+
+        void fail(Fault fault) {
+            commits.forEach(it -> it.fault = fault);
         }
     }
 
@@ -64,56 +74,94 @@ final class Commits {
     /** Decides that the transaction commits. Once this returns, the decision is in the log. */
     void decide(String gtrid, Behind behind) throws Fault {
         Commit mine = new Commit(gtrid, behind);
+        boolean isFirst;
         synchronized (this) {
-            asked.add(mine);
-            mine.isFirst = !isDeciding;
+            isFirst = !isDeciding;
             isDeciding = true;
+            if (!isFirst) {
+                asked.add(mine);
+            }
+        }
+        if (isFirst) {
+            mine.led = new Group(List.of(mine));
+            post(mine.led);
         }
         mine.await();
-        if (!mine.isOver) {
-            decideAsked();
+        if (mine.led != null) {
+            see(mine.led);
         }
         if (mine.fault != null) {
             throw mine.fault;
         }
     }
 
-    /** Decides what was asked for, and has the thread decide that asked first meanwhile. */
-    private void decideAsked() {
-        List<Commit> group;
-        synchronized (this) {
-            group = asked;
-            asked = new ArrayList<>();
-        }
+    /** Waits for the reply to a request that was posted, and has what was asked for meanwhile decided. */
+    private void see(Group group) {
         try {
-            ask(group);
+            await(group);
         } finally {
-            synchronized (this) {
-                isDeciding = !asked.isEmpty();
-                if (isDeciding) {
-                    asked.get(0).lead();
-                }
+            Group next = next();
+            if (next != null) {
+                post(next);
+                lead(next);
             }
-            group.forEach(Commit::end);
+            group.commits.forEach(Commit::end);
         }
     }
 
-    /** Asks for these by one request. Where one of them is refused, none is decided: then each is asked for alone. */
-    private void ask(List<Commit> group) {
+    /** What was asked for meanwhile, or null. */
+    private synchronized Group next() {
+        isDeciding = !asked.isEmpty();
+        if (!isDeciding) {
+            return null;
+        }
+        Group next = new Group(asked);
+        asked = new ArrayList<>();
+        return next;
+    }
+
+    /** Writes the request of another thread's group, which then waits for the reply: that of the one that asked first. */
+    private void lead(Group group) {
         try {
-            String gtrids = group.stream().map(it -> it.gtrid).collect(Collectors.joining(" "));
-            Coordinator.Reply reply = coordinator.post("decide " + gtrids + " commit");
-            group.forEach(it -> it.behind.post());
-            coordinator.await(reply);
+            coordinator.flush(group.reply);
+        } catch (Fault.Gone gone) {
+            // The thread finds that out, too.
+        }
+        Commit first = group.commits.get(0);
+        first.led = group;
+        coordinator.wake(first.asking, group.reply);
+    }
+
+    private void post(Group group) {
+        StringBuilder request = new StringBuilder("decide ");
+        group.commits.forEach(it -> request.append(it.gtrid).append(' '));
+        group.reply = coordinator.post(request.append("commit").toString());
+        try {
+            group.commits.forEach(it -> it.behind.post());
+        } catch (RuntimeException | Error error) {
+            coordinator.kill("an error of the driver: " + error);
+        }
+    }
+
+    /** Where one of them is refused, none is decided: then each is asked for alone. */
+    private void await(Group group) {
+        try {
+            coordinator.await(group.reply);
         } catch (Fault.Refused refused) {
-            group.forEach(it -> it.behind.takeBack());
-            if (group.size() == 1) {
-                group.get(0).fault = refused;
+            group.commits.forEach(it -> it.behind.takeBack());
+            if (group.commits.size() == 1) {
+                group.fail(refused);
             } else {
-                group.forEach(it -> ask(List.of(it)));
+                group.commits.forEach(this::decideAlone);
             }
         } catch (Fault fault) {
-            group.forEach(it -> it.fault = fault);
+            group.fail(fault);
         }
+    }
+
+    private void decideAlone(Commit commit) {
+        Group alone = new Group(List.of(commit));
+        post(alone);
+        await(alone);
     }
 }

@@ -307,6 +307,15 @@ final class Coordinator {
         }
     }
 
+    /** Wakes a thread that waits for a reply in another way: once it is there, or as soon as nobody else reads. */
+    void wake(Thread thread, Reply reply) {
+        reply.waiter = thread;
+        asleep.add(reply);
+        if (reply.line != null || fault != null || !isRead.get()) {
+            LockSupport.unpark(thread);
+        }
+    }
+
     /** Somebody has to read on. */
     private void wakeNext() {
         for (Reply reply = asleep.poll(); reply != null; reply = asleep.poll()) {

@@ -26,6 +26,7 @@ import java.util.Set;
 import java.util.TreeMap;
 import java.util.concurrent.CountDownLatch;
 import java.util.concurrent.TimeUnit;
+import java.util.concurrent.locks.LockSupport;
 import java.util.stream.Collectors;
 
 /**
@@ -33,7 +34,7 @@ import java.util.stream.Collectors;
  * where XA's branch state table (C193, chapter 6) has a state that explains it.
  *
  * <p>It writes each request that it reads to the file `requests` of its folder. Where the file `one-a-line` is there, it takes no line of
- * several. The file `refuse-at` has the beginning of a request that is refused once. Where the file `die-at` has a word, it ends at the
+ * several. Where `slow` is there, a decision takes 20 ms. The file `refuse-at` has the beginning of a request that is refused once. Where the file `die-at` has a word, it ends at the
  * first request that begins with it, instead of a reply, and removes the file;
  * {@code decided} is a decision to commit that it makes and doesn't tell. It begins with the line of the protocol where the file
  * `protocol` has its words. The file `names` has what {@code xatm log} prints of its log.
@@ -302,6 +303,9 @@ final class StandInCoordinator extends Process {
     }
 
     private String decide(String[] words) throws IOException {
+        if (Files.exists(folder.resolve("slow"))) {
+            LockSupport.parkNanos(20_000_000);
+        }
         List<String> gtrids = Arrays.asList(words).subList(1, words.length - 1);
         boolean isCommit = words[words.length - 1].equals("commit");
         for (String gtrid : gtrids) {

@@ -5,9 +5,16 @@ import static org.junit.Assert.assertFalse;
 import static org.junit.Assert.assertThrows;
 import static org.junit.Assert.assertTrue;
 
+import java.nio.file.Files;
+import java.util.ArrayList;
+import java.util.HashSet;
 import java.util.List;
 import java.util.concurrent.CyclicBarrier;
+import java.util.concurrent.ExecutorService;
+import java.util.concurrent.Executors;
+import java.util.concurrent.Future;
 import java.util.concurrent.TimeUnit;
+import java.util.concurrent.atomic.AtomicInteger;
 import java.util.stream.Collectors;
 import javax.transaction.xa.XAException;
 import javax.transaction.xa.XAResource;
@@ -280,6 +287,54 @@ public class TransactionsTest {
         World.eventually(() -> transaction.outcome() == Outcome.ROLLED_BACK);
         assertEquals(1, world.a.rolledBack.size());
         assertTrue(transaction.fault(), transaction.fault().contains("time-out"));
+    }
+
+    @Test
+    public void decidesTogetherWhatIsAskedForMeanwhile() throws Exception {
+        Files.writeString(world.folder.resolve("slow"), "");
+        ExecutorService pool = Executors.newFixedThreadPool(4);
+        try {
+            assertEquals(0, refusedOf(pool));
+            assertEquals(40, world.a.committed.size());
+            assertTrue(world.requests().stream().anyMatch(it -> it.startsWith("decide ") && it.split(" ").length > 3));
+            // None of them is decided with one that is refused. Each is then asked for alone.
+            Files.writeString(world.folder.resolve("refuse-at"), "decide ");
+            int refused = refusedOf(pool);
+            assertTrue("refused: " + refused, refused <= 1);
+            assertEquals(80 - refused, world.a.committed.size());
+            assertEquals(new HashSet<>(transactions(world.a)), new HashSet<>(transactions(world.b)));
+            assertEquals(80 - refused, world.b.committed.size());
+        } finally {
+            // A pipe between threads loses what is written once the thread that read last has ended.
+            world.manager.close();
+            pool.shutdown();
+        }
+    }
+
+    /** 4 threads commit 10 transactions each: how many are refused. */
+    private int refusedOf(ExecutorService pool) throws Exception {
+        AtomicInteger refused = new AtomicInteger();
+        List<Future<?>> threads = new ArrayList<>();
+        for (int thread = 0; thread < 4; thread++) {
+            threads.add(pool.submit(() -> {
+                for (int count = 0; count < 10; count++) {
+                    try {
+                        world.overBoth().commit();
+                    } catch (Fault.RolledBack error) {
+                        refused.incrementAndGet();
+                    }
+                }
+                return null;
+            }));
+        }
+        for (Future<?> thread : threads) {
+            thread.get(60, TimeUnit.SECONDS);
+        }
+        return refused.get();
+    }
+
+    private static List<String> transactions(StandInResource resource) {
+        return resource.committed.stream().map(BranchXid::transaction).collect(Collectors.toList());
     }
 
     @Test
