@@ -23,6 +23,9 @@ final class Branch {
     private boolean isFailed, isLost, isOver, isVoteIssued, isCommitIssued;
     // Why it can only be rolled back, by a code of XA; 0 if it may still be committed.
     private int vote;
+    // Why it can't be committed, as its vote showed; and what xa_commit was answered.
+    private Fault objection;
+    private int answer = Code.RETRY;
 
     Branch(BranchXid xid, Line line, ResourceManager.Lease lease, XAResource resource) {
         this.xid = xid;
@@ -68,7 +71,7 @@ final class Branch {
     /** xa_start. It is made before the coordinator is asked: what is begun on a connection ends with it. */
     void start() throws Fault {
         line.open();
-        line.issue("xa_start " + name());
+        line.issue("xa_start ", name());
         try {
             resource.start(xid, XAResource.TMNOFLAGS);
         } catch (XAException error) {
@@ -77,7 +80,7 @@ final class Branch {
             throw lost(new Fault.Lost("xa_start", error), S0);
         }
         may = ACTIVE;
-        line.report("xa_start " + name(), Code.OK);
+        line.report("xa_start ", name(), Code.OK);
     }
 
     /** The work failed: the branch will be ended by TMFAIL, and rolled back. */
@@ -91,8 +94,8 @@ final class Branch {
     void issueVote() {
         if (!isVoteIssued) {
             isVoteIssued = true;
-            line.issue("xa_end " + name() + " TMSUCCESS");
-            line.issue("xa_prepare " + name());
+            line.issue("xa_end ", name(), " TMSUCCESS");
+            line.issue("xa_prepare ", name());
         }
     }
 
@@ -103,8 +106,31 @@ final class Branch {
         }
     }
 
+    /** xa_end and xa_prepare. They are made also after a no of another, since they wait on the line. */
+    void collectVote() {
+        try {
+            int code = vote();
+            if (code != Code.OK && code != Code.RDONLY) {
+                objection = new Fault.RolledBack(rm() + " voted " + Code.name(code), null);
+            }
+        } catch (Fault error) {
+            object(error);
+        }
+    }
+
+    /** It can't be committed, and gives its connection up. */
+    void object(Fault error) {
+        objection = error;
+        giveUp("its end failed: " + error.getMessage());
+    }
+
+    /** Why it can't be committed, or null. */
+    Fault objection() {
+        return objection;
+    }
+
     /** xa_end, and xa_prepare, which waits on the line: the vote. Except after XA_OK the branch is over. */
-    int vote() throws Fault {
+    private int vote() throws Fault {
         if (resource instanceof PreparesAtEnd) {
             shut();
             // This comes before the loss of a connection in the call: then xa_prepare waits first, since it may have been made.
@@ -130,7 +156,7 @@ final class Branch {
 
     private void ended() {
         may = IDLE;
-        line.report("xa_end " + name(), Code.OK);
+        line.report("xa_end ", name(), Code.OK);
     }
 
     /** Ends the work: 0, or why the branch can only be rolled back. */
@@ -154,7 +180,7 @@ final class Branch {
     }
 
     private int voted(int code) {
-        line.report("xa_prepare " + name(), code);
+        line.report("xa_prepare ", name(), code);
         if (code == Code.OK) {
             may = PREPARED;
         } else {
@@ -195,8 +221,8 @@ final class Branch {
     }
 
     void issueCommitInOnePhase() {
-        line.issue("xa_end " + name() + " TMSUCCESS");
-        line.issue("xa_commit " + name() + " TMONEPHASE");
+        line.issue("xa_end ", name(), " TMSUCCESS");
+        line.issue("xa_commit ", name(), " TMONEPHASE");
     }
 
     /** xa_end, and xa_commit in one phase: XA_OK, or why it was rolled back. */
@@ -205,7 +231,7 @@ final class Branch {
         line.see();
         isCommitIssued = true;
         int code = vote == Code.OK ? commitResource() : rolledBackAtOnce();
-        line.report("xa_commit " + name(), code);
+        line.report("xa_commit ", name(), code);
         isOver = true;
         return code;
     }
@@ -234,7 +260,7 @@ final class Branch {
     /** Issues xa_commit of the prepared branch, if it has a connection. */
     void issueCommit() {
         if (!isLost) {
-            line.issue("xa_commit " + name());
+            line.issue("xa_commit ", name());
         }
     }
 
@@ -244,34 +270,39 @@ final class Branch {
         }
     }
 
-    /** xa_commit, which waits on the line. XA_RETRY is for the keeper. */
-    int commit() throws Fault {
+    /** xa_commit, which waits on the line. */
+    void commit() throws Fault {
         int code;
         try {
             code = Answers.commit(resource, xid, may);
         } catch (Fault.Lost error) {
             throw lost(error, FOUND);
         }
-        line.report("xa_commit " + name(), code);
+        line.report("xa_commit ", name(), code);
         if (code != Code.OK) {
             line.ask();
         }
         isOver = code != Code.RETRY;
         forgetIf(code);
-        return code;
+        answer = code;
+    }
+
+    /** What xa_commit was answered. XA_RETRY, and what wasn't answered, is for the keeper. */
+    int answer() {
+        return answer;
     }
 
     /** Issues xa_end, if it is due; it is seen to with the rollback. */
     void issueEnd() {
         if (may == ACTIVE && !isLost && !isVoteIssued) {
-            line.issue("xa_end " + name() + (isFailed ? " TMFAIL" : " TMSUCCESS"));
+            line.issue("xa_end ", name(), isFailed ? " TMFAIL" : " TMSUCCESS");
         }
         line.post();
     }
 
     void issueRollback() {
         if (!isLost && !isOver && !isVoteDue()) {
-            line.issue("xa_rollback " + name());
+            line.issue("xa_rollback ", name());
             line.post();
         }
     }
@@ -302,7 +333,7 @@ final class Branch {
         }
         vote = endResource(isEndedAsFailed ? XAResource.TMFAIL : XAResource.TMSUCCESS);
         may = isEndedAsFailed ? ROLLBACK_ONLY : IDLE;
-        line.report("xa_end " + name(), isEndedAsFailed ? Code.ROLLBACK : Code.OK);
+        line.report("xa_end ", name(), isEndedAsFailed ? Code.ROLLBACK : Code.OK);
     }
 
     /** xa_rollback, which waits on the line. */
@@ -314,7 +345,7 @@ final class Branch {
         } catch (Fault.Lost error) {
             throw lost(error, may == PREPARED ? FOUND : S0);
         }
-        line.report("xa_rollback " + name(), code);
+        line.report("xa_rollback ", name(), code);
         line.ask();
         isOver = true;
         forgetIf(code);

@@ -40,7 +40,12 @@ final class Branches {
     }
 
     Optional<Branch> at(ResourceManager rm) {
-        return all.stream().filter(branch -> branch.rm() == rm).findFirst();
+        for (Branch branch : all) {
+            if (branch.rm() == rm) {
+                return Optional.of(branch);
+            }
+        }
+        return Optional.empty();
     }
 
     Optional<Branch> of(XAResource xaResource) {

@@ -1,6 +1,6 @@
 package garterfossil;
 
-import java.util.List;
+import java.util.Collection;
 import java.util.concurrent.CountDownLatch;
 import java.util.concurrent.TimeUnit;
 
@@ -43,7 +43,7 @@ final class Debt {
     }
 
     /** Waits so many milliseconds for all of them. */
-    static void awaitAll(List<Debt> debts, long millis) {
+    static void awaitAll(Collection<Debt> debts, long millis) {
         long until = System.nanoTime() + millis * 1_000_000;
         for (Debt debt : debts) {
             debt.await((until - System.nanoTime()) / 1_000_000);

@@ -104,30 +104,53 @@ final class Helpers {
      * would only cost one the time to change threads. A branch on a connection of the program's own stays in this thread, too.
      */
     void each(List<Branch> branches, boolean isBusy, Step step) {
-        List<Part> parts = new ArrayList<>(branches.size());
-        boolean isHelped = asking.incrementAndGet() <= most && !isBusy;
         try {
-            for (Branch branch : branches) {
-                Part part = new Part(step, branch);
-                parts.add(part);
-                if (isHelped && parts.size() > 1 && branch.link() != null) {
-                    give(part);
-                }
+            if (asking.incrementAndGet() <= most && !isBusy) {
+                together(branches, step);
+            } else {
+                alone(branches, step);
             }
-            parts.forEach(Part::makeUnlessBegun);
-            parts.forEach(Part::await);
         } finally {
             asking.decrementAndGet();
         }
-        parts.forEach(Helpers::seeNoError);
     }
 
-    private static void seeNoError(Part part) {
-        if (part.error instanceof Error) {
-            throw (Error) part.error;
+    private void together(List<Branch> branches, Step step) {
+        List<Part> parts = new ArrayList<>(branches.size());
+        for (Branch branch : branches) {
+            Part part = new Part(step, branch);
+            parts.add(part);
+            if (parts.size() > 1 && branch.link() != null) {
+                give(part);
+            }
         }
-        if (part.error != null) {
-            throw (RuntimeException) part.error;
+        parts.forEach(Part::makeUnlessBegun);
+        Throwable thrown = null;
+        for (Part part : parts) {
+            part.await();
+            thrown = thrown == null ? part.error : thrown;
+        }
+        seeNoError(thrown);
+    }
+
+    private static void alone(List<Branch> branches, Step step) {
+        Throwable thrown = null;
+        for (Branch branch : branches) {
+            try {
+                step.make(branch);
+            } catch (RuntimeException | Error error) {
+                thrown = thrown == null ? error : thrown;
+            }
+        }
+        seeNoError(thrown);
+    }
+
+    private static void seeNoError(Throwable thrown) {
+        if (thrown instanceof Error) {
+            throw (Error) thrown;
+        }
+        if (thrown != null) {
+            throw (RuntimeException) thrown;
         }
     }
 

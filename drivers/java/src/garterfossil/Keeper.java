@@ -191,13 +191,13 @@ final class Keeper {
 
     /** How many calls end what it lists. */
     private int scanOnce() throws Fault {
-        line.issue("xa_recover " + PAGE + " TMSTARTRSCAN");
+        line.issue("xa_recover ", PAGE, " TMSTARTRSCAN");
         line.ask();
         List<BranchXid> listed = listed();
         session.seeListed(rm, listed);
         int made = reportPage(listed, 0);
         for (int from = PAGE; from <= listed.size(); from += PAGE) {
-            line.issue("xa_recover " + PAGE);
+            line.issue("xa_recover ", PAGE);
             line.ask();
             made += reportPage(listed, from);
         }
@@ -274,12 +274,12 @@ final class Keeper {
     private int make(String call, BranchXid xid, int may) throws Fault {
         if (call.equals("xa_forget")) {
             forgetResource(resource, xid);
-            line.report("xa_forget " + xid, Code.OK);
+            line.report("xa_forget ", xid, Code.OK);
             line.ask();
             return Code.OK;
         }
         int code = call.equals("xa_commit") ? Answers.commit(resource, xid, may) : Answers.rollback(resource, xid, may);
-        line.report(call + " " + xid, code);
+        line.report(call + " ", xid, code);
         line.ask();
         if (call.equals("xa_rollback")) {
             session.noteUndone(xid);
@@ -292,10 +292,10 @@ final class Keeper {
 
     /** xa_forget of a branch that ended by itself, once the log has a record of it. */
     static void forget(Line line, BranchXid xid, XAResource resource) throws Fault {
-        line.issue("xa_forget " + xid);
+        line.issue("xa_forget ", xid);
         line.ask();
         forgetResource(resource, xid);
-        line.report("xa_forget " + xid, Code.OK);
+        line.report("xa_forget ", xid, Code.OK);
         line.ask();
     }
 
@@ -333,7 +333,7 @@ final class Keeper {
         connect();
         int code;
         try {
-            line.issue(debt.call() + " " + debt.xid);
+            line.issue(debt.call() + " ", debt.xid);
             line.ask();
             code = make(debt.call(), debt.xid, debt.may);
         } catch (Fault.Refused refused) {

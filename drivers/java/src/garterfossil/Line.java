@@ -28,19 +28,23 @@ final class Line {
     void open() {
         if (!isOpen) {
             isOpen = true;
-            issue("xa_open");
-            report("xa_open", 0);
+            issue("xa_open", "");
+            report("xa_open", "", 0);
         }
     }
 
     /** Lets a call wait on the line. */
-    void issue(String call) {
-        begin("issue").append(call);
+    void issue(String call, Object branch) {
+        begin("issue").append(call).append(branch);
+    }
+
+    void issue(String call, Object branch, String flag) {
+        begin("issue").append(call).append(branch).append(flag);
     }
 
     /** Reports how the call that waits first was answered. */
-    void report(String call, int code) {
-        begin("answer").append(call).append(' ').append(code);
+    void report(String call, Object branch, int code) {
+        begin("answer").append(call).append(branch).append(' ').append(code);
     }
 
     /** Reports the page that answers an xa_recover. */
@@ -50,7 +54,10 @@ final class Line {
     }
 
     private StringBuilder begin(String word) {
-        return kept.append(kept.length() == 0 ? "" : Coordinator.AND).append(word).append(place);
+        if (kept.length() > 0) {
+            kept.append(Coordinator.AND);
+        }
+        return kept.append(word).append(place);
     }
 
     // ** posts, and their replies
@@ -60,7 +67,10 @@ final class Line {
         if (kept.length() == 0) {
             return false;
         }
-        post.append(post.length() == 0 ? "" : Coordinator.AND).append(kept);
+        if (post.length() > 0) {
+            post.append(Coordinator.AND);
+        }
+        post.append(kept);
         kept.setLength(0);
         return true;
     }

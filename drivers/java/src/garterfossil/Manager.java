@@ -326,11 +326,7 @@ public final class Manager implements AutoCloseable {
 
     /** Gives this thread a transaction, or none (null). */
     public void associate(GlobalTransaction transaction) {
-        if (transaction == null) {
-            current.remove();
-        } else {
-            current.set(transaction);
-        }
+        current.set(transaction);
     }
 
     /** How many branches and recoveries wait for a resource that can't be reached. */

@@ -29,6 +29,7 @@ final class Session {
         final int number;
         private final Line[] lines;
         private final String begin;
+        private final StringBuilder post = new StringBuilder();
         private Coordinator.Reply next;
 
         Slot(int number) {
@@ -47,11 +48,9 @@ final class Session {
 
         /** Posts what is kept on the thread's lines, if anything is, by one line. */
         void post() {
-            StringBuilder post = new StringBuilder();
-            List<Line> from = movedTo(post);
+            List<Line> from = moved();
             if (!from.isEmpty()) {
-                Coordinator.Reply reply = coordinator.post(post.toString());
-                from.forEach(line -> line.expect(reply));
+                expect(from, coordinator.post(post.toString()));
             }
         }
 
@@ -61,13 +60,20 @@ final class Session {
                 post();
                 return;
             }
-            StringBuilder post = new StringBuilder();
-            List<Line> from = movedTo(post);
+            List<Line> from = moved();
             next = coordinator.post(post.append(from.isEmpty() ? "" : Coordinator.AND).append(begin).toString());
-            from.forEach(line -> line.expect(next));
+            expect(from, next);
         }
 
-        private List<Line> movedTo(StringBuilder post) {
+        private void expect(List<Line> from, Coordinator.Reply reply) {
+            for (Line line : from) {
+                line.expect(reply);
+            }
+        }
+
+        /** Moves what the lines keep to the post: those that kept something. */
+        private List<Line> moved() {
+            post.setLength(0);
             List<Line> from = new ArrayList<>(lines.length);
             for (Line line : lines) {
                 if (line != null && line.moveTo(post)) {

@@ -2,9 +2,9 @@ package garterfossil;
 
 import java.lang.System.Logger.Level;
 import java.util.ArrayList;
+import java.util.HashMap;
 import java.util.List;
 import java.util.Map;
-import java.util.concurrent.ConcurrentHashMap;
 
 /**
  * The commit of a transaction of several branches: all vote, the coordinator decides, and those that are prepared commit (C193, section
@@ -40,44 +40,23 @@ final class TwoPhases {
         transaction.become(Outcome.PREPARING);
         branches.all().forEach(Branch::issueVote);
         branches.post();
-        Map<Branch, Fault> faults = new ConcurrentHashMap<>();
         List<Branch> voting = new ArrayList<>();
         for (Branch branch : branches.all()) {
             try {
                 branch.seeIssued();
                 voting.add(branch);
             } catch (Fault error) {
-                faults.put(branch, failed(branch, error));
+                branch.object(error);
             }
         }
-        manager.helpers.each(voting, branches.session().isBusy(), branch -> {
-            Fault fault = voteOf(branch);
-            if (fault != null) {
-                faults.put(branch, fault);
-            }
-        });
+        manager.helpers.each(voting, branches.session().isBusy(), Branch::collectVote);
         for (Branch branch : branches.all()) {
-            Fault fault = faults.get(branch);
+            Fault fault = branch.objection();
             if (fault != null) {
                 transaction.rollBack();
                 throw new Fault.RolledBack(transaction + " is rolled back: " + fault.getMessage(), fault);
             }
         }
-    }
-
-    /** xa_end and xa_prepare: why the branch can't be committed, or null. They are made also after a no of another, since they wait on the line. */
-    private static Fault voteOf(Branch branch) {
-        try {
-            int vote = branch.vote();
-            return vote == Code.OK || vote == Code.RDONLY ? null : new Fault.RolledBack(branch.rm() + " voted " + Code.name(vote), null);
-        } catch (Fault error) {
-            return failed(branch, error);
-        }
-    }
-
-    private static Fault failed(Branch branch, Fault error) {
-        branch.giveUp("its end failed: " + error.getMessage());
-        return error;
     }
 
     // ** the decision
@@ -143,14 +122,12 @@ final class TwoPhases {
 
     private void tell(List<Branch> prepared) throws Fault {
         Runnable paid = branches.session().paid(branches.gtrid(), prepared.size());
-        Map<Branch, Integer> answers = new ConcurrentHashMap<>();
         List<Branch> told = new ArrayList<>(prepared);
         told.removeIf(branch -> !isIssued(branch));
-        prepared.forEach(branch -> answers.put(branch, Code.RETRY));
-        manager.helpers.each(told, branches.session().isBusy(), branch -> answers.put(branch, answerOf(branch)));
+        manager.helpers.each(told, branches.session().isBusy(), TwoPhases::commit);
         // The row may leave the log once the coordinator has read them.
         branches.post();
-        Map<Branch, Debt> debts = new ConcurrentHashMap<>();
+        Map<Branch, Debt> debts = new HashMap<>();
         for (Branch branch : prepared) {
             if (branch.isOver()) {
                 paid.run();
@@ -158,10 +135,10 @@ final class TwoPhases {
                 debts.put(branch, branches.owe(branch, true, paid));
             }
         }
-        Debt.awaitAll(new ArrayList<>(debts.values()), PATIENCE);
+        Debt.awaitAll(debts.values(), PATIENCE);
         HeuristicEnds ends = new HeuristicEnds();
         for (Branch branch : prepared) {
-            int code = debts.containsKey(branch) ? debts.get(branch).heuristic() : answers.get(branch);
+            int code = debts.containsKey(branch) ? debts.get(branch).heuristic() : branch.answer();
             if (Code.isHeuristic(code) && code != Code.HEURCOM) {
                 ends.add(branch, code);
             }
@@ -180,13 +157,12 @@ final class TwoPhases {
         }
     }
 
-    /** xa_commit: the answer. What goes wrong is left to the keeper. */
-    private static int answerOf(Branch branch) {
+    /** xa_commit. What goes wrong is left to the keeper. */
+    private static void commit(Branch branch) {
         try {
-            return branch.commit();
+            branch.commit();
         } catch (Fault error) {
             noteAgain(branch, error);
-            return Code.RETRY;
         }
     }
 

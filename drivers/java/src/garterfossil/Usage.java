@@ -6,6 +6,7 @@ import java.time.Duration;
 final class Usage {
     private int branches;
     private boolean isWanted, isHeld;
+    private int waiting;
 
     /** A branch begins. Waits while a recovery has the resource. */
     synchronized void enter(Duration patience) throws Fault.Unavailable {
@@ -18,7 +19,9 @@ final class Usage {
     /** A branch is over, or its end is left to the recovery. */
     synchronized void leave() {
         branches--;
-        notifyAll();
+        if (waiting > 0) {
+            notifyAll();
+        }
     }
 
     /** Keeps branches away, and waits until none is there. False if that lasts too long. */
@@ -45,11 +48,14 @@ final class Usage {
             if (left <= 0) {
                 return false;
             }
+            waiting++;
             try {
                 wait(left / 1_000_000 + 1);
             } catch (InterruptedException error) {
                 Thread.currentThread().interrupt();
                 return condition.getAsBoolean();
+            } finally {
+                waiting--;
             }
         }
         return true;

@@ -2,6 +2,7 @@ package garterfossil.jdbc;
 
 import garterfossil.Fault;
 import garterfossil.Gate;
+import garterfossil.GlobalTransaction;
 import java.lang.reflect.InvocationHandler;
 import java.lang.reflect.InvocationTargetException;
 import java.lang.reflect.Method;
@@ -23,20 +24,20 @@ final class ConnectionHandle implements InvocationHandler {
     private final JdbcLink link;
     private final Gate gate;
     // The transaction, or null outside of any.
-    private final String transaction;
+    private final GlobalTransaction transaction;
     private final Runnable whenClosed;
     // Those that were made on it: they are closed with it.
     private final List<Statement> statements = new ArrayList<>();
     private boolean isClosed;
 
-    private ConnectionHandle(JdbcLink link, Gate gate, String transaction, Runnable whenClosed) {
+    private ConnectionHandle(JdbcLink link, Gate gate, GlobalTransaction transaction, Runnable whenClosed) {
         this.link = link;
         this.gate = gate;
         this.transaction = transaction;
         this.whenClosed = whenClosed;
     }
 
-    static Connection inTransaction(JdbcLink link, Gate gate, String transaction) {
+    static Connection inTransaction(JdbcLink link, Gate gate, GlobalTransaction transaction) {
         return proxy(new ConnectionHandle(link, gate, transaction, () -> { }));
     }
 

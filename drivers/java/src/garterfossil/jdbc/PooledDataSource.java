@@ -37,7 +37,7 @@ final class PooledDataSource implements DataSource {
                 return ofNoTransaction();
             }
             GlobalTransaction.Enlisted branch = transaction.enlist(resource);
-            return ConnectionHandle.inTransaction((JdbcLink) branch.link(), branch.gate(), transaction.toString());
+            return ConnectionHandle.inTransaction((JdbcLink) branch.link(), branch.gate(), transaction);
         } catch (Fault fault) {
             throw new SQLException(fault.getMessage(), "08001", fault);
         }
