@@ -74,10 +74,7 @@ final class Branches {
             // It will be committed in two phases: so the calls of the first are issued while the work goes on.
             all.forEach(Branch::issueVoteAhead);
             slot.post();
-            if (!session.isBusy()) {
-                // Else others write it soon, with what is theirs.
-                session.coordinator.flush();
-            }
+            session.commits.flush();
         }
         return branch;
     }

@@ -95,6 +95,16 @@ final class Commits {
         }
     }
 
+    /** Sees that what was posted is written: now, or once a decision that is under way is made, since nothing else is done before that. */
+    void flush() throws Fault.Gone {
+        synchronized (this) {
+            if (isDeciding) {
+                return;
+            }
+        }
+        coordinator.flush();
+    }
+
     /** Waits for the reply to a request that was posted, and has what was asked for meanwhile decided. */
     private void see(Group group) {
         try {
@@ -103,6 +113,9 @@ final class Commits {
             Group next = next();
             if (next != null) {
                 post(next);
+            }
+            write();
+            if (next != null) {
                 lead(next);
             }
             group.commits.forEach(Commit::end);
@@ -120,13 +133,17 @@ final class Commits {
         return next;
     }
 
-    /** Writes the request of another thread's group, which then waits for the reply: that of the one that asked first. */
-    private void lead(Group group) {
+    /** Writes the next decision, and what else was posted meanwhile. */
+    private void write() {
         try {
-            coordinator.flush(group.reply);
+            coordinator.flush();
         } catch (Fault.Gone gone) {
-            // The thread finds that out, too.
+            // Whoever waits for the reply finds that out, too.
         }
+    }
+
+    /** Another thread waits for the reply to the request of its group: that of the one that asked first. */
+    private void lead(Group group) {
         Commit first = group.commits.get(0);
         first.led = group;
         coordinator.wake(first.asking, group.reply);
@@ -139,24 +156,38 @@ final class Commits {
         try {
             group.commits.forEach(it -> it.behind.post());
         } catch (RuntimeException | Error error) {
-            coordinator.kill("an error of the driver: " + error);
+            ended(error);
+        }
+    }
+
+    private void await(Group group) {
+        try {
+            seeReply(group);
+        } catch (Fault fault) {
+            group.fail(fault);
+        } catch (RuntimeException | Error error) {
+            group.fail(ended(error));
         }
     }
 
     /** Where one of them is refused, none is decided: then each is asked for alone. */
-    private void await(Group group) {
+    private void seeReply(Group group) throws Fault {
         try {
             coordinator.await(group.reply);
         } catch (Fault.Refused refused) {
             group.commits.forEach(it -> it.behind.takeBack());
             if (group.commits.size() == 1) {
-                group.fail(refused);
-            } else {
-                group.commits.forEach(this::decideAlone);
+                throw refused;
             }
-        } catch (Fault fault) {
-            group.fail(fault);
+            group.commits.forEach(this::decideAlone);
         }
+    }
+
+    /** An error of the driver itself: nobody here knows what is decided, and the next session finds it in the log. */
+    private Fault.Gone ended(Throwable error) {
+        String reason = "an error of the driver: " + error;
+        coordinator.kill(reason);
+        return new Fault.Gone(reason);
     }
 
     private void decideAlone(Commit commit) {
