@@ -41,7 +41,8 @@ final class MariaDbXaResource extends JdbcXaResource implements PreparesAtEnd {
                 rollback(xid);
             } catch (XAException second) {
                 // An XA PREPARE that fails has rolled back.
-                if (second.errorCode != XAException.XAER_NOTA || vote != XAException.XA_RBROLLBACK) {
+                boolean isGone = second.errorCode == XAException.XAER_NOTA && vote == XAException.XA_RBROLLBACK;
+                if (!isGone && (second.errorCode < XAException.XA_RBBASE || second.errorCode > XAException.XA_RBEND)) {
                     throw failed(XAException.XAER_RMFAIL, error);
                 }
             }

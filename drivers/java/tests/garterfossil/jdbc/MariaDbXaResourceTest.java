@@ -1,0 +1,103 @@
+package garterfossil.jdbc;
+
+import static org.junit.Assert.assertEquals;
+import static org.junit.Assert.assertThrows;
+
+import java.lang.reflect.Proxy;
+import java.sql.Connection;
+import java.sql.SQLException;
+import java.sql.Statement;
+import java.util.ArrayList;
+import java.util.List;
+import javax.transaction.xa.XAException;
+import javax.transaction.xa.XAResource;
+import javax.transaction.xa.Xid;
+import org.junit.Test;
+
+/** xa_end and xa_prepare by one statement, and what MariaDB may answer to it. */
+public class MariaDbXaResourceTest {
+    private static final String TEXT = "BEGIN NOT ATOMIC XA END 0x0102,0x03,7; XA PREPARE 0x0102,0x03,7; END";
+
+    private final List<String> done = new ArrayList<>();
+    /** What the statement fails by, and what XA ROLLBACK is answered; 0 where they don't. */
+    private int error, rollback;
+
+    private final Xid xid = new Xid() {
+        @Override
+        public int getFormatId() {
+            return 7;
+        }
+
+        @Override
+        public byte[] getGlobalTransactionId() {
+            return new byte[] {1, 2};
+        }
+
+        @Override
+        public byte[] getBranchQualifier() {
+            return new byte[] {3};
+        }
+    };
+
+    private interface Call {
+        Object made(Object[] words) throws Exception;
+    }
+
+    private static <F> F of(Class<F> face, String name, Call call) {
+        return face.cast(Proxy.newProxyInstance(face.getClassLoader(), new Class<?>[] {face},
+            (proxy, method, words) -> method.getName().equals(name) ? call.made(words) : null));
+    }
+
+    private MariaDbXaResource resource() {
+        Statement statement = of(Statement.class, "execute", words -> {
+            done.add((String) words[0]);
+            if (error != 0) {
+                throw new SQLException("on purpose", "XAE", error);
+            }
+            return false;
+        });
+        XAResource inner = of(XAResource.class, "rollback", words -> {
+            done.add("rollback");
+            if (rollback != 0) {
+                throw new XAException(rollback);
+            }
+            return null;
+        });
+        return new MariaDbXaResource(null, Dialect.MARIADB, inner, of(Connection.class, "createStatement", words -> statement));
+    }
+
+    private void failsBy(int code, int wanted, String... calls) {
+        error = code;
+        done.clear();
+        assertEquals(wanted, assertThrows(XAException.class, () -> resource().endAndPrepare(xid)).errorCode);
+        assertEquals(List.of(calls), done);
+    }
+
+    @Test
+    public void itIsPrepared() throws Exception {
+        assertEquals(XAResource.XA_OK, resource().endAndPrepare(xid));
+        assertEquals(List.of(TEXT), done);
+    }
+
+    @Test
+    public void whatIsGivenUpIsRolledBack() {
+        failsBy(1399, XAException.XA_RBDEADLOCK, TEXT, "rollback");
+        failsBy(1402, XAException.XA_RBROLLBACK, TEXT, "rollback");
+        failsBy(1613, XAException.XA_RBTIMEOUT, TEXT, "rollback");
+        failsBy(1614, XAException.XA_RBDEADLOCK, TEXT, "rollback");
+        rollback = XAException.XA_RBROLLBACK;
+        failsBy(1614, XAException.XA_RBDEADLOCK, TEXT, "rollback");
+        // XA PREPARE has rolled it back itself; XA END never does.
+        rollback = XAException.XAER_NOTA;
+        failsBy(1402, XAException.XA_RBROLLBACK, TEXT, "rollback");
+        failsBy(1614, XAException.XAER_RMFAIL, TEXT, "rollback");
+    }
+
+    @Test
+    public void elseNobodyKnows() {
+        failsBy(1397, XAException.XAER_RMFAIL, TEXT);
+        failsBy(2013, XAException.XAER_RMFAIL, TEXT);
+        rollback = XAException.XAER_RMFAIL;
+        failsBy(1402, XAException.XAER_RMFAIL, TEXT, "rollback");
+    }
+}
