@@ -83,7 +83,8 @@ final class Hooks {
     }
 
     private static <F> F proxy(Class<F> face, F plain, Calls calls) {
-        return face.cast(Proxy.newProxyInstance(Hooks.class.getClassLoader(), new Class<?>[] {face}, (proxy, method, words) -> calls.made(method, words)));
+        return face.cast(Proxy.newProxyInstance(Hooks.class.getClassLoader(), new Class<?>[] {face},
+            (proxy, method, words) -> calls.made(method, words)));
     }
 
     private static Object direct(Object target, Method method, Object[] words) throws Throwable {

@@ -277,7 +277,8 @@ public class Tour {
                 Thread.sleep(100);
                 run(one, "SELECT 1");
             });
-            List<String> moments = new ArrayList<>(List.of("before end", "after end", "before prepare", "after prepare", "before commit", "after commit"));
+            List<String> moments = new ArrayList<>(List.of("before end", "after end", "before prepare", "after prepare"));
+            moments.addAll(List.of("before commit", "after commit"));
             if (!isPostgreSQL(one)) {
                 // MariaDB gets both calls by one request.
                 moments.removeAll(List.of("after end", "before prepare"));

@@ -34,8 +34,8 @@ import java.util.stream.Collectors;
  * where XA's branch state table (C193, chapter 6) has a state that explains it.
  *
  * <p>It writes each request that it reads to the file `requests` of its folder. Where the file `one-a-line` is there, it takes no line of
- * several. Where `slow` is there, a decision takes 20 ms. The file `refuse-at` has the beginning of a request that is refused once. Where the file `die-at` has a word, it ends at the
- * first request that begins with it, instead of a reply, and removes the file;
+ * several. Where `slow` is there, a decision takes 20 ms. The file `refuse-at` has the beginning of a request that is refused once.
+ * Where the file `die-at` has a word, it ends at the first request that begins with it, instead of a reply, and removes the file;
  * {@code decided} is a decision to commit that it makes and doesn't tell. It begins with the line of the protocol where the file
  * `protocol` has its words. The file `names` has what {@code xatm log} prints of its log.
  */
