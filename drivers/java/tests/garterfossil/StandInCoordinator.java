@@ -7,7 +7,6 @@ import java.io.InputStreamReader;
 import java.io.OutputStream;
 import java.io.PipedInputStream;
 import java.io.PipedOutputStream;
-import java.io.PrintStream;
 import java.io.UncheckedIOException;
 import java.nio.charset.StandardCharsets;
 import java.nio.file.Files;
@@ -394,18 +393,16 @@ final class StandInCoordinator extends Process {
 
     /** Replies to requests until it is told to end. */
     private void serve() {
-        try (PrintStream replies = new PrintStream(toDriver, true, StandardCharsets.ISO_8859_1)) {
+        try (OutputStream replies = toDriver) {
             if (Files.exists(folder.resolve("protocol"))) {
-                replies.print("protocol " + Files.readString(folder.resolve("protocol")).trim() + "\n");
+                write(replies, "protocol " + Files.readString(folder.resolve("protocol")).trim());
             }
-            replies.print("restarted " + incarnation + " " + rows.size() + " 0\n");
-            replies.flush();
+            write(replies, "restarted " + incarnation + " " + rows.size() + " 0");
             BufferedReader requests = new BufferedReader(new InputStreamReader(fromDriver, StandardCharsets.ISO_8859_1));
             for (String line = requests.readLine(); line != null; line = requests.readLine()) {
                 // The name stands in front of the transaction in each identifier that leaves.
                 String reply = replyToAll(line.replaceAll("(^| )7:" + name, "$17:"));
-                replies.print(reply.replaceAll("(^| )7:", "$17:" + name) + "\n");
-                replies.flush();
+                write(replies, reply.replaceAll("(^| )7:", "$17:" + name));
                 if (line.equals("quit")) {
                     return;
                 }
@@ -414,6 +411,23 @@ final class StandInCoordinator extends Process {
             // It is killed, or the driver is gone.
         } finally {
             ended.countDown();
+        }
+    }
+
+    /** A pipe between threads takes nothing once the thread that read last has ended, until another one reads. */
+    private static void write(OutputStream replies, String line) throws IOException {
+        byte[] bytes = (line + "\n").getBytes(StandardCharsets.ISO_8859_1);
+        while (true) {
+            try {
+                replies.write(bytes);
+                replies.flush();
+                return;
+            } catch (IOException error) {
+                if (!"Read end dead".equals(error.getMessage())) {
+                    throw error;
+                }
+                LockSupport.parkNanos(1_000_000);
+            }
         }
     }
 

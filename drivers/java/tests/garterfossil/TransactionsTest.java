@@ -305,8 +305,6 @@ public class TransactionsTest {
             assertEquals(new HashSet<>(transactions(world.a)), new HashSet<>(transactions(world.b)));
             assertEquals(80 - refused, world.b.committed.size());
         } finally {
-            // A pipe between threads loses what is written once the thread that read last has ended.
-            world.manager.close();
             pool.shutdown();
         }
     }
