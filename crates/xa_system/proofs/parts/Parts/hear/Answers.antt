@@ -9,9 +9,11 @@ use Rattle.xa_base.specs.declared.refusal.Refusal.TheVariants as Refusals
 use Rattle.xa_base.specs.declared.step.Step.TheVariants as Steps
 use Rattle.xa_line.specs.Traffic.{Traffic}
 use Rattle.xa_system.specs.Parts.{sees}
-use Rattle.xa_system.proofs.Steps.Hear.{book_up, hear_answers, hear_did, hear_fits, hear_found, hear_lacks, hear_limit, hear_nothing, hear_undone, recorded_answer, some_and}
+use Rattle.xa_system.proofs.Steps.Hear.{book_up, hear_answers, hear_did, hear_fits, hear_found, hear_lacks, hear_limit, hear_nothing, hear_undone}
+use Rattle.xa_system.proofs.Steps.HeardAnswers.{recorded_answer, some_and}
 use Rattle.xa_system.proofs.Steps.OfManager.{sound_book}
-use Rattle.xa_system.proofs.Histories.Standing.{refused_goes, site_read}
+use Rattle.xa_system.proofs.Histories.Standing.{site_read}
+use Rattle.xa_system.proofs.Histories.RefusedSteps.{refused_goes}
 use Rattle.xa_system.proofs.Log.Changes.{log_undone}
 use Rattle.xa_system.proofs.parts.Parts.hear.Goals as goal
 

@@ -3,7 +3,9 @@ use Rattle.std.specs.Result.{result_err}
 use Rattle.xa_tm.specs.Calls.{book_in}
 use Rattle.xa_line.specs.Traffic.{Traffic, with_more}
 use Rattle.xa_system.specs.Parts.{sees}
-use Rattle.xa_system.proofs.Steps.Resolve.{resolved_closes_none, recovery_open, recovery_room, recovery_unclosed, resolve_did, resolve_hindered, resolve_lacks}
+use Rattle.xa_system.proofs.Steps.Resolve.{resolve_did, resolve_hindered, resolve_lacks}
+use Rattle.xa_system.proofs.Steps.RecoveryGoes.{recovery_open, recovery_room, recovery_unclosed}
+use Rattle.xa_system.proofs.Steps.RecoveryRules.{resolved_closes_none}
 use Rattle.xa_tm.specs.Refusing.{resolved_in}
 use Rattle.xa_system.proofs.parts.Parts.resolve.Goals as goal
 

@@ -5,7 +5,9 @@ use Rattle.xa_model.specs.Trace.{Happening.ResolvedOpen}
 use Rattle.xa_system.proofs.Log.Changes.{log_kept}
 use Rattle.xa_line.specs.Traffic.{Traffic, with_more}
 use Rattle.xa_system.specs.Parts.{sees}
-use Rattle.xa_system.proofs.Steps.Resolve.{open_closes_none, recovery_open, recovery_room, recovery_unclosed, open_did, open_hindered, open_lacks}
+use Rattle.xa_system.proofs.Steps.ResolveOpen.{open_did, open_hindered, open_lacks}
+use Rattle.xa_system.proofs.Steps.RecoveryGoes.{recovery_open, recovery_room, recovery_unclosed}
+use Rattle.xa_system.proofs.Steps.RecoveryRules.{open_closes_none}
 use Rattle.xa_tm.specs.Refusing.{resolved_open_in}
 use Rattle.xa_system.proofs.parts.Parts.resolve_open.Goals as goal
 
