@@ -1,6 +1,7 @@
 -- Lines and their replies, in turn.
 use Rattle.std.proofs.Common.{◌≡◌, ◌≢◌, ◌∙◌, ◌⊎◌, inl, inr, ◌==◌, ℕ, Bool, true, false, cond, List, [], ◌∷◌, ◌++◌, map, Option, Some, None, refl, sym, ap, subst, append_assoc, arith, ◌||◌, ◌&&◌, not}
-use Rattle.std.specs.Prelude.{MatchBool, Result, Ok, Err, OnErr, OnOk}
+use Rattle.std.specs.Prelude.{MatchBool, Result, Ok, Err, OnErr}
+use Rattle.std.proofs.lemmas.Bool.{true≢false}
 use Rattle.std.proofs.lemmas.List.{append-nil, map-append}
 use Rattle.std.specs.Io.KnownBytes.{Appends, Consumes, IsAtEnd, Keeps}
 use Rattle.std.specs.List.{list_any}
@@ -23,9 +24,6 @@ use Rattle.xa_names.specs.Lines.{line_renamed}
 use Rattle.xa_requests.specs.Responses.{response_text}
 use Rattle.xa_requests.specs.declared.response.Response.{Response}
 
-true_is_not_false : true ≡ false → ⊥
-true_is_not_false h = cc
-
 cons_is_not_nil : (b : ℕ) (bs : List ℕ) → b ∷ bs ≡ [] → ⊥
 cons_is_not_nil b bs h = cc
 
@@ -38,7 +36,7 @@ first_line (b ∷ bs) rest plain = by_test (b == 10) plain (first_line bs rest)
   where
     by_test : (c : Bool) → (c || list_any (λ b. b == 10) bs) ≡ false → (IsPlain bs → text_lines (bs ++ 10 ∷ rest) ≡ bs ∷ text_lines rest)
         → cond c ([] ∷ text_lines (bs ++ 10 ∷ rest)) (with_first b (text_lines (bs ++ 10 ∷ rest))) ≡ (b ∷ bs) ∷ text_lines rest
-    by_test true h on = absurd (true_is_not_false h)
+    by_test true h on = absurd (true≢false h)
     by_test false h on = ap (with_first b) (on h)
 
 -- a last line, which none ended
@@ -47,14 +45,14 @@ last_line [] plain some = absurd (some refl)
 last_line (b ∷ []) plain some = by_test (b == 10) plain
   where
     by_test : (c : Bool) → (c || false) ≡ false → cond c ([] ∷ []) ((b ∷ []) ∷ []) ≡ (b ∷ []) ∷ []
-    by_test true h = absurd (true_is_not_false h)
+    by_test true h = absurd (true≢false h)
     by_test false h = refl
 last_line (b ∷ x ∷ xs) plain some = by_test (b == 10) plain (λ h. ap (with_first b) (last_line (x ∷ xs) h (cons_is_not_nil x xs)))
   where
     by_test : (c : Bool) → (c || list_any (λ b. b == 10) (x ∷ xs)) ≡ false
         → (IsPlain (x ∷ xs) → with_first b (text_lines (x ∷ xs)) ≡ (b ∷ x ∷ xs) ∷ [])
         → cond c ([] ∷ text_lines (x ∷ xs)) (with_first b (text_lines (x ∷ xs))) ≡ (b ∷ x ∷ xs) ∷ []
-    by_test true h on = absurd (true_is_not_false h)
+    by_test true h on = absurd (true≢false h)
     by_test false h on = on h
 
 pub whole_none : IsWholeLines []
@@ -84,7 +82,7 @@ ends_behind (r ∷ rs) ss P silent ends = by_test (is_bye r) silent (λ rest. en
   where
     by_test : (c : Bool) → (c || list_any is_bye rs) ≡ false → (list_any is_bye rs ≡ false → EndsAtLastOr (rs ++ ss) P)
         → MatchBool c (rs ++ ss ≡ []) (EndsAtLastOr (rs ++ ss) P)
-    by_test true h on = absurd (true_is_not_false h)
+    by_test true h on = absurd (true≢false h)
     by_test false h on = on h
 
 pub silent_both : (rs ss : List Response) → list_any is_bye rs ≡ false → list_any is_bye ss ≡ false → list_any is_bye (rs ++ ss) ≡ false
@@ -93,7 +91,7 @@ silent_both (r ∷ rs) ss first second = by_test (is_bye r) first (λ rest. sile
   where
     by_test : (c : Bool) → (c || list_any is_bye rs) ≡ false → (list_any is_bye rs ≡ false → list_any is_bye (rs ++ ss) ≡ false)
         → (c || list_any is_bye (rs ++ ss)) ≡ false
-    by_test true h on = absurd (true_is_not_false h)
+    by_test true h on = absurd (true≢false h)
     by_test false h on = on h
 
 -- ** a session in parts
@@ -285,9 +283,9 @@ bye_ends reply true P is otherwise = subst (λ b. MatchBool b (◌≡◌ {A = Li
 bye_ends reply false P is otherwise = subst (λ b. MatchBool b (◌≡◌ {A = List Response} [] []) P) (sym is) (otherwise refl)
 
 not_bye_if_on : (is_ended c : Bool) → (is_ended && not c) ≡ true → (c || false) ≡ false
-not_bye_if_on true true h = absurd (true_is_not_false (sym h))
+not_bye_if_on true true h = absurd (true≢false (sym h))
 not_bye_if_on true false h = refl
-not_bye_if_on false c h = absurd (true_is_not_false (sym h))
+not_bye_if_on false c h = absurd (true≢false (sym h))
 
 kept_of_none : (line kept : List ℕ) → IsKeptOf line kept → line ≡ [] → kept ≡ []
 kept_of_none [] kept keeps none = keeps.short (omega arith)
@@ -309,7 +307,7 @@ module _ {L : Type 0} (moment : L → Moment) (name : List ℕ) where
       → is_nothing kept is_ended ≡ false → text_lines (with_end was.line is_ended) ≡ was.line ∷ []
   only_line unread left kept true was some = first_line was.line [] was.plain
   only_line unread left kept false was some =
-      last_line was.line was.plain (λ none. true_is_not_false
+      last_line was.line was.plain (λ none. true≢false
       (subst (λ xs. is_nothing xs false ≡ false) (kept_of_none was.line kept was.keeps none) some))
 
   turn_lines : (unread left : Option (List ℕ)) (kept : List ℕ) (is_ended : Bool) (told : LineReply) (a b : Server L)
@@ -344,8 +342,8 @@ module _ {L : Type 0} (moment : L → Moment) (name : List ℕ) where
   -- nothing is left
   pub at_end : (unread left all : Option (List ℕ)) (kept : List ℕ) (is_ended : Bool) (c : Server L) → ReadsLine unread left kept is_ended
       → is_nothing kept is_ended ≡ true → ServesLine moment name unread left all all c c false
-  at_end unread left all (b ∷ bs) is_ended c was none = absurd (true_is_not_false (sym none))
-  at_end unread left all [] true c was none = absurd (true_is_not_false (sym none))
+  at_end unread left all (b ∷ bs) is_ended c was none = absurd (true≢false (sym none))
+  at_end unread left all [] true c was none = absurd (true≢false (sym none))
   at_end unread left all [] false c was none =
       let nothing : was.line ≡ [] = kept_none was.line [] was.keeps refl in
       record {
@@ -363,12 +361,12 @@ module _ {L : Type 0} (moment : L → Moment) (name : List ℕ) where
   whole_if_on : (unread left : Option (List ℕ)) (kept : List ℕ) (is_ended : Bool) (reply : Response) → (was : ReadsLine unread left kept is_ended)
       → (is_ended && not (is_bye reply)) ≡ true → IsWholeLines (with_end was.line is_ended)
   whole_if_on unread left kept true reply was h = whole_line was.line was.plain
-  whole_if_on unread left kept false reply was h = absurd (true_is_not_false (sym h))
+  whole_if_on unread left kept false reply was h = absurd (true≢false (sym h))
 
   ends_if_over : (unread left : Option (List ℕ)) (kept : List ℕ) (is_ended : Bool) (reply : Response) → (was : ReadsLine unread left kept is_ended)
       → (is_ended && not (is_bye reply)) ≡ false → EndsAtLastOr (reply ∷ []) (IsAtEnd left)
   ends_if_over unread left kept true reply was h =
-      bye_ends reply (is_bye reply) (IsAtEnd left) refl (λ no_bye. absurd (true_is_not_false (subst (λ c. not c ≡ false) no_bye h)))
+      bye_ends reply (is_bye reply) (IsAtEnd left) refl (λ no_bye. absurd (true≢false (subst (λ c. not c ≡ false) no_bye h)))
   ends_if_over unread left kept false reply was h = bye_ends reply (is_bye reply) (IsAtEnd left) refl (λ no_bye. was.end refl)
 
   pub one_line : (unread left written all : Option (List ℕ)) (kept : List ℕ) (is_ended : Bool) (told : LineReply) (a b : Server L)
@@ -465,16 +463,6 @@ module _ (law : LinesStay) where
       writes = writes_as_is written all (told_in greeting breaks.turns) breaks.writes;
       keeps = breaks.keeps;
     }
-
--- ** results
-
-pub on_err : {A E : Type 0} (result : Result A E) (P : Type 0) → P → OnErr result P
-on_err (Ok x) P holds = tt
-on_err (Err e) P holds = holds
-
-pub on_ok_as : {A E : Type 0} (result : Result A E) (P Q : Type 0) → (P → Q) → OnOk result P → OnOk result Q
-on_ok_as (Ok x) P Q leads holds = leads holds
-on_ok_as (Err e) P Q leads holds = tt
 
 pub on_err_as : {A E : Type 0} (result : Result A E) (P Q : Type 0) → (P → Q) → OnErr result P → OnErr result Q
 on_err_as (Ok x) P Q leads holds = tt

@@ -2,6 +2,7 @@
 use Rattle.std.proofs.Common.{◌≡◌, ◌≢◌, ◌∙◌, ◌⊎◌, inl, inr, ℕ, ℤ, ◌+◌, zero, suc, Bool, true, false, ◌||◌, List, [], ◌∷◌, map, Option, Some, None, refl, sym, ap, subst}
 use Rattle.std.specs.List.{list_any}
 use Rattle.std.specs.Prelude.{All, MatchBool, Result, Ok, Err}
+use Rattle.std.proofs.lemmas.Bool.{true≢false}
 use Rattle.std.proofs.lemmas.List.Elements.{All-cons, All-map, All-nil}
 use Rattle.xa_base.specs.Answer.{answer_number, map_answer}
 use Rattle.xa_base.specs.Xid.{Xid}
@@ -57,12 +58,9 @@ record Goes {L : Type 0} (o : Origin) (Told : Seen → Type 0) (old new : Sessio
   keeps : KeepsTrack o more new
   threads : new.lines.threads ≡ old.lines.threads
 
-fault_is_told : true ≡ false → ⊥
-fault_is_told e = cc
-
 -- the log didn't fail
 no_fault : (n : Refusal) → is_log_fault (responses.Refused n) ≡ false → n ≢ LogFault
-no_fault n none is = fault_is_told (subst (λ n. is_log_fault (responses.Refused n) ≡ false) is none)
+no_fault n none is = true≢false (subst (λ n. is_log_fault (responses.Refused n) ≡ false) is none)
 
 -- ** what a session does
 
@@ -314,12 +312,12 @@ module _ {L : Type 0} (laws : Laws L) (o : Origin) (moment : L → Moment) where
   line_told (Some request) reply seen old new keeps does none = done_and_forgot request reply seen old new keeps does none
 
   no_fault_behind : (b c : Bool) → (b || c) ≡ false → b ≡ false → c ≡ false
-  no_fault_behind true c e is = absurd (fault_is_told is)
+  no_fault_behind true c e is = absurd (true≢false is)
   no_fault_behind false c e is = e
 
   fault_before : (b c : Bool) → (b || c) ≡ false → b ≡ true → ⊥
-  fault_before true c e is = fault_is_told e
-  fault_before false c e is = fault_is_told (sym is)
+  fault_before true c e is = true≢false e
+  fault_before false c e is = true≢false (sym is)
 
   pub replies_tracked : (lines : List (List ℕ)) (replies : List Response) (n : ℕ) (seen : Seen) (old new : Server L) → KeepsTrack o seen old.session
       → old.session.lines.threads ≡ n → HaveReplies moment lines replies old new → TracksReplies o n lines replies seen new

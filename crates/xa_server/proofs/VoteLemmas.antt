@@ -64,9 +64,6 @@ use Rattle.xa_tm.specs.Starting.{no_transaction_notes}
 use Rattle.xa_tm.specs.Calls.{IsOpenIn, book_in, log_in}
 use Rattle.xa_tm.specs.Release.{book_without}
 
-no : true ≡ false → ⊥
-no e = true≢false e
-
 -- ** a vote
 
 and_both : (a b : Bool) → (a && b) ≡ true → (a ≡ true) × (b ≡ true)
@@ -96,14 +93,14 @@ vote_says : (call : Call Xid) (name : CallName) (c : KnownCall) (g : Gtrid) → 
     → transaction_of name ≡ Some g → says_yes_in g c (Ret Success) ≡ true
 vote_says (Calls.Prepare x) name c g to is kind of =
     prepared x name.xid (branch_of_xid x) c g refl (and_both _ _ to).1 is of
-vote_says Calls.OpenRm name c g to is kind of = absurd (no (sym (subst (λ k. other_kind Calls.OpenRm name k ≡ true) kind to)))
-vote_says Calls.CloseRm name c g to is kind of = absurd (no (sym (subst (λ k. other_kind Calls.CloseRm name k ≡ true) kind to)))
-vote_says (Calls.Start x j) name c g to is kind of = absurd (no (sym (subst (λ k. other_kind (Calls.Start x j) name k ≡ true) kind to)))
-vote_says (Calls.End x j) name c g to is kind of = absurd (no (sym (subst (λ k. other_kind (Calls.End x j) name k ≡ true) kind to)))
-vote_says (Calls.Commit x o) name c g to is kind of = absurd (no (sym (subst (λ k. other_kind (Calls.Commit x o) name k ≡ true) kind to)))
-vote_says (Calls.Rollback x) name c g to is kind of = absurd (no (sym (subst (λ k. other_kind (Calls.Rollback x) name k ≡ true) kind to)))
-vote_says (Calls.Forget x) name c g to is kind of = absurd (no (sym (subst (λ k. other_kind (Calls.Forget x) name k ≡ true) kind to)))
-vote_says (Calls.Recover n x y) name c g to is kind of = absurd (no (sym (subst (λ k. other_kind (Calls.Recover n x y) name k ≡ true) kind to)))
+vote_says Calls.OpenRm name c g to is kind of = absurd (true≢false (sym (subst (λ k. other_kind Calls.OpenRm name k ≡ true) kind to)))
+vote_says Calls.CloseRm name c g to is kind of = absurd (true≢false (sym (subst (λ k. other_kind Calls.CloseRm name k ≡ true) kind to)))
+vote_says (Calls.Start x j) name c g to is kind of = absurd (true≢false (sym (subst (λ k. other_kind (Calls.Start x j) name k ≡ true) kind to)))
+vote_says (Calls.End x j) name c g to is kind of = absurd (true≢false (sym (subst (λ k. other_kind (Calls.End x j) name k ≡ true) kind to)))
+vote_says (Calls.Commit x o) name c g to is kind of = absurd (true≢false (sym (subst (λ k. other_kind (Calls.Commit x o) name k ≡ true) kind to)))
+vote_says (Calls.Rollback x) name c g to is kind of = absurd (true≢false (sym (subst (λ k. other_kind (Calls.Rollback x) name k ≡ true) kind to)))
+vote_says (Calls.Forget x) name c g to is kind of = absurd (true≢false (sym (subst (λ k. other_kind (Calls.Forget x) name k ≡ true) kind to)))
+vote_says (Calls.Recover n x y) name c g to is kind of = absurd (true≢false (sym (subst (λ k. other_kind (Calls.Recover n x y) name k ≡ true) kind to)))
 
 -- ** what the book recalls
 
@@ -170,18 +167,18 @@ module _ {L : Type 0} where
       result_is : (result : Result (Unit {0}) Unfit) → waits_for_other old.session.lines t r name ≡ false → Hears t r answer old.session mid.session result
           → is_heard (answer_reply told_so result) ≡ true → Recalls (book_in mid.session.manager) g
       result_is (Ok x) is does e = heard_recalls t r name answer old.session mid.session g x is does was
-      result_is (Err (Unfits.Refused n)) is does e = absurd (no (sym e))
-      result_is (Err Unfits.NothingWaits) is does e = absurd (no (sym e))
-      result_is (Err Unfits.NoSuchAnswer) is does e = absurd (no (sym e))
-      result_is (Err (Unfits.NoSuchState b)) is does e = absurd (no (sym e))
+      result_is (Err (Unfits.Refused n)) is does e = absurd (true≢false (sym e))
+      result_is (Err Unfits.NothingWaits) is does e = absurd (true≢false (sym e))
+      result_is (Err Unfits.NoSuchAnswer) is does e = absurd (true≢false (sym e))
+      result_is (Err (Unfits.NoSuchState b)) is does e = absurd (true≢false (sym e))
 
       by : (other : Bool) → waits_for_other old.session.lines t r name ≡ other
           → MatchBool other (OnlyTells (responses.Fault faults.OtherCall) old reply mid)
           (StandsFor (Hears t r answer) (answer_reply told_so) old reply mid ⊎ LacksMemory old reply mid)
           → Recalls (book_in mid.session.manager) g
-      by true is fault = absurd (no (sym (subst (λ q. is_heard q ≡ true) fault.0 heard)))
+      by true is fault = absurd (true≢false (sym (subst (λ q. is_heard q ≡ true) fault.0 heard)))
       by false is (inl stands) = result_is stands.result is stands.does (subst (λ q. is_heard q ≡ true) stands.told heard)
-      by false is (inr lacks) = absurd (no (sym (subst (λ q. is_heard q ≡ true) lacks.0 heard)))
+      by false is (inr lacks) = absurd (true≢false (sym (subst (λ q. is_heard q ≡ true) lacks.0 heard)))
 
   -- a line that tells a vote, and is heard
   line_recalls : (moment : L → Moment) (request : Option Request) (h g : Gtrid) (old new : Server L) (reply : Response) → VotesBy request h
@@ -216,7 +213,7 @@ module _ {L : Type 0} where
   votes_recall : (moment : L → Moment) (votes : List (List ℕ)) (heard : List Response) (gs : List Gtrid) (g : Gtrid) (old new : Server L)
       → AreVotes votes heard gs → HaveReplies moment votes heard old new → (is_gtrid_among gs g ≡ true) ⊎ Recalls (book_in old.session.manager) g
       → Recalls (book_in new.session.manager) g
-  votes_recall moment [] [] [] g old new are have (inl among) = absurd (no (sym among))
+  votes_recall moment [] [] [] g old new are have (inl among) = absurd (true≢false (sym among))
   votes_recall moment [] [] [] g old new are have (inr was) = subst (λ (c : Server L). Recalls (book_in c.session.manager) g) (sym have) was
   votes_recall moment [] [] (h ∷ hs) g old new are have was = absurd are
   votes_recall moment [] (r ∷ rs) gs g old new are have was = absurd are
@@ -238,7 +235,7 @@ module _ {L : Type 0} where
 
 -- each that is decided was open
 open_among : (k : Book) (gs : List Gtrid) (g : Gtrid) → EachOnce (IsOpenIn k) gs → is_gtrid_among gs g ≡ true → IsOpenIn k g
-open_among k [] g all among = absurd (no (sym among))
+open_among k [] g all among = absurd (true≢false (sym among))
 open_among k (h ∷ hs) g all among = by (gtrid_eq h g) refl among (λ e. open_among k hs g all.2 e)
   where
     by : (t : Bool) → gtrid_eq h g ≡ t → (t || is_gtrid_among hs g) ≡ true → (is_gtrid_among hs g ≡ true → IsOpenIn k g) → IsOpenIn k g
@@ -287,7 +284,7 @@ module _ {L : Type 0} (moment : L → Moment) (near : Bool) (gs : List Gtrid) (m
               (all_open Outcomes.Commit (book_in mid.session.manager) gs (if_room (has_room_for mid.session (length gs)) _ does.rules.allowed)) among
 
           recalled : Recalls (book_in mid.session.manager) g → IsLogged (moment (log_in new.session.manager)).content g
-          recalled (inr gone) = absurd (no (sym opened.begun ∙ gone))
+          recalled (inr gone) = absurd (true≢false (sym opened.begun ∙ gone))
           recalled (inl said) =
               is_logged (moment (log_in new.session.manager)).content g (voted_yes (book_in mid.session.manager) g)
               (row_written (book_in mid.session.manager) (book_in did.mid.session.manager) near (moment (log_in new.session.manager)).content gs g
@@ -315,7 +312,7 @@ split_replies moment (l ∷ ls) ms (r ∷ rs) ss a c same (next, replied, more) 
 -- ** the rows of each that is told as decided
 
 none_among : (g : Gtrid) → is_gtrid_among [] g ≡ true → ⊥
-none_among g e = no (sym e)
+none_among g e = true≢false (sym e)
 
 decided_is : (n : Refusal) → (let r : Response = responses.Decided in r) ≡ responses.Refused n → ⊥
 decided_is n e = cc
