@@ -20,7 +20,7 @@ use Rattle.xa_log.specs.Contract.{Honestly, Moment}
 use Rattle.xa_model.specs.Promises.Agreement.{IsUndone}
 use Rattle.xa_model.specs.Trace.{Branch, Line}
 use Rattle.xa_requests.specs.declared.response.Response.{Response}
-use Rattle.xa_session.proofs.Logging.{later_sessions_are_newer}
+use Rattle.xa_session.proofs.LogStarts.{later_sessions_are_newer}
 use Rattle.xa_session.specs.Logging.{HoldsItsBook, KeepsLog}
 use Rattle.xa_monitor.specs.Agreement.{MayAllStand, MayAllStand.AsTold}
 use Rattle.xa_monitor.specs.Seen.{Seen, Seen.Start}

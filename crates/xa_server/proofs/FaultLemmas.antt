@@ -13,7 +13,7 @@ use Rattle.xa_model.specs.Trace.{Fault, Fault.InDecide, Fault.InDone, Happening.
 use Rattle.xa_requests.specs.declared.request.Request.TheVariants as requests
 use Rattle.xa_requests.specs.declared.response.Response.{Response}
 use Rattle.xa_requests.specs.declared.response.Response.TheVariants as responses
-use Rattle.xa_session.proofs.Logging.{left_tied, logs_have_all_or_none}
+use Rattle.xa_session.proofs.LogStarts.{left_tied, logs_have_all_or_none}
 use Rattle.xa_session.specs.Logging.{HasAllOrNone, HoldsItsBook, LeavesContent}
 use Rattle.xa_session.specs.Session.{decide_all_refusal, done_all_refusal, refusal_at}
 use Rattle.xa_tm.proofs.Log.Ties.{up_content}

@@ -37,7 +37,7 @@ use Rattle.xa_session.proofs.Books.{book_goes}
 use Rattle.xa_session.proofs.Hearings.{has_answer}
 use Rattle.xa_session.proofs.Lines.{MayTell, may_tell, none_first, none_second, waiting_known}
 use Rattle.xa_session.proofs.NextStarts.{Has, found, tied_has}
-use Rattle.xa_session.proofs.Telling.{first_waits}
+use Rattle.xa_session.proofs.WaitingCalls.{first_waits}
 
 -- ** an answer that is fit
 

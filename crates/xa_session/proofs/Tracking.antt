@@ -18,7 +18,7 @@ use Rattle.xa_session.specs.Session.{known_at}
 use Rattle.xa_session.specs.Tracking.{KeepsTrack, Tracks, did_all}
 use Rattle.xa_session.specs.declared.session.Session.{Session}
 use Rattle.xa_session.proofs.Alone.{alone_back, alone_stands}
-use Rattle.xa_session.proofs.Telling.{call_waits}
+use Rattle.xa_session.proofs.WaitingCalls.{call_waits}
 
 -- ** a start
 

@@ -1,7 +1,7 @@
 use Rattle.std.proofs.Common.{[], OnErr, OnOk, subst}
 use Rattle.std.specs.Io.Buffered.{reader_remaining}
 use Rattle.xa_base.proofs.Options.{on_ok}
-use Rattle.xa_server.proofs.ServingLemmas.{breaks_as_is, on_err_as, serves_as_is}
+use Rattle.xa_server.proofs.WithoutName.{breaks_as_is, on_err_as, serves_as_is}
 use Rattle.xa_server.specs.NamedLines.{BreaksSessionUnder, ServesUnder}
 use Rattle.xa_server.specs.Replies.{greeting_of}
 use Rattle.xa_server.specs.Serving.{BreaksSession, Serves}

@@ -17,12 +17,13 @@ use Rattle.xa_tm.specs.Book.{Doubt.NoDoubt, doubt_of}
 use Rattle.xa_tm.specs.Calls.{FailsBy, book_in}
 use Rattle.xa_session.proofs.Hearings.{answer_heard, has_answer, hearable}
 use Rattle.xa_session.proofs.Lines.{all_with, may_tell, waiting_known}
-use Rattle.xa_session.proofs.Sessions.{book_kept, failed, has_few, kept_stays, room_for_one, sized_after, sized_by_failure, stays_same, step_leaves}
-use Rattle.xa_session.proofs.Telling.{answered_follows}
+use Rattle.xa_session.proofs.Sessions.{has_few, room_for_one, sized_after, sized_by_failure, stays_same, step_leaves}
+use Rattle.xa_session.proofs.AskedLogs.{book_kept, failed, kept_stays}
+use Rattle.xa_session.proofs.HeardAnswers.{answered_follows}
 use Rattle.xa_session.specs.Hearing.{with_answer_heard}
 use Rattle.xa_session.specs.declared.session.answers.Unfit.TheVariants.{Refused}
 use Rattle.xa_session.specs.Logging.{KeepsLog}
-use Rattle.xa_session.proofs.Logging.{heard_keeps, unheard_keeps}
+use Rattle.xa_session.proofs.LoggedChanges.{heard_keeps, unheard_keeps}
 use Rattle.std.proofs.Common.{inl, inr}
 use Rattle.std.specs.Prelude.{Result, Err}
 use Rattle.std.proofs.lemmas.Option.{none-some}
