@@ -13,19 +13,7 @@ use Rattle.xa_system.specs.SystemView.{AreClear, ArePast, HasNewer}
 use Rattle.xa_system.specs.Steps.{AreCrashed, Crashes}
 use Rattle.xa_system.proofs.Histories.ClearStart.{never}
 use Rattle.xa_rm.specs.Look.{Look}
-
-broken_once : (f : Standing) → broken (broken f) ≡ broken f
-broken_once Active = refl
-broken_once Idle = refl
-broken_once RollbackOnly = refl
-broken_once Unstarted = refl
-broken_once Prepared = refl
-broken_once (Completed how) = refl
-broken_once Committed = refl
-broken_once RolledBack = refl
-broken_once Lost = refl
-broken_once ReadOnly = refl
-broken_once (Forgotten how) = refl
+use Rattle.xa_system.proofs.Rms.BrokenLines.{broken_twice}
 
 -- no crash makes a branch one that never was
 never_broken : (f : Standing) → fate_of (broken f) ≡ Fates.Unstarted → fate_of f ≡ Fates.Unstarted
@@ -58,7 +46,7 @@ module _ {R : Type 0} (look : R → Look) (old new : List R) (crashes : AreCrash
   all_still r rm at x =
       let from = crashed_from r rm at in
       let is = ap (λ (h : HeldBranch). h.standing) (from.2.held x) in
-      ap broken is ∙ broken_once ((look from.0).held x).standing ∙ sym is
+      ap broken is ∙ broken_twice ((look from.0).held x).standing ∙ sym is
 
   -- what is clear before is clear
   pub still_clear : (incarnation : ℕ) → ArePast look incarnation new → AreClear look old → AreClear look new

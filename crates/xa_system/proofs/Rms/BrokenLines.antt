@@ -21,7 +21,7 @@ use Rattle.xa_system.specs.RmInHistory.{IsHeldAs, RmStands, scan_by}
 use Rattle.xa_system.specs.Steps.{Breaks, Crashes}
 use Rattle.xa_rm.specs.Look.{Look}
 
-broken_twice : (f : Standing) → broken (broken f) ≡ broken f
+pub broken_twice : (f : Standing) → broken (broken f) ≡ broken f
 broken_twice Unstarted = refl
 broken_twice Active = refl
 broken_twice Idle = refl

@@ -33,10 +33,9 @@ use Rattle.xa_line.proofs.TrafficLaws.{line_renewed}
 use Rattle.xa_system.proofs.LineLaws.{line_stays}
 use Rattle.xa_system.proofs.Steps.OfManager.{book_then}
 use Rattle.xa_system.specs.LogInHistory.{LogFollows}
-use Rattle.xa_system.proofs.Histories.Standing.{IsEvent, IsNothingTo, goes_as, has_line, sites_with, there_is}
+use Rattle.xa_system.proofs.Histories.Standing.{IsEvent, IsNothingTo, goes_as, has_line, sites_with, there_is, up_is}
 use Rattle.xa_system.proofs.Histories.ChangedLines.{lines_apart_rm, lines_with}
 use Rattle.xa_tm.specs.Book.{after}
-use Rattle.xa_system.proofs.Steps.PresentRms.{manager_up}
 
 abbrev pub line_why : (there up rm_up : Bool) → Option Refusal
 line_why there up rm_up =
@@ -80,7 +79,7 @@ module _ {R L : Type 0} (see : Sees R L) where
       let e = Crashed (KnownParts.Line t r) in
       let here = stands.sites r site at in
       let why : must_refuse tr (Steps.Crash (KnownParts.Line t r)) ≡ None =
-      λ i. line_why (has_tr i) ((sym (manager_up see tr parts stands) ∙ up) i) ((sym here.is_up ∙ site_up) i) in
+      λ i. line_why (has_tr i) ((sym (up_is see tr parts stands) ∙ up) i) ((sym here.is_up ∙ site_up) i) in
       goes_as see tr (Steps.Crash (KnownParts.Line t r)) reply Replies.Crashed parts _ stands tt (ap reply_of is) (As_value why refl)
       (record {
         start = refl;
@@ -110,11 +109,11 @@ module _ {R L : Type 0} (see : Sees R L) where
       → (nat_lt t parts.lines.threads && nat_lt r parts.lines.rms) ≡ true → (book_in parts.manager).up ≡ false
       → Stands see tr parts → must_refuse tr (Steps.Crash (KnownParts.Line t r)) ≡ Some Refusals.ManagerDown
   crash_line_down tr parts t r e down stands =
-      λ i. line_why ((sym (there_is see tr parts t r stands) ∙ e) i) ((sym (manager_up see tr parts stands) ∙ down) i) (rm_up tr r)
+      λ i. line_why ((sym (there_is see tr parts t r stands) ∙ e) i) ((sym (up_is see tr parts stands) ∙ down) i) (rm_up tr r)
 
   pub crash_line_rm_down : (tr : Trace) (parts : Parts R L) (t r : ℕ) (site : Site R)
       → (nat_lt t parts.lines.threads && nat_lt r parts.lines.rms) ≡ true → (book_in parts.manager).up ≡ true
       → slice_get parts.sites.items r ≡ Some site → site.is_up ≡ false → Stands see tr parts
       → must_refuse tr (Steps.Crash (KnownParts.Line t r)) ≡ Some Refusals.RmDown
   crash_line_rm_down tr parts t r site e up at down stands =
-      λ i. line_why ((sym (there_is see tr parts t r stands) ∙ e) i) ((sym (manager_up see tr parts stands) ∙ up) i) ((sym (stands.sites r site at).is_up ∙ down) i)
+      λ i. line_why ((sym (there_is see tr parts t r stands) ∙ e) i) ((sym (up_is see tr parts stands) ∙ up) i) ((sym (stands.sites r site at).is_up ∙ down) i)

@@ -26,10 +26,9 @@ use Rattle.xa_system.proofs.Rms.BrokenLines.{BreaksAll, crash_stands}
 use Rattle.xa_line.proofs.TrafficLaws.{line_renewed}
 use Rattle.xa_system.proofs.Steps.OfManager.{book_then}
 use Rattle.xa_system.specs.LogInHistory.{LogFollows}
-use Rattle.xa_system.proofs.Histories.Standing.{IsEvent, goes_as}
+use Rattle.xa_system.proofs.Histories.Standing.{IsEvent, goes_as, up_is}
 use Rattle.xa_tm.specs.Book.{after}
 use Rattle.xa_system.proofs.Steps.Crash.{line_why}
-use Rattle.xa_system.proofs.Steps.PresentRms.{manager_up}
 
 crashed_manager : (tr : Trace) (r : ℕ) → BreaksAll tr (Crashed KnownParts.Manager) r
 crashed_manager tr r = record { standing = λ b at. refl; vote = λ b at. refl; retries = λ b at. refl; closed = refl }
@@ -56,7 +55,7 @@ module _ {R L : Type 0} (see : Sees R L) where
 
   pub crash_manager_down : (tr : Trace) (parts : Parts R L) → (book_in parts.manager).up ≡ false → Stands see tr parts
       → must_refuse tr (Steps.Crash KnownParts.Manager) ≡ Some Refusals.ManagerDown
-  crash_manager_down tr parts down stands = λ i. line_why true ((sym (manager_up see tr parts stands) ∙ down) i) true
+  crash_manager_down tr parts down stands = λ i. line_why true ((sym (up_is see tr parts stands) ∙ down) i) true
 
   pub crash_manager_leads : (parts : Parts R L) (sites : Vec (Site R) Global) (lines : Grid) (manager : Manager L) (reply : Reply Xid)
       → reply ≡ Replies.Crashed → (book_in parts.manager).up ≡ true → AllCrash see.look parts.sites.items sites.items
@@ -66,7 +65,7 @@ module _ {R L : Type 0} (see : Sees R L) where
       (record { alloc = parts.alloc; start = parts.start; began = parts.began; sites = sites; lines = lines; manager = manager })
   crash_manager_leads parts sites lines manager reply is up did renewed book log tr stands =
       let e = Crashed KnownParts.Manager in
-      let why : must_refuse tr (Steps.Crash KnownParts.Manager) ≡ None = λ i. line_why true ((sym (manager_up see tr parts stands) ∙ up) i) true in
+      let why : must_refuse tr (Steps.Crash KnownParts.Manager) ≡ None = λ i. line_why true ((sym (up_is see tr parts stands) ∙ up) i) true in
       goes_as see tr (Steps.Crash KnownParts.Manager) reply Replies.Crashed parts _ stands tt (ap reply_of is) (As_value why refl)
       (record {
         start = refl;

@@ -49,7 +49,7 @@ use Rattle.xa_tm.specs.BookAndLog.{changed_by}
 use Rattle.xa_system.proofs.Log.Changes.{LogCalled, LogUndone, fault_is_change, log_done, log_failing}
 use Rattle.xa_system.specs.LogInHistory.{LogFollows, after_change}
 use Rattle.xa_system.proofs.Steps.OfManager.{book_then, up_where, within}
-use Rattle.xa_system.proofs.Histories.Standing.{Follows, IsEvent, goes_as, has_line, nothing_follows, site_stays, there_is}
+use Rattle.xa_system.proofs.Histories.Standing.{Follows, IsEvent, goes_as, has_line, nothing_follows, site_stays, there_is, up_is}
 use Rattle.xa_system.proofs.Histories.RefusedSteps.{lacking_goes}
 use Rattle.xa_system.proofs.Histories.ChangedLines.{lines_with}
 use Rattle.xa_tm.specs.Book.{Book, after, book_after, doubt_of}
@@ -59,9 +59,6 @@ use Rattle.xa_system.proofs.Steps.FailedLog.{fail_goes}
 module _ {R L : Type 0} (see : Sees R L) where
   -- ** refusals of a Hear
 
-  pub book_up : (tr : Trace) (parts : Parts R L) → Stands see tr parts → (book_in parts.manager).up ≡ facts.up tr
-  book_up tr parts stands = ap (λ (k : Book). k.up) stands.book
-
   pub hear_limit : (tr : Trace) (parts : Parts R L) (t r : ℕ) → (nat_lt t parts.lines.threads && nat_lt r parts.lines.rms) ≡ false
       → Stands see tr parts → must_refuse tr (Steps.Hear t r) ≡ Some Refusals.Limit
   hear_limit tr parts t r e stands = λ i. line_why ((sym (there_is see tr parts t r stands) ∙ e) i) (facts.up tr) (rm_up tr r)
@@ -70,7 +67,7 @@ module _ {R L : Type 0} (see : Sees R L) where
       → (nat_lt t parts.lines.threads && nat_lt r parts.lines.rms) ≡ true → (book_in parts.manager).up ≡ up → rm_up tr r ≡ rm_is_up → Stands see tr parts
       → must_refuse tr (Steps.Hear t r) ≡ line_why true up rm_is_up
   hear_found tr parts t r up rm_is_up e is_up is_rm stands =
-      λ i. line_why ((sym (there_is see tr parts t r stands) ∙ e) i) ((sym (book_up tr parts stands) ∙ is_up) i) (is_rm i)
+      λ i. line_why ((sym (there_is see tr parts t r stands) ∙ e) i) ((sym (up_is see tr parts stands) ∙ is_up) i) (is_rm i)
 
   -- ** a Hear that isn't refused
 

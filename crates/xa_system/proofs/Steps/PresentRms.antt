@@ -3,14 +3,11 @@ use Rattle.std.proofs.Common.{◌≡◌, ◌<◌, ◌≤◌, ℕ, Bool, true, fa
 use Rattle.std.specs.Prelude.{Some, slice_get, vec_len}
 use Rattle.std.proofs.lemmas.Bool.{lt-ltb, le-ltb}
 use Rattle.std.proofs.lemmas.Option.{slice_get_read}
-use Rattle.xa_tm.specs.Calls.{book_in}
-use Rattle.xa_model.specs.Facts as facts
 use Rattle.xa_model.specs.Replies.Rules.{has_rm}
 use Rattle.xa_model.specs.Trace.{Trace}
 use Rattle.xa_system.specs.Parts.{Sees, Stands}
 use Rattle.xa_system.specs.declared.parts.Parts.{Parts}
 use Rattle.xa_system.specs.declared.site.Site.{Site}
-use Rattle.xa_tm.specs.Book.{Book}
 
 -- a site that was read twice
 pub same_up : {R : Type 0} (xs : List (Site R)) (r : ℕ) {x y : Site R} {t : Bool} → slice_get xs r ≡ Some x
@@ -30,6 +27,3 @@ module _ {R L : Type 0} (see : Sees R L) where
 
   pub rm_missing : (tr : Trace) (parts : Parts R L) (r : ℕ) → Stands see tr parts → parts.lines.rms ≤ r → has_rm tr r ≡ false
   rm_missing tr parts r stands past = le-ltb r _ (subst (λ n. n ≤ r) stands.rms past)
-
-  pub manager_up : (tr : Trace) (parts : Parts R L) → Stands see tr parts → (book_in parts.manager).up ≡ facts.up tr
-  manager_up tr parts stands = ap (λ (k : Book). k.up) stands.book

@@ -2,7 +2,7 @@
 use Rattle.std.proofs.Common.{◌≡◌, ◌≤◌, ◌<◌, ℕ, Bool, true, false, List, [], ◌++◌, length, map, refl, sym, ap, ◌∙◌, subst, arith, append_assoc}
 use Rattle.std.specs.Prelude.{◌&&◌, ◌+◌, not, Some, None, nat_lt, slice_get}
 use Rattle.std.specs.Option.{option_or}
-use Rattle.std.proofs.lemmas.Bool.{lt-ltb, not-false}
+use Rattle.std.proofs.lemmas.Bool.{lt-ltb, not-false, or_from}
 use Rattle.std.proofs.lemmas.List.{append-nil}
 use Rattle.std.proofs.lemmas.List.Folds.{list_any-append}
 use Rattle.xa_base.specs.Xid.{Xid}
@@ -40,7 +40,7 @@ use Rattle.xa_system.proofs.Histories.ChangedLines.{lines_with}
 use Rattle.xa_tm.specs.Book.{book_of}
 use Rattle.xa_tm.specs.Refusing.{resolved_in, resolved_open_in}
 use Rattle.xa_tm.proofs.History.Recovery.{resolved_is, resolved_open_is}
-use Rattle.xa_system.proofs.Steps.RecoveryRules.{line_says, recovery_free, recovery_why, room_for, unclosed}
+use Rattle.xa_system.proofs.Steps.RecoveryRules.{line_says, recovery_free, recovery_why, room_for}
 
 -- ** what a line takes
 
@@ -224,5 +224,5 @@ module _ {R L : Type 0} (see : Sees R L) where
         let tr = at.0 in
         let free = recovery_free _ _ _ _ _ _ (sym (hinders tr at.1)) in
         list_any-append closes (calls_issued x) calls
-        ∙ unclosed _ _ (ap (λ t. has_closed (calls_issued t)) is ∙ same_closed tr parts r at.1 (has_first tr parts r at.1 free.0) ∙ free.3)
+        ∙ or_from _ _ (ap (λ t. has_closed (calls_issued t)) is ∙ same_closed tr parts r at.1 (has_first tr parts r at.1 free.0) ∙ free.3)
         (closed_known calls ks are ∙ plain)

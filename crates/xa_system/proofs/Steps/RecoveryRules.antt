@@ -1,45 +1,16 @@
--- The calls of a recovery, and when it is refused.
-use Rattle.std.proofs.Common.{◌≡◌, ◌≤◌, ℕ, Bool, true, false, List, [], ◌∷◌, length, refl, arith}
-use Rattle.std.specs.Prelude.{◌||◌, ◌+◌, not, if◌then◌else◌, Option, Some, None, nat_lt}
+-- When a recovery is refused.
+use Rattle.std.proofs.Common.{◌≡◌, ◌≤◌, ℕ, Bool, true, false, [], ◌∷◌, length, refl, arith}
+use Rattle.std.specs.Prelude.{◌+◌, not, if◌then◌else◌, Option, Some, None, nat_lt}
 use Rattle.std.specs.Option.{option_or}
 use Rattle.std.proofs.lemmas.Bool.Decides.{nat_tests}
-use Rattle.xa_base.specs.StateTable.{on}
 use Rattle.xa_model.specs.Facts as facts
-use Rattle.xa_base.specs.Opening.{has_closed}
 use Rattle.xa_model.specs.Facts.{rm_up, waiting}
 use Rattle.xa_model.specs.Replies.Guards.{refusal_by}
 use Rattle.xa_model.specs.Replies.Rules.{has_rm, must_refuse}
-use Rattle.xa_model.specs.Trace.{Happening.ResolvedOpen, Name, Name.Foreign, Name.Ours, Trace, Trace.Then, line}
+use Rattle.xa_model.specs.Trace.{Happening.ResolvedOpen, Trace, Trace.Then, line}
 use Rattle.xa_base.specs.declared.refusal.Refusal.{Refusal}
 use Rattle.xa_base.specs.declared.refusal.Refusal.TheVariants as Refusals
 use Rattle.xa_base.specs.declared.step.Step.TheVariants as Steps
-use Rattle.xa_base.proofs.StateLemmas.{closes_on}
-use Rattle.xa_tm.specs.Book.{Book, after}
-use Rattle.xa_tm.specs.Refusing.{live_in, resolved_in, resolved_open_in, resolving_calls_in, resolving_kind_in}
-
--- ** the calls of a recovery
-
-none_closes : (k : Book) (ns : List Name) → has_closed (resolving_calls_in k ns) ≡ false
-none_closes k [] = refl
-none_closes k (Ours b ∷ ns) = by (live_in k b.gtrid) (none_closes k ns)
-  where
-    by : (t : Bool) → has_closed (resolving_calls_in k ns) ≡ false
-        → has_closed (if t then resolving_calls_in k ns else on (resolving_kind_in k b) b ∷ resolving_calls_in k ns) ≡ false
-    by true e = e
-    by false e = λ i. closes_on (resolving_kind_in k b) b i || e i
-none_closes k (Foreign x ∷ ns) = none_closes k ns
-
-pub resolved_closes_none : (k : Book) (r : ℕ) → has_closed (resolved_in k r) ≡ false
-resolved_closes_none k r = none_closes k (k.page r)
-
-pub open_closes_none : (k : Book) (r : ℕ) → has_closed (resolved_open_in k r) ≡ false
-open_closes_none k r = none_closes (after k (ResolvedOpen r)) (k.page r)
-
-pub unclosed : (a b : Bool) → a ≡ false → b ≡ false → (a || b) ≡ false
-unclosed false b e d = d
-unclosed true b e d = absurd cc
-
--- ** the rules
 
 -- the guards of a recovery, by what they look at
 abbrev pub recovery_why : (there up rm_up shut closed full : Bool) → Option Refusal
