@@ -28,7 +28,6 @@ use Rattle.xa_model.proofs.Replies.Guards.{bar_of, issue_rule, issue_why}
 use Rattle.xa_model.proofs.Replies.Replies.{allowed_right}
 use Rattle.xa_tm.specs.Book.{after}
 use Rattle.xa_tm.specs.Calls.{book_in}
-use Rattle.xa_tm.specs.News.{Asked}
 use Rattle.xa_session.specs.Following.{LeadsTo, StandsIn}
 use Rattle.xa_session.specs.declared.session.Session.{Session}
 use Rattle.xa_session.proofs.Books.{book_goes, call_allowed}
@@ -37,9 +36,6 @@ use Rattle.xa_session.proofs.Refusals.{issued_begun}
 use Rattle.xa_session.proofs.Lines.{MayIssue}
 use Rattle.xa_session.proofs.ChangedLines.{lines_with}
 use Rattle.xa_session.proofs.LostLines.{there_in, up_in}
-
-call_is : (t r : ℕ) (a : Asked) (c : Call) → accepted a ≡ Some c → happened (Steps.Issue t r a) Replies.Issued ≡ Issued (line t r) c
-call_is t r a c e = ap (if_ours (λ k. Issued (line t r) k)) e
 
 issued_line : (tr : Trace) (t r : ℕ) (c : Call) (call : Asking.Call Xid) (old : Traffic) → known_call call ≡ Some c
     → LineStands tr (line t r) old → LineStands (Then tr (Issued (line t r) c)) (line t r) (record old { calls = with_one_more old.calls call })
@@ -79,8 +75,9 @@ module _ {L : Type 0} (old new : Session L) (t r : ℕ) (call : Asking.Call Xid)
       let e = Issued (line t r) c in
       let a = map_call name_of call in
       let at = line_at old.lines t r in
+      let happens : happened (Steps.Issue t r a) Replies.Issued ≡ e = ap (if_ours (λ k. Issued (line t r) k)) is in
       let right : Right tr e =
-      subst (Right tr) (call_is t r a c is) (allowed_right tr (Steps.Issue t r a) Replies.Issued (As_value (issue_forced tr stands may) refl)) in
+      subst (Right tr) happens (allowed_right tr (Steps.Issue t r a) Replies.Issued (As_value (issue_forced tr stands may) refl)) in
       let stand = lines_with (Then tr e) old.lines t r (record at { calls = with_one_more at.calls call }) stands.whole may.tell.has
       (issued_line tr t r c call at is (stands.lines t r may.tell.has))
       (λ u q has_u apart. line_stays tr e (line u q) (line_at old.lines u q) refl (rw apart refl) refl refl (stands.lines u q has_u)) in (

@@ -1,7 +1,7 @@
 -- Decisions, settlements and answers that change the log.
 use Rattle.std.proofs.Common.{◌≡◌, ◌≢◌, ◌∙◌, inl, inr, true, ◌||◌, List, [], ◌∷◌, map, Option, None, refl, ap}
 use Rattle.std.specs.Prelude.{Result, Ok, Err, OnOk}
-use Rattle.std.proofs.lemmas.Bool.{or_parts}
+use Rattle.std.proofs.lemmas.Bool.{or_parts, not-false}
 use Rattle.xa_base.specs.declared.branch.Gtrid.{Gtrid}
 use Rattle.xa_base.specs.declared.answer.Answer.TheVariants.{Ret}
 use Rattle.xa_base.specs.declared.call.Call.TheVariants as Calls
@@ -14,6 +14,7 @@ use Rattle.xa_base.specs.declared.step.Step.TheVariants as Steps
 use Rattle.xa_log.specs.Contract.{Moment}
 use Rattle.xa_model.specs.Facts.{record_of}
 use Rattle.xa_model.specs.Trace.{Answer, Call, Fault.InHear, Happening.Decided, Happening.Done, Happening.Heard, Line}
+use Rattle.xa_model.proofs.Replies.Guards.{peel}
 use Rattle.xa_tm.proofs.Several.Decisions.{all_kept, all_open, kept_up, written_new, written_up}
 use Rattle.xa_tm.specs.Book.{Book, Doubt.Adds, Doubt.Drops, Waiting, after, after_all, doubt_of, rows_for}
 use Rattle.xa_tm.specs.BookAndLog.{IsChangeOf, changed_by}
@@ -22,7 +23,6 @@ use Rattle.xa_tm.specs.InTurn.{decide_refusal, done_refusal, rows_added}
 use Rattle.xa_tm.specs.LedgerBook.{IsSound}
 use Rattle.xa_tm.specs.Refusing.{outlived_in, refusal_in}
 use Rattle.xa_tm.specs.declared.manager.Manager.{Manager}
-use Rattle.xa_session.proofs.Refusals.{if_none, not_false}
 use Rattle.xa_session.specs.Logging.{KeepsLog}
 use Rattle.xa_session.proofs.Logging.{IsDone, IsDurable, KeepsTie, asked_keeps}
 
@@ -79,13 +79,13 @@ removals_change k (g ∷ gs) none some = (kept_up k g gs none, all_kept k (g ∷
 -- what may be settled is open
 settle_open : (k : Book) (g : Gtrid) → refusal_in k (Steps.Settle g) ≡ None → IsOpenIn k g
 settle_open k g none =
-    let up = if_none _ _ _ none in
-    let begun = if_none _ _ _ up.1 in
-    let free = if_none _ _ _ begun.1 in
+    let up = peel _ _ _ none in
+    let begun = peel _ _ _ up.1 in
+    let free = peel _ _ _ begun.1 in
     let taken = or_parts ((k.transaction g).committed || outlived_in k g) ((k.transaction g).rolled_back || (k.transaction g).handed_over) free.0 in
     record {
-      up = not_false _ up.0;
-      begun = not_false _ begun.0;
+      up = not-false _ up.0;
+      begun = not-false _ begun.0;
       uncommitted = (or_parts (k.transaction g).committed (outlived_in k g) taken.0).0;
       not_rolled_back = (or_parts (k.transaction g).rolled_back (k.transaction g).handed_over taken.1).0;
     }

@@ -17,6 +17,7 @@ use Rattle.xa_tm.specs.Calls.{AsksFor, FailsBy, book_in, log_in}
 use Rattle.xa_tm.specs.Release.{book_without}
 use Rattle.xa_tm.specs.declared.manager.Manager.{Manager}
 use Rattle.xa_session.specs.Logging.{KeepsLog}
+use Rattle.xa_session.proofs.Sessions.{err_is}
 
 -- ** what the book says of the log
 
@@ -163,10 +164,7 @@ fault_or_not : (n : Refusal) → (n ≡ LogFault) ⊎ (n ≢ LogFault)
 fault_or_not LogFault = inl refl
 fault_or_not _ = inr (λ e. absurd (cc))
 
-err_is : {A : Type 0} (m n : Refusal) → (let x : Result A Refusal = Err m in x) ≡ Err n → m ≡ n
-err_is m n e = cc
-
-memory_is_no_fault : (n : Refusal) → n ≡ Memory → n ≡ LogFault → ⊥
+pub memory_is_no_fault : (n : Refusal) → n ≡ Memory → n ≡ LogFault → ⊥
 memory_is_no_fault n memory fault = let no : Memory ≡ LogFault = sym memory ∙ fault in absurd (cc)
 
 module _ {L : Type 0} (moment : L → Moment) where
