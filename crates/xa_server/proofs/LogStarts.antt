@@ -1,5 +1,6 @@
 -- A start over a log that was handed on, and the first.
-use Rattle.std.proofs.Common.{◌≡◌, ◌<◌, ◌≤◌, ◌+◌, ℕ, List, [], ◌∷◌, length, Some, IsSomeAnd, refl, sym, ap, ◌∙◌, subst, arith}
+use Rattle.std.proofs.Common.{◌≡◌, ◌<◌, ◌≤◌, ◌+◌, ℕ, [], length, Some, IsSomeAnd, refl, sym, ap, ◌∙◌, subst, arith}
+use Rattle.std.proofs.lemmas.List.{nil_from_length}
 use Rattle.std.specs.FinMap.{len}
 use Rattle.std.specs.Prelude.{◌==◌, if◌then◌else◌}
 use Rattle.xa_server.specs.Sessions.{IsEmptyLog, StartsOver}
@@ -55,10 +56,6 @@ module _ {L : Type 0} (moment : L → Moment) (threads rms : ℕ) (handed : L) (
 
 -- ** the first start
 
-no_items : {X : Type 0} (xs : List X) → length xs ≡ 0 → xs ≡ []
-no_items [] e = refl
-no_items (x ∷ xs) e = absurd (omega (arith, e))
-
 -- it has no rows and no records
 pub record HasNone (o : Origin) : Type 0 where
   pub rows : o.rows ≡ []
@@ -66,8 +63,8 @@ pub record HasNone (o : Origin) : Type 0 where
 
 pub none_there : (c : Content) (o : Origin) → IsEmptyLog c → IsRaisedFrom c o → HasNone o
 none_there c o none raised = record {
-  rows = no_items o.rows (raised.has.row_number ∙ (ap len raised.rows ∙ none.no_rows));
-  records = no_items o.heuristic_rows (raised.has.record_number ∙ (ap len raised.records ∙ none.no_records));
+  rows = nil_from_length o.rows (raised.has.row_number ∙ (ap len raised.rows ∙ none.no_rows));
+  records = nil_from_length o.heuristic_rows (raised.has.record_number ∙ (ap len raised.records ∙ none.no_records));
 }
 
 -- so it finds an empty log

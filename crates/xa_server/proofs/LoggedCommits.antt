@@ -1,6 +1,6 @@
 -- The rows of the commits that are told as decided.
 use Rattle.std.proofs.Common.{◌≡◌, ◌∙◌, ◌⊎◌, inl, inr, Bool, true, false, ◌||◌, List, [], ◌∷◌, length, Option, Some, None, IsSome, refl, sym, subst}
-use Rattle.std.specs.Prelude.{if◌then◌else◌, OnOk, Result, Ok, Err}
+use Rattle.std.specs.Prelude.{OnOk, Result, Ok, Err}
 use Rattle.std.proofs.lemmas.Bool.{true≢false}
 use Rattle.xa_base.proofs.BranchKeys.{gtrid_eq-true}
 use Rattle.xa_base.specs.Branch.{gtrid_eq}
@@ -27,6 +27,7 @@ use Rattle.xa_requests.specs.declared.response.Response.TheVariants as responses
 use Rattle.xa_session.specs.Logging.{HoldsItsBook, KeepsLog}
 use Rattle.xa_session.specs.Session.{has_room_for}
 use Rattle.xa_session.specs.declared.session.Session.{Session}
+use Rattle.xa_session.proofs.Refusals.{if_there}
 use Rattle.xa_tm.proofs.Several.Decisions.{all_open}
 use Rattle.xa_tm.proofs.Log.Ties.{tied_same}
 use Rattle.xa_tm.specs.Book.{Book, Waiting, after_all, voted_yes}
@@ -43,10 +44,6 @@ open_among k (h ∷ hs) g all among = by (gtrid_eq h g) refl among (λ e. open_a
     by : (t : Bool) → gtrid_eq h g ≡ t → (t || is_gtrid_among hs g) ≡ true → (is_gtrid_among hs g ≡ true → IsOpenIn k g) → IsOpenIn k g
     by true is e later = subst (IsOpenIn k) (gtrid_eq-true h g is) all.0
     by false is e later = later e
-
-if_room : (t : Bool) (o : Option Refusal) → (if t then o else Some Limit) ≡ None → o ≡ None
-if_room true o e = e
-if_room false o e = absurd (cc)
 
 is_logged : (log : Option Content) (g : Gtrid) (w : Waiting) → HasRow log g w → IsLogged log g
 is_logged None g w has = absurd has
@@ -83,7 +80,7 @@ module _ {L : Type 0} (moment : L → Moment) (near : Bool) (gs : List Gtrid) (m
         where
           opened : IsOpenIn (book_in mid.session.manager) g
           opened = open_among (book_in mid.session.manager) gs g
-              (all_open Outcomes.Commit (book_in mid.session.manager) gs (if_room (has_room_for mid.session (length gs)) _ does.rules.allowed)) among
+              (all_open Outcomes.Commit (book_in mid.session.manager) gs (if_there (has_room_for mid.session (length gs)) _ Limit does.rules.allowed)) among
 
           recalled : Recalls (book_in mid.session.manager) g → IsLogged (moment (log_in new.session.manager)).content g
           recalled (inr gone) = absurd (true≢false (sym opened.begun ∙ gone))

@@ -27,12 +27,10 @@ use Rattle.xa_session.specs.Session.{line_refusal}
 use Rattle.xa_session.specs.declared.session.Session.{Session}
 use Rattle.xa_session.specs.declared.session.answers.Unfit.{Unfit}
 use Rattle.xa_session.specs.declared.session.answers.Unfit.TheVariants as Unfits
-
-pub all_stays : {L : Type 0} (s : Session L) → StaysAs s s
-all_stays s = record { book = refl; log = refl; lines = refl; happenings = refl; states = λ b. refl }
+use Rattle.xa_session.proofs.Sessions.{stays_same as stays_itself}
 
 pub stays_same : {L : Type 0} (old new : Session L) → new ≡ old → StaysAs old new
-stays_same old new is = subst (λ s. StaysAs old s) (sym is) (all_stays old)
+stays_same old new is = subst (λ s. StaysAs old s) (sym is) (stays_itself old)
 
 same : {L : Type 0} (old new : Server L) → new ≡ old → ChangesNothing old new
 same old new is = record { session = stays_same old.session new.session (ap (λ c. c.session) is); owed = ap (λ c. c.owed) is }

@@ -2,7 +2,7 @@
 use Rattle.std.proofs.Common.{◌≡◌, ◌∙◌, ◌⊎◌, inl, inr, ℕ, Bool, true, false, ◌&&◌, ◌||◌, List, [], ◌∷◌, Option, Some, None, refl, sym, ap, subst}
 use Rattle.std.specs.Option.{option_and_then, option_map}
 use Rattle.std.specs.Prelude.{if◌then◌else◌, slice_get, MatchBool, Result, Ok, Err}
-use Rattle.std.proofs.lemmas.Bool.{true≢false}
+use Rattle.std.proofs.lemmas.Bool.{true≢false, and_parts, or_left, or_right}
 use Rattle.xa_base.proofs.BranchKeys.{gtrid_eq-refl, gtrid_eq-true}
 use Rattle.xa_base.proofs.XidOrder.{xid_eq-same}
 use Rattle.xa_base.specs.Answer.{answer_number, map_answer}
@@ -52,10 +52,6 @@ use Rattle.xa_tm.specs.Release.{book_without}
 
 -- ** a vote
 
-and_both : (a b : Bool) → (a && b) ≡ true → (a ≡ true) × (b ≡ true)
-and_both true b e = (refl, e)
-and_both false b e = absurd (cc)
-
 -- the branch that two identifiers that are the same name
 prepared : (x : Xid) (o : Option Xid) (b : Option Branch) (c : KnownCall) (g : Gtrid) → branch_of_xid x ≡ b → are_same (Some x) o ≡ true
     → accepted (Calls.Prepare (name_by x b)) ≡ Some c → option_map (λ (d : Branch). d.gtrid) (option_and_then branch_of_xid o) ≡ Some g
@@ -78,7 +74,7 @@ other_kind call name kind = are_alike (kind_of call) kind && are_same (xid_in ca
 vote_says : (call : Call Xid) (name : CallName) (c : KnownCall) (g : Gtrid) → is_to call name ≡ true → known call ≡ Some c → name.kind ≡ Kinds.Prepare
     → transaction_of name ≡ Some g → says_yes_in g c (Ret Success) ≡ true
 vote_says (Calls.Prepare x) name c g to is kind of =
-    prepared x name.xid (branch_of_xid x) c g refl (and_both _ _ to).1 is of
+    prepared x name.xid (branch_of_xid x) c g refl (and_parts _ _ to).1 is of
 vote_says Calls.OpenRm name c g to is kind of = absurd (true≢false (sym (subst (λ k. other_kind Calls.OpenRm name k ≡ true) kind to)))
 vote_says Calls.CloseRm name c g to is kind of = absurd (true≢false (sym (subst (λ k. other_kind Calls.CloseRm name k ≡ true) kind to)))
 vote_says (Calls.Start x j) name c g to is kind of = absurd (true≢false (sym (subst (λ k. other_kind (Calls.Start x j) name k ≡ true) kind to)))
@@ -93,14 +89,6 @@ vote_says (Calls.Recover n x y) name c g to is kind of = absurd (true≢false (s
 -- a vote for the transaction is noted, or nothing is noted of it any more
 abbrev pub Recalls : Book → Gtrid → Type 0
 Recalls k g = ((k.transaction g).has_yes ≡ true) ⊎ ((k.transaction g).begun ≡ false)
-
-or_right : (a b : Bool) → b ≡ true → (a || b) ≡ true
-or_right true b e = refl
-or_right false b e = e
-
-or_left : (a b : Bool) → a ≡ true → (a || b) ≡ true
-or_left true b e = refl
-or_left false b e = absurd (cc)
 
 released : (k : Book) (h g : Gtrid) → Recalls k g → Recalls (book_without h k) g
 released k h g recalls = by (gtrid_eq h g) refl recalls

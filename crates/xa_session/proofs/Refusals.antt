@@ -43,7 +43,7 @@ no_fault_in_turn step does (g ∷ gs) k e = by (refusal_in k (step g)) (no_fault
 
 -- ** what no rule refuses
 
-if_there : (t : Bool) (x : Option Refusal) (r : Refusal) → (if t then x else Some r) ≡ None → x ≡ None
+pub if_there : (t : Bool) (x : Option Refusal) (r : Refusal) → (if t then x else Some r) ≡ None → x ≡ None
 if_there true x r e = e
 if_there false x r e = absurd (cc)
 
