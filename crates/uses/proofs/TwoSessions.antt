@@ -27,7 +27,7 @@ use Rattle.xa_monitor.specs.Seen.{Seen, Seen.Start}
 use Rattle.xa_monitor.specs.Sessions.{IsCommitting}
 use Rattle.xa_monitor.specs.Standings.{Comes}
 use Rattle.xa_tm.specs.Calls.{book_in, log_in}
-use Rattle.uses.proofs.Results.{there_is}
+use Rattle.xa_sql_log.proofs.FoundDecisions.{some_is as there_is}
 use Rattle.uses.specs.Sessions.{AreServedTo, AreServedTwice, EndDecided, EndedAlone, EndsCommitted, IsReplied, IsServedOver, IsServedTwice}
 use Rattle.uses.proofs.Sessions.{start_of, begins_so, rows_logged}
 
