@@ -15,6 +15,7 @@ use Rattle.xa_line.specs.Traffic.{PassesOn, Traffic, answered, answers_heard, ca
 use Rattle.xa_line.proofs.GridLaws.{whole-with_line}
 use Rattle.xa_line.proofs.TrafficLaws.{line_goes_on, next_answer_waits, next_call_waits, same_length}
 use Rattle.xa_line.proofs.FlowLaws.{all_of-PassesOn}
+use Rattle.xa_line.proofs.ChangedLines.{line_stays, lines_with}
 use Rattle.xa_model.specs.Facts as facts
 use Rattle.xa_model.specs.Protocol.{IsRun, Right}
 use Rattle.xa_model.specs.Replies.History.{name_of}
@@ -27,9 +28,7 @@ use Rattle.xa_session.specs.Following.{LeadsByAnswer}
 use Rattle.xa_session.specs.Hearing.{heard_first, with_answer_heard}
 use Rattle.xa_session.specs.declared.session.Session.{Session}
 use Rattle.xa_session.proofs.Books.{book_goes}
-use Rattle.xa_session.proofs.Following.{line_stays}
 use Rattle.xa_session.proofs.Lines.{MayTell}
-use Rattle.xa_session.proofs.ChangedLines.{lines_with}
 use Rattle.xa_session.proofs.LostLines.{up_in}
 
 first_is : {A : Type 0} (xs : List A) (x : A) → slice_get xs 0 ≡ Some x → (rest : List A) × (xs ≡ x ∷ rest)

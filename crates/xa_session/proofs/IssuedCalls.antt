@@ -15,6 +15,7 @@ use Rattle.xa_line.specs.Traffic.{Traffic, answered, answers_heard, calls_issued
 use Rattle.xa_line.proofs.GridLaws.{whole-with_line}
 use Rattle.xa_line.proofs.TrafficLaws.{as_many_calls, line_goes_on}
 use Rattle.xa_line.proofs.HistoryLaws.{closed_known, unopened_known}
+use Rattle.xa_line.proofs.ChangedLines.{line_stays, lines_with}
 use Rattle.xa_model.specs.Facts as facts
 use Rattle.xa_model.specs.Protocol.{Right}
 use Rattle.xa_model.specs.Replies.Allowed.{Allowed.As_value}
@@ -31,10 +32,8 @@ use Rattle.xa_tm.specs.Calls.{book_in}
 use Rattle.xa_session.specs.Following.{LeadsTo, StandsIn}
 use Rattle.xa_session.specs.declared.session.Session.{Session}
 use Rattle.xa_session.proofs.Books.{book_goes, call_allowed}
-use Rattle.xa_session.proofs.Following.{line_stays}
 use Rattle.xa_session.proofs.Refusals.{issued_begun}
 use Rattle.xa_session.proofs.Lines.{MayIssue}
-use Rattle.xa_session.proofs.ChangedLines.{lines_with}
 use Rattle.xa_session.proofs.LostLines.{there_in, up_in}
 
 issued_line : (tr : Trace) (t r : ℕ) (c : Call) (call : Asking.Call Xid) (old : Traffic) → known_call call ≡ Some c

@@ -15,7 +15,6 @@ pub mod Refusals
 pub mod Sessions
 pub mod AskedLogs
 mod StepLemmas
-mod ChangedLines
 mod WaitingCalls
 mod LostLines
 mod IssuedCalls

@@ -7,6 +7,7 @@ use Rattle.xa_line.specs.Histories.{LineStands}
 use Rattle.xa_line.specs.Traffic.{no_traffic}
 use Rattle.xa_line.proofs.GridLaws.{whole-with_line}
 use Rattle.xa_line.proofs.TrafficLaws.{line_renewed}
+use Rattle.xa_line.proofs.ChangedLines.{line_stays, lines_with}
 use Rattle.xa_model.specs.Facts as facts
 use Rattle.xa_model.specs.Facts.Distinct.{ApartRows}
 use Rattle.xa_model.specs.Protocol.{IsRun, Right}
@@ -18,9 +19,7 @@ use Rattle.xa_session.specs.Following.{BookStands, LeadsByLoss, StandsIn}
 use Rattle.xa_session.specs.Session.{known_waiting}
 use Rattle.xa_session.specs.declared.session.Session.{Session}
 use Rattle.xa_session.proofs.Books.{book_goes, up_alike}
-use Rattle.xa_session.proofs.Following.{line_stays}
 use Rattle.xa_session.proofs.Lines.{MayTell}
-use Rattle.xa_session.proofs.ChangedLines.{lines_with}
 use Rattle.xa_session.proofs.WaitingCalls.{first_waits}
 
 -- a session stands in a history but for one line

@@ -9,6 +9,7 @@ use Rattle.xa_line.specs.Traffic.{Traffic, answered, answers_heard, calls_issued
 use Rattle.xa_line.proofs.GridLaws.{whole-with_line}
 use Rattle.xa_line.proofs.TrafficLaws.{line_goes_on}
 use Rattle.xa_line.proofs.HistoryLaws.{closed_known}
+use Rattle.xa_line.proofs.ChangedLines.{line_stays, lines_with}
 use Rattle.xa_model.specs.Facts as facts
 use Rattle.xa_model.specs.Facts.Distinct.{ApartRows}
 use Rattle.xa_model.specs.Protocol.{Right}
@@ -22,11 +23,9 @@ use Rattle.xa_session.specs.Following.{AreRight, LeadsTo, StandsIn}
 use Rattle.xa_session.specs.Session.{LetsWait, recovery_refusal}
 use Rattle.xa_session.specs.declared.session.Session.{Session}
 use Rattle.xa_session.proofs.Books.{book_goes, resolves_alike, resolves_open_alike}
-use Rattle.xa_session.proofs.Following.{line_stays}
 use Rattle.xa_tm.specs.Release.{MayFollow}
 use Rattle.xa_session.proofs.Lines.{may_recover, may_tell}
 use Rattle.xa_session.proofs.Recoveries.{closed_in}
-use Rattle.xa_session.proofs.ChangedLines.{lines_with}
 use Rattle.xa_session.proofs.LostLines.{up_in}
 
 more_issued : (tr : Trace) (e : Happening) (l : Line) (old : Traffic) (calls : List (Asking.Call Xid)) → LineStands tr l old

@@ -7,7 +7,6 @@ pub mod OneMoreEvent
 pub mod FittingEvents
 pub mod Standing
 pub mod RefusedSteps
-pub mod ChangedLines
 pub mod StartedBranches
 pub mod SystemView
 pub mod AfterEvent

@@ -25,11 +25,11 @@ use Rattle.xa_line.specs.Traffic.{Traffic}
 use Rattle.xa_tm.specs.declared.manager.Manager.{Manager}
 use Rattle.xa_tm.specs.Calls.{book_in, log_in}
 use Rattle.xa_line.specs.Histories.{LineStands}
+use Rattle.xa_line.proofs.ChangedLines.{line_stays}
 use Rattle.xa_system.specs.LogInHistory.{LogFollows}
 use Rattle.xa_system.specs.Parts.{IsUnchanged, OneMore, Sees, SiteStands, Stands, origin_of}
 use Rattle.xa_system.specs.RmInHistory.{RmStands}
 use Rattle.xa_system.specs.Steps.{IsSame}
-use Rattle.xa_system.proofs.LineLaws.{line_stays}
 use Rattle.xa_system.proofs.Log.Changes.{log_same_book}
 use Rattle.xa_system.specs.declared.parts.Parts.{Parts}
 use Rattle.xa_system.specs.declared.site.Site.{Site}

@@ -30,11 +30,10 @@ use Rattle.xa_system.specs.declared.parts.Parts.{Parts}
 use Rattle.xa_system.specs.declared.site.Site.{Site}
 use Rattle.xa_system.proofs.Rms.BrokenLines.{break_stands}
 use Rattle.xa_line.proofs.TrafficLaws.{line_renewed}
-use Rattle.xa_system.proofs.LineLaws.{line_stays}
+use Rattle.xa_line.proofs.ChangedLines.{line_stays, lines_apart_rm, lines_with}
 use Rattle.xa_system.proofs.Steps.OfManager.{book_then}
 use Rattle.xa_system.specs.LogInHistory.{LogFollows}
 use Rattle.xa_system.proofs.Histories.Standing.{IsEvent, IsNothingTo, goes_as, has_line, sites_with, there_is, up_is}
-use Rattle.xa_system.proofs.Histories.ChangedLines.{lines_apart_rm, lines_with}
 use Rattle.xa_tm.specs.Book.{after}
 
 abbrev pub line_why : (there up rm_up : Bool) → Option Refusal

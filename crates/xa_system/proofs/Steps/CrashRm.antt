@@ -28,7 +28,7 @@ use Rattle.xa_system.specs.declared.parts.Parts.{Parts}
 use Rattle.xa_system.specs.declared.site.Site.{Site}
 use Rattle.xa_system.proofs.Rms.BrokenLines.{BreaksAll, crash_stands}
 use Rattle.xa_line.proofs.TrafficLaws.{line_renewed}
-use Rattle.xa_system.proofs.LineLaws.{line_stays}
+use Rattle.xa_line.proofs.ChangedLines.{line_stays}
 use Rattle.xa_system.proofs.Steps.OfManager.{book_then}
 use Rattle.xa_system.specs.LogInHistory.{LogFollows}
 use Rattle.xa_system.proofs.Log.Changes.{log_stays}

@@ -35,13 +35,14 @@ use Rattle.xa_tm.specs.Calls.{book_in, log_in, FailsBy}
 use Rattle.xa_tm.specs.Limits.{happenings}
 use Rattle.xa_tm.proofs.History.NextAnswer.{answer_is_code, record_fits}
 use Rattle.xa_line.specs.Histories.{known as known_call}
+use Rattle.xa_line.proofs.ChangedLines.{line_stays, lines_with}
 use Rattle.xa_system.specs.Parts.{OneMore, Sees, Stands}
 use Rattle.xa_system.specs.declared.system.TheConstants.{EVENT_LIMIT}
 use Rattle.xa_system.specs.Steps.{AllCrash}
 use Rattle.xa_system.specs.declared.parts.Parts.{Parts}
 use Rattle.xa_system.specs.declared.site.Site.{Site}
 use Rattle.xa_system.proofs.Steps.Crash.{line_why}
-use Rattle.xa_system.proofs.LineLaws.{line_stays, no_waiting_answer, waiting_answer}
+use Rattle.xa_system.proofs.LineLaws.{no_waiting_answer, waiting_answer}
 use Rattle.xa_system.proofs.OnBranch.{ours_back}
 use Rattle.xa_tm.proofs.Log.TellsRows.{made_is}
 use Rattle.xa_log.specs.Content.{Content}
@@ -51,7 +52,6 @@ use Rattle.xa_system.specs.LogInHistory.{LogFollows, after_change}
 use Rattle.xa_system.proofs.Steps.OfManager.{book_then, up_where, within}
 use Rattle.xa_system.proofs.Histories.Standing.{Follows, IsEvent, goes_as, has_line, nothing_follows, site_stays, there_is, up_is}
 use Rattle.xa_system.proofs.Histories.RefusedSteps.{lacking_goes}
-use Rattle.xa_system.proofs.Histories.ChangedLines.{lines_with}
 use Rattle.xa_tm.specs.Book.{Book, after, book_after, doubt_of}
 use Rattle.xa_system.proofs.Steps.HeardAnswers.{first_is, heard_line, known_pair}
 use Rattle.xa_system.proofs.Steps.FailedLog.{fail_goes}

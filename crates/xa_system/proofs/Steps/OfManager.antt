@@ -20,6 +20,7 @@ use Rattle.xa_base.specs.declared.step.Step.{Step}
 use Rattle.xa_model.proofs.Replies.Guards.{IsForced, forced, none_applies}
 use Rattle.xa_model.proofs.Replies.Replies.{allowed_right}
 use Rattle.xa_line.specs.Grid.{line_at}
+use Rattle.xa_line.proofs.ChangedLines.{line_stays}
 use Rattle.xa_tm.specs.declared.manager.Manager.{Manager}
 use Rattle.xa_log.specs.Content.{last_number}
 use Rattle.xa_tm.specs.LedgerBook.{IsSound}
@@ -33,7 +34,6 @@ use Rattle.xa_tm.proofs.History.RowCounts.{right_book}
 use Rattle.xa_system.specs.Parts.{OneMore, Sees, Stands, StandsSomewhere}
 use Rattle.xa_system.specs.declared.system.TheConstants.{EVENT_LIMIT}
 use Rattle.xa_system.specs.declared.parts.Parts.{Parts}
-use Rattle.xa_system.proofs.LineLaws.{line_stays}
 use Rattle.xa_system.proofs.Histories.Standing.{Follows, IsEvent, IsNothingTo, goes_as, site_stays}
 use Rattle.xa_system.proofs.Histories.RefusedSteps.{lacking_goes, rule_goes}
 use Rattle.xa_tm.specs.Book.{Book, Doubt, after, doubt_of_happening, book_after, book_of}

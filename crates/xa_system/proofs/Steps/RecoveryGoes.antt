@@ -33,10 +33,9 @@ use Rattle.xa_system.specs.declared.parts.Parts.{Parts}
 use Rattle.xa_system.specs.declared.site.Site.{Site}
 use Rattle.xa_system.proofs.Steps.PresentRms.{rm_there}
 use Rattle.xa_line.proofs.TrafficLaws.{as_many_calls, line_goes_on, same_length}
-use Rattle.xa_system.proofs.LineLaws.{line_stays}
 use Rattle.xa_line.proofs.HistoryLaws.{closed_known, opened_known}
+use Rattle.xa_line.proofs.ChangedLines.{line_stays, lines_with}
 use Rattle.xa_system.proofs.Histories.Standing.{Follows, IsEvent, IsNothingTo, goes_as, has_line, site_stays, up_is}
-use Rattle.xa_system.proofs.Histories.ChangedLines.{lines_with}
 use Rattle.xa_tm.specs.Book.{book_of}
 use Rattle.xa_tm.specs.Refusing.{resolved_in, resolved_open_in}
 use Rattle.xa_tm.proofs.History.Recovery.{resolved_is, resolved_open_is}

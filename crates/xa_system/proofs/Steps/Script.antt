@@ -21,6 +21,7 @@ use Rattle.xa_base.specs.declared.reply.Reply.{Reply}
 use Rattle.xa_base.specs.declared.reply.Reply.TheVariants as Replies
 use Rattle.xa_base.specs.declared.step.Step.{Step}
 use Rattle.xa_line.specs.Grid.{line_at}
+use Rattle.xa_line.proofs.ChangedLines.{line_stays}
 use Rattle.xa_rm.specs.ResourceManager.{Sets}
 use Rattle.xa_tm.specs.Calls.{book_in}
 use Rattle.xa_rm.specs.declared.fault.RmFault.{RmFault}
@@ -31,7 +32,6 @@ use Rattle.xa_system.specs.declared.parts.Parts.{Parts}
 use Rattle.xa_system.specs.declared.site.Site.{Site}
 use Rattle.xa_system.specs.Steps.{IsSame}
 use Rattle.xa_system.proofs.Steps.PresentRms.{rm_missing, rm_there}
-use Rattle.xa_system.proofs.LineLaws.{line_stays}
 use Rattle.xa_system.proofs.Log.Changes.{log_stays}
 use Rattle.xa_system.proofs.Reading.{named_fits, named_is}
 use Rattle.xa_system.proofs.Histories.Standing.{Follows, IsEvent, goes_as, nothing_to, same_rm, site_same, site_stays, sites_with}

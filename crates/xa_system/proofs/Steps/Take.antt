@@ -30,12 +30,12 @@ use Rattle.xa_system.specs.declared.parts.Parts.{Parts}
 use Rattle.xa_system.specs.declared.site.Site.{Site}
 use Rattle.xa_system.proofs.Log.Changes.{log_stays}
 use Rattle.xa_line.proofs.TrafficLaws.{as_many_answers, line_goes_on}
-use Rattle.xa_system.proofs.LineLaws.{line_stays, no_waiting_call, waiting_call}
+use Rattle.xa_line.proofs.ChangedLines.{line_stays, lines_same, lines_with}
+use Rattle.xa_system.proofs.LineLaws.{no_waiting_call, waiting_call}
 use Rattle.xa_model.proofs.Replies.Replies.{accepted_ours}
 use Rattle.xa_model.specs.Replies.Steps.{if_ours}
 use Rattle.xa_system.proofs.OnBranch.{ours_back}
 use Rattle.xa_system.proofs.Histories.Standing.{Follows, IsEvent, site_same, goes_as, has_line, nothing_to, same_rm, site_stays, sites_with, there_is, with_site_and_line}
-use Rattle.xa_system.proofs.Histories.ChangedLines.{lines_same, lines_with}
 use Rattle.xa_system.proofs.Rms.TakeLaws.{took_rightly, waits_home}
 use Rattle.xa_system.proofs.Steps.TakeElsewhere.{took_quiet}
 

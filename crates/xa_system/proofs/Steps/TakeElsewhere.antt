@@ -8,12 +8,12 @@ use Rattle.xa_base.specs.declared.answer.Answer.TheVariants.{Ret, Page}
 use Rattle.xa_base.specs.Branch.{branch_eq, gtrid_eq}
 use Rattle.xa_model.specs.Facts as facts
 use Rattle.xa_model.specs.Trace.{Answer, Call, Happening.Took, Kind, Kind.Commit, Line, Name, Trace, Trace.Then, Kind.Start, Kind.Join, Kind.End, Kind.Prepare, Kind.OnePhase, Kind.Rollback, Kind.Forget}
+use Rattle.xa_line.proofs.ChangedLines.{lines_apart_rm}
 use Rattle.xa_base.specs.declared.branch.Branch.{Branch}
 use Rattle.xa_system.specs.Trace.{IsHome}
 use Rattle.xa_base.proofs.BranchOrder.{branch_numbers}
 use Rattle.xa_system.proofs.OnBranch.{standing_none}
 use Rattle.xa_system.proofs.Rms.Unaffected.{IsQuiet}
-use Rattle.xa_system.proofs.Histories.ChangedLines.{lines_apart_rm}
 use Rattle.xa_system.proofs.Rms.AfterTake.{retries_stay}
 
 -- a branch of another resource manager is another branch
