@@ -15,7 +15,7 @@ use Rattle.xa_monitor.specs.Seen.{Seen}
 use Rattle.xa_monitor.specs.Sessions.{MayFail}
 use Rattle.xa_tm.proofs.History.Recovery.{decision_asks}
 use Rattle.xa_tm.proofs.Release.{wholes_follow}
-use Rattle.xa_tm.proofs.Several.Lists.{gtrid_away}
+use Rattle.xa_tm.proofs.Several.Lists.{gtrid_away, named_filter}
 use Rattle.xa_tm.specs.Book.{Book, Doubt.Adds, Doubt.Drops, Doubt.NoDoubt, Waiting, after, book_of, doubt_of_happening, rows_for, voted_yes}
 use Rattle.xa_tm.specs.Calls.{book_in, written_by}
 use Rattle.xa_tm.specs.InTurn as turns
@@ -53,22 +53,6 @@ none_same : (g : Gtrid) (gs : List Gtrid) → EachOnce (λ h. gtrid_eq h g ≡ f
 none_same g [] h = refl
 none_same g (x ∷ xs) h = λ i. h.0 i || none_same g xs h.2 i
 
-none_chosen : (p : Gtrid → Bool) (gs : List Gtrid) (g : Gtrid) → has_gtrid gs g ≡ false → has_gtrid (filter p gs) g ≡ false
-none_chosen p [] g e = refl
-none_chosen p (x ∷ xs) g e = by (p x) (none_first_of (gtrid_eq x g) (has_gtrid xs g) e) (none_chosen p xs g (none_other_of (gtrid_eq x g) (has_gtrid xs g) e))
-  where
-    none_first_of : (a b : Bool) → (a || b) ≡ false → a ≡ false
-    none_first_of false b e = refl
-    none_first_of true b e = absurd (cc)
-
-    none_other_of : (a b : Bool) → (a || b) ≡ false → b ≡ false
-    none_other_of false b e = e
-    none_other_of true b e = absurd (cc)
-
-    by : (t : Bool) → gtrid_eq x g ≡ false → has_gtrid (filter p xs) g ≡ false → has_gtrid (cond t (x ∷ filter p xs) (filter p xs)) g ≡ false
-    by true a r = λ i. a i || r i
-    by false a r = r
-
 -- those that pass a test
 each_chosen : (P : Gtrid → Type 0) (p : Gtrid → Bool) (gs : List Gtrid) → EachOnce P gs → EachOnce (λ g. P g × (p g ≡ true)) (filter p gs)
 each_chosen P p [] h = tt
@@ -76,7 +60,7 @@ each_chosen P p (g ∷ gs) h = by (p g) refl (each_chosen P p gs h.2)
   where
     by : (t : Bool) → p g ≡ t → EachOnce (λ x. P x × (p x ≡ true)) (filter p gs)
         → EachOnce (λ x. P x × (p x ≡ true)) (cond t (g ∷ filter p gs) (filter p gs))
-    by true e rest = ((h.0, e), none_chosen p gs g h.1, rest)
+    by true e rest = ((h.0, e), named_filter p gs g h.1, rest)
     by false e rest = rest
 
 -- a decision that is right behind another was right before it, and is of another transaction

@@ -9,6 +9,7 @@ use Rattle.xa_log.specs.declared.fail_plan.LogCall.TheVariants.{Rows}
 use Rattle.xa_log.specs.declared.log_fault.LogFault.{LogFault as Fails}
 use Rattle.xa_log.specs.declared.log_rows.LogRows.{LogRows}
 use Rattle.xa_tm.proofs.Several.Contents.{changed_at, of_same}
+use Rattle.xa_tm.proofs.Log.Leaves.{left_up}
 use Rattle.xa_tm.specs.Book.{Book, row_with}
 use Rattle.xa_tm.specs.BookAndLog.{HoldsBook, IsChangeOf, IsTied, SameRowsAndRecords, TiedBy, changed_by}
 use Rattle.xa_tm.specs.Calls.{book_in, log_in}
@@ -17,7 +18,7 @@ use Rattle.xa_tm.specs.Starting.{book_at_start}
 use Rattle.xa_tm.specs.StartFaults.{IsOnlyRead, IsToBlame}
 use Rattle.xa_tm.specs.declared.manager.Manager.{Manager}
 use Rattle.xa_session.specs.Logging.{HasAllOrNone, HoldsItsBook, LaterSessionsAreNewer, LeavesContent, LogsHaveAllOrNone, RowsAreHandedOn, StartsBehind}
-use Rattle.xa_session.proofs.Logging.{IsDurable, left_up}
+use Rattle.xa_session.proofs.Logging.{IsDurable}
 
 -- what was read first is what a start then finds
 found : (P : Content → Type 0) (handed read : Option Content) → Makes unchanged handed read → IsSomeAnd read P → IsSomeAnd handed P

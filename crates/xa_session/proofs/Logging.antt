@@ -1,5 +1,5 @@
 -- What becomes of the log.
-use Rattle.std.proofs.Common.{◌≡◌, ◌≢◌, ◌∙◌, ◌⊎◌, inl, inr, ℕ, Bool, true, false, Option, Some, None, IsSomeAnd, refl, sym, ap, subst}
+use Rattle.std.proofs.Common.{◌≡◌, ◌≢◌, ◌∙◌, ◌⊎◌, inl, inr, ℕ, Bool, true, Option, Some, None, refl, sym, ap, subst}
 use Rattle.std.specs.Prelude.{Result, Ok, Err, OnOk, IfErr}
 use Rattle.xa_base.specs.declared.branch.Gtrid.{Gtrid}
 use Rattle.xa_base.specs.declared.refusal.Refusal.{Refusal}
@@ -9,10 +9,10 @@ use Rattle.xa_base.specs.declared.step.Part.TheVariants as Parts
 use Rattle.xa_log.specs.Content.{Content}
 use Rattle.xa_log.specs.Contract.{Moment}
 use Rattle.xa_model.specs.Trace.{Call, Fault, Happening.Begun, Happening.Claimed, Happening.Crashed, Happening.Decided, Happening.Failed, Happening.Issued, Happening.ResolvedOpen, Line}
-use Rattle.xa_tm.proofs.Log.Leaves.{left_by_a_fault}
-use Rattle.xa_tm.proofs.Log.Ties.{SameOfLog, tied_same, up_content}
+use Rattle.xa_tm.proofs.Log.Leaves.{left_by_a_fault, left_up, tied_down}
+use Rattle.xa_tm.proofs.Log.Ties.{SameOfLog, tied_same}
 use Rattle.xa_tm.specs.Book.{Book, Doubt, after, book_after, failed_restarts_after}
-use Rattle.xa_tm.specs.BookAndLog.{IsChangeOf, IsTied, IsTiedDown, IsTiedUp, TiedBy, changed_by}
+use Rattle.xa_tm.specs.BookAndLog.{IsChangeOf, IsTied, changed_by}
 use Rattle.xa_tm.specs.Calls.{AsksFor, FailsBy, book_in, log_in}
 use Rattle.xa_tm.specs.Release.{book_without}
 use Rattle.xa_tm.specs.declared.manager.Manager.{Manager}
@@ -58,19 +58,6 @@ same_released k l g is = subst (SameOfLog k) (sym is)
 -- of a log in order that holds something, just that
 abbrev pub IsDurable : {L : Type 0} → (L → Moment) → Type 0
 IsDurable moment = (log : _) (c d : Content) → (moment log).is_in_order → (moment log).content ≡ Some c → (moment log).may_leave d → d ≡ c
-
--- while the manager is up, the log holds something
-pub left_up : (near : Bool) (k : Book) (held : Option Content) (may : Content → Type 0) → k.up ≡ true → IsTied near k held
-    → ((c d : Content) → held ≡ Some c → may d → d ≡ c) → (c : Content) → may c → IsTied near k (Some c)
-left_up near k held may up tied durable d left = by held (up_content near k held up tied) tied durable
-  where
-    by : (held : Option Content) → IsSomeAnd held (IsTiedUp k) → IsTied near k held → ((c d : Content) → held ≡ Some c → may d → d ≡ c) → IsTied near k (Some d)
-    by None some tied durable = absurd some
-    by (Some c) some tied durable = subst (λ x. IsTied near k (Some x)) (sym (durable c d refl left)) tied
-
--- once it is down
-tied_down : (near : Bool) (k : Book) (d : Content) → k.up ≡ false → IsTiedDown near k d → IsTied near k (Some d)
-tied_down near k d down t = subst (λ u. TiedBy u near k (Some d)) (sym down) (λ c is. subst (IsTiedDown near k) (let same : d ≡ c = cc in same) t)
 
 module _ {L : Type 0} (moment : L → Moment) where
   -- ** the log isn't asked

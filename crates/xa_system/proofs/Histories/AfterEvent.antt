@@ -5,6 +5,7 @@ use Rattle.std.specs.Vec.{vec_capacity}
 use Rattle.std.specs.Option.{option_map}
 use Rattle.std.proofs.lemmas.Option.{slice_get-map}
 use Rattle.xa_tm.proofs.History.Limits.{events_happen}
+use Rattle.xa_tm.proofs.Log.Leaves.{left_up}
 use Rattle.xa_model.specs.Replies.Allowed.{Allowed}
 use Rattle.xa_model.specs.Facts.{up}
 use Rattle.xa_base.specs.Xid.{Xid}
@@ -26,7 +27,6 @@ use Rattle.xa_system.specs.SystemView.{FaultsHaveCauses, IsAsBefore, IsSound, Ke
 use Rattle.xa_system.specs.declared.parts.Parts.{Parts}
 use Rattle.xa_system.specs.declared.site.Site.{Site}
 use Rattle.xa_system.specs.declared.system.System.TheInside.{Inside}
-use Rattle.xa_system.proofs.Log.Changes.{left_up}
 use Rattle.xa_system.proofs.Log.FaultCounts.{causes_more, falls, is_fault_event, is_other_fault, other_rises, rises}
 use Rattle.xa_system.proofs.Log.Laws.{near_restarts, restarts_near}
 use Rattle.xa_log.specs.Contract.{Moment}

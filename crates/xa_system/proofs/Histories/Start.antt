@@ -31,7 +31,6 @@ use Rattle.xa_tm.specs.declared.manager.Manager.{Manager}
 use Rattle.xa_tm.specs.Calls.{book_in, log_in}
 use Rattle.xa_tm.specs.BookAndLog.{IsTied}
 use Rattle.xa_system.specs.LogInHistory.{IsDurable, StartsOver}
-use Rattle.xa_system.proofs.Log.Changes.{left_up}
 use Rattle.xa_system.specs.declared.system.System.TheInside.{Inside}
 use Rattle.xa_system.proofs.Log.Laws.{near_restarts, starts_over}
 use Rattle.xa_line.specs.Histories.{LineStands}
@@ -39,6 +38,7 @@ use Rattle.xa_system.specs.Parts.{Sees, SiteStands, Stands, origin_of}
 use Rattle.xa_system.specs.declared.system.TheConstants.{EVENT_LIMIT}
 use Rattle.xa_system.specs.SystemView.{AreNew, IsSound, MayRestart, new_site, observes_parts, system_view_of, start_of}
 use Rattle.xa_tm.specs.Started.{IsStarted, IsStartedOver}
+use Rattle.xa_tm.proofs.Log.Leaves.{left_up}
 use Rattle.xa_system.specs.Trace.{IsElsewhere, IsUnknown}
 use Rattle.xa_system.specs.RmInHistory.{BeginsOver, RmStands, scan_by}
 use Rattle.xa_system.specs.declared.site.Site.{Site}
