@@ -3,6 +3,7 @@ use Rattle.std.proofs.Common.{◌≡◌, ◌≢◌, ℕ, ◌+◌, ◌⊎◌, inl
 use Rattle.std.specs.Prelude.{Result, Ok, Err, OnOk, IfErr}
 use Rattle.xa_base.specs.declared.refusal.Refusal.{Refusal}
 use Rattle.xa_base.specs.declared.refusal.Refusal.TheVariants.{LogFault}
+use Rattle.xa_base.proofs.Options.{err_is}
 use Rattle.xa_line.specs.Grid.{Grid}
 use Rattle.xa_model.specs.Trace.{Fault, Happening, Happening.Failed, Happening.Nothing}
 use Rattle.xa_tm.specs.Book.{after_all, Doubt, Doubt.NoDoubt}
@@ -14,7 +15,7 @@ use Rattle.xa_session.specs.Headroom.{MayHappen}
 use Rattle.xa_session.specs.Session.{AllHeard, IsReady, happenings_by, has_room_for, is_over, lines_by}
 use Rattle.xa_session.specs.declared.session.Session.{Session}
 use Rattle.xa_session.proofs.Headroom.{MayHappenInTurn}
-use Rattle.xa_session.proofs.Sessions.{all_new, err_is, has_few, refused_or, room_free, same_leaves, same_session, step_leaves, steps_leave}
+use Rattle.xa_session.proofs.Sessions.{all_new, has_few, refused_or, room_free, same_leaves, same_session, step_leaves, steps_leave}
 
 abbrev IsKept : Refusal → Type 0
 IsKept q = ((count n : ℕ) → happenings_by (let x : Result (Unit {0}) Refusal = Err q in x) count n ≡ n)

@@ -6,6 +6,7 @@ use Rattle.xa_base.specs.declared.refusal.Refusal.{Refusal}
 use Rattle.xa_base.specs.declared.refusal.Refusal.TheVariants.{LogFault, Memory}
 use Rattle.xa_base.specs.declared.step.Outcome.TheVariants as Outcomes
 use Rattle.xa_base.specs.declared.step.Part.TheVariants as Parts
+use Rattle.xa_base.proofs.Options.{err_is}
 use Rattle.xa_log.specs.Content.{Content}
 use Rattle.xa_log.specs.Contract.{Moment}
 use Rattle.xa_model.specs.Trace.{Call, Fault, Happening.Begun, Happening.Claimed, Happening.Crashed, Happening.Decided, Happening.Failed, Happening.Issued, Happening.ResolvedOpen, Line}
@@ -17,7 +18,6 @@ use Rattle.xa_tm.specs.Calls.{AsksFor, FailsBy, book_in, log_in}
 use Rattle.xa_tm.specs.Release.{book_without}
 use Rattle.xa_tm.specs.declared.manager.Manager.{Manager}
 use Rattle.xa_session.specs.Logging.{KeepsLog}
-use Rattle.xa_session.proofs.Sessions.{err_is}
 
 -- ** what the book says of the log
 

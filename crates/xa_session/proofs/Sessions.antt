@@ -42,9 +42,6 @@ all_fit m n k few fits = omega (arith, few, fits)
 pub all_new : (threads rms : ℕ) → AllHeard (new_grid threads rms)
 all_new threads rms t r has = ap (λ (l : Traffic). l.answers.waiting) (line_at-new_grid threads rms t r)
 
-pub err_is : {A : Type 0} (m n : Refusal) → (let x : Result A Refusal = Err m in x) ≡ Err n → m ≡ n
-err_is m n e = cc
-
 -- what a refusal brings, it brings whatever follows from that
 pub on_err : {A : Type 0} (r : Result A Refusal) (P Q : Refusal → Type 0) → ((n : Refusal) → P n → Q n) → IfErr r P → IfErr r Q
 on_err (Ok x) P Q f h = tt

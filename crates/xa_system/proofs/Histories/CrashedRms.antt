@@ -9,11 +9,11 @@ use Rattle.xa_base.specs.Xid.{Xid}
 use Rattle.xa_base.specs.declared.state.Fate.TheVariants as Fates
 use Rattle.xa_base.specs.declared.state.Standing.{Standing}
 use Rattle.xa_base.specs.declared.state.Standing.TheVariants.{Unstarted, Active, Idle, Prepared, RollbackOnly, Completed, Committed, RolledBack, Lost, ReadOnly, Forgotten}
+use Rattle.xa_base.proofs.StateLemmas.{broken_twice}
 use Rattle.xa_system.specs.SystemView.{AreClear, ArePast, HasNewer}
 use Rattle.xa_system.specs.Steps.{AreCrashed, Crashes}
 use Rattle.xa_system.proofs.Histories.ClearStart.{never}
 use Rattle.xa_rm.specs.Look.{Look}
-use Rattle.xa_system.proofs.Rms.BrokenLines.{broken_twice}
 
 -- no crash makes a branch one that never was
 never_broken : (f : Standing) → fate_of (broken f) ≡ Fates.Unstarted → fate_of f ≡ Fates.Unstarted

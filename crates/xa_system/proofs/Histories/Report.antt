@@ -18,7 +18,7 @@ use Rattle.xa_base.specs.declared.call.Call.TheVariants as Calls
 use Rattle.xa_base.specs.declared.state.Fate.{Fate}
 use Rattle.xa_base.proofs.BranchOrder.{branches_total}
 use Rattle.xa_base.proofs.BytesOrder.{branch_order}
-use Rattle.xa_base.proofs.Orders.{same_branch}
+use Rattle.xa_base.proofs.Orders.{same_branch, branch_tie}
 use Rattle.xa_log.specs.KeySet.{contains-from_list, contains-items, from_list, items}
 use Rattle.xa_system.specs.Parts.{Sees}
 use Rattle.xa_system.specs.Report.{IsReported}
@@ -31,7 +31,6 @@ use Rattle.xa_system.proofs.Histories.SystemView.{origin_is}
 use Rattle.xa_system.proofs.Histories.StartedBranches.{all_within, none_started}
 use Rattle.xa_tm.specs.Book.{Book}
 use Rattle.xa_tm.specs.Calls.{book_in}
-use Rattle.xa_tm.proofs.Maps.Transactions.{branch_tie}
 
 -- a branch with what became of it
 abbrev pub reported : Trace → Branch → Xid × Fate

@@ -16,6 +16,7 @@ use Rattle.xa_base.specs.declared.step.Outcome.{Outcome}
 use Rattle.xa_base.specs.declared.step.Outcome.TheVariants as Outcomes
 use Rattle.xa_base.specs.declared.step.Step.{Step}
 use Rattle.xa_base.specs.declared.step.Step.TheVariants as Steps
+use Rattle.xa_base.proofs.Options.{err_is}
 use Rattle.xa_tm.specs.declared.manager.Manager.{Manager}
 use Rattle.xa_tm.specs.Calls.{book_in, log_in}
 use Rattle.xa_tm.specs.BookAndLog.{IsTied}
@@ -25,7 +26,7 @@ use Rattle.xa_system.specs.Parts.{GoesOn, Sees}
 use Rattle.xa_system.specs.declared.parts.Parts.{Parts}
 use Rattle.xa_tm.specs.Book.{Book, after}
 use Rattle.xa_tm.specs.Refusing.{managers_refusal, refusal_in}
-use Rattle.xa_system.proofs.Steps.OfManager.{IsOwn, did_goes, err_is, refused_or_lacking, up_in, with_manager}
+use Rattle.xa_system.proofs.Steps.OfManager.{IsOwn, did_goes, refused_or_lacking, up_in, with_manager}
 
 module _ {R L : Type 0} (see : Sees R L) where
   pub own_begun : (tr : Trace) (g : Gtrid) → IsOwn see tr (Begun g)

@@ -1,6 +1,6 @@
 -- Steps that the manager does or refuses.
 use Rattle.std.proofs.Common.{◌≡◌, ◌≤◌, ◌<◌, ◌≢◌, ℕ, [], true, false, refl, sym, ap, ◌∙◌, subst, arith}
-use Rattle.std.specs.Prelude.{not, Option, Some, None, Result, Err}
+use Rattle.std.specs.Prelude.{not, Option, Some, None}
 use Rattle.xa_base.specs.Xid.{Xid}
 use Rattle.xa_model.specs.Replies.Allowed.{Allowed.As_value, IsValue, MayLackMemory}
 use Rattle.xa_model.specs.Facts as facts
@@ -38,9 +38,6 @@ use Rattle.xa_system.proofs.Histories.Standing.{Follows, IsEvent, IsNothingTo, g
 use Rattle.xa_system.proofs.Histories.RefusedSteps.{lacking_goes, rule_goes}
 use Rattle.xa_tm.specs.Book.{Book, Doubt, after, doubt_of_happening, book_after, book_of}
 use Rattle.xa_tm.specs.Refusing.{managers_refusal, refusal_in}
-
-pub err_is : {A : Type 0} (m n : Refusal) → (let x : Result A Refusal = Err m in x) ≡ Err n → m ≡ n
-err_is m n e = cc
 
 -- a refusal that a history forces is no fault of the log
 pub not_fault : (n : Refusal) → IsForced n → n ≢ Refusals.LogFault
