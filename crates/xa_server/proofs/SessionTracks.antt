@@ -49,8 +49,6 @@ pub record Goes {L : Type 0} (o : Origin) (Told : Seen → Type 0) (old new : Se
 no_fault : (n : Refusal) → is_log_fault (responses.Refused n) ≡ false → n ≢ LogFault
 no_fault n none is = true≢false (subst (λ n. is_log_fault (responses.Refused n) ≡ false) is none)
 
--- ** what a session does
-
 module _ {L : Type 0} (laws : Laws L) (o : Origin) (seen : Seen) (old new : Session L) (keeps : KeepsTrack o seen old) where
   stepped_all : (es : List Happening) → All IsManagers es → FollowsAll es old new → new.lines.threads ≡ old.lines.threads
       → Goes o (λ more. more ≡ did_all seen es) old new

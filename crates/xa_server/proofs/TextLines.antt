@@ -7,8 +7,6 @@ use Rattle.xa_server.specs.Lines.{IsPlain, IsWholeLines, text_lines, with_first}
 pub cons_is_not_nil : (b : ℕ) (bs : List ℕ) → b ∷ bs ≡ [] → ⊥
 cons_is_not_nil b bs h = cc
 
--- ** lines of a text
-
 -- a line that a line feed ended, and what follows
 pub first_line : (line rest : List ℕ) → IsPlain line → text_lines (line ++ 10 ∷ rest) ≡ line ∷ text_lines rest
 first_line [] rest plain = refl

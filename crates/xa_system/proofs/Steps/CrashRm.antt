@@ -42,8 +42,6 @@ rm_why there up = if there then (if not up then Some Refusals.RmDown else None) 
 abbrev pub restart_why : (there up : Bool) → Option Refusal
 restart_why there up = if there then (if up then Some Refusals.Busy else None) else Some Refusals.Limit
 
--- ** what breaks
-
 crashed_rm : (tr : Trace) (r : ℕ) → BreaksAll tr (Crashed (KnownParts.Rm r)) r
 crashed_rm tr r =
     record { standing = λ b at. rw (eq-eqb r b.rm (sym at)) refl; vote = λ b at. refl; retries = λ b at. refl; closed = rw (eq-eqb r r refl) refl }
