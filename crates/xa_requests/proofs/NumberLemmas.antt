@@ -1,41 +1,24 @@
 -- The words of numbers.
-use Rattle.std.proofs.Common.{◌≡◌, ◌≢◌, ◌∙◌, ℕ, zero, suc, ◌<◌, ◌≤◌, ◌^◌, ◌&&◌, true, false, inl, inr, List, [], ◌∷◌, length, get_or, Some, None, Ok, Err, ℤ, pos, negsuc, refl, sym, ap, subst, arith, w64, FitsSigned, nat_lt, if◌then◌else◌}
+use Rattle.std.proofs.Common.{◌≡◌, ◌≢◌, ◌∙◌, ℕ, suc, ◌<◌, ◌≤◌, ◌^◌, ◌&&◌, true, false, inl, inr, List, [], ◌∷◌, length, get_or, Some, None, Ok, Err, ℤ, pos, negsuc, refl, sym, ap, subst, arith, w64, FitsSigned, nat_lt, if◌then◌else◌}
 use Rattle.std.specs.Fmt.{decimal, signed_decimal}
 use Rattle.std.specs.Str.{bytes_eq}
 use Rattle.std.specs.Str.Parse.{ParsesSigned, ParsesUnsigned, digits_value, signed_digits_value, without_leading_plus, starts_with_minus}
-use Rattle.std.proofs.lemmas.Bool.{and_parts, and_from, cases_eq, leb-true, lt-ltb, ltb-true, ne_eqb}
-use Rattle.std.proofs.lemmas.Bool.Decides.{nat_tests}
-use Rattle.std.proofs.lemmas.Fmt.{decimal_digit, decimal_nonempty, first_decimal, digits_decimal, digits_value-decimal, decimal-digits_value, parse-decimal, parse-signed_decimal}
+use Rattle.std.proofs.lemmas.Bool.{and_parts, and_from, cases_eq, lt-ltb, ltb-true, ne_eqb}
+use Rattle.std.proofs.lemmas.Fmt.{decimal_nonempty, first_decimal, digits_decimal, digits_value-decimal, decimal-digits_value, parse-decimal, parse-signed_decimal}
 use Rattle.std.proofs.lemmas.Slice.Eq.{bytes_eq-Decides}
 use Rattle.std.proofs.lemmas.Str.Parse.{digit_at, parse_plain, parse_signed_minus, parse_signed_plain, without_leading_plus_none}
-use lib.Dec.{leb}
 use lib.IntN.{neg_ℤ}
-use Rattle.xa_base.proofs.DecimalLemmas.{numerals}
+use Rattle.xa_base.proofs.DecimalLemmas.{canonical_decimal, canonical_negative, leading, negative_text, numerals}
 use Rattle.xa_base.specs.XidText.{is_canonical_decimal}
 use Rattle.xa_requests.specs.Numbers.{index_of, is_within, signed_of}
 use Rattle.xa_requests.proofs.Choices.{choice_true, choice_parts, none_left}
 
 -- ** canonical texts
 
--- a text that begins with a digit other than 0 is canonical
-canonical_first : (ds : List ℕ) → 48 < get_or ds 0 0 → get_or ds 0 0 ≤ 57 → is_canonical_decimal ds ≡ true
-canonical_first [] low high = absurd (omega arith)
-canonical_first (c ∷ []) low high = grind (arith, nat_tests)
-canonical_first (c ∷ d ∷ rest) low high = grind (arith, nat_tests)
-
--- and so it is after a minus sign
-canonical_negative : (ds : List ℕ) → 48 < get_or ds 0 0 → get_or ds 0 0 ≤ 57 → is_canonical_decimal (45 ∷ ds) ≡ true
-canonical_negative [] low high = absurd (omega arith)
-canonical_negative (c ∷ rest) low high = grind (arith, nat_tests)
-
 -- the first digit of a number
 digit_first : (n : ℕ) → n < 2 ^ 64 → (48 ≤ get_or (decimal n) 0 0) × (get_or (decimal n) 0 0 ≤ 57)
 digit_first n fits =
     let digit = digit_at (decimal n) 0 (digits_decimal numerals n fits) (decimal_nonempty n fits) in (digit.0, digit.1)
-
-canonical_decimal : (n : ℕ) → n < 2 ^ 64 → is_canonical_decimal (decimal n) ≡ true
-canonical_decimal zero fits = rw (decimal_digit 0 (omega arith))
-canonical_decimal (suc n) fits = canonical_first (decimal (suc n)) (first_decimal (suc n) (omega arith) fits) (digit_first (suc n) fits).1
 
 canonical_signed : (z : ℤ) → FitsSigned w64 z → is_canonical_decimal (signed_decimal z) ≡ true
 canonical_signed (pos n) fits = canonical_decimal n (omega arith)
@@ -139,18 +122,6 @@ signed_of-some limit word z h =
     let both = and_parts (is_within limit v) (bytes_eq (signed_decimal v) word) c.0 in
     let text : signed_decimal v ≡ word = (bytes_eq-Decides (signed_decimal v) word).0 both.1 in
     (subst (λ (k : ℤ). is_within limit k ≡ true) c.1 both.0, sym text ∙ ap signed_decimal c.1)
-
--- a minus sign before the text of a number above 0
-negative_text : (v : ℕ) (rest : List ℕ) → decimal v ≡ rest → 48 < get_or rest 0 0 → signed_decimal (neg_ℤ (pos v)) ≡ 45 ∷ rest
-negative_text zero rest e low =
-    let first : get_or rest 0 0 ≡ 48 = ap (λ (ds : List ℕ). get_or ds 0 0) (sym e ∙ decimal_digit 0 (omega arith)) in
-    absurd (omega arith)
-negative_text (suc n) rest e low = ap (λ (ds : List ℕ). 45 ∷ ds) e
-
--- the first byte of a canonical text after a minus sign
-leading : (rest : List ℕ) → 0 < length rest → is_canonical_decimal (45 ∷ rest) ≡ true → 48 < get_or rest 0 0
-leading [] some h = absurd (omega arith)
-leading (d ∷ rest) some h = let low = leb-true 49 d (and_parts (leb 49 d) (leb d 57) h).0 in omega arith
 
 -- the text of what was read
 text_of_read : (bs : List ℕ) (z : ℤ) → ParsesSigned {E = Unit {0}} w64 10 bs (Ok z) → is_canonical_decimal bs ≡ true → bs ≡ signed_decimal z

@@ -11,7 +11,7 @@ use Rattle.std.proofs.lemmas.Slice.Eq.{bytes_eq-Decides}
 use Rattle.hex.specs.Hex.{IsBytes, encode_lower, lower_digits}
 use Rattle.hex.proofs.HexLemmas.{length-encode_with}
 use Rattle.xa_base.proofs.BranchLemmas.{bytes-drop, bytes-take, bytes-u64_pair, u64_fits, u64_pair-bytes}
-use Rattle.xa_base.proofs.HexText.{encode-bytes_of, even_lower}
+use Rattle.xa_base.proofs.HexText.{bytes-cons, encode-bytes_of, even_lower, hex-encode}
 use Rattle.xa_base.specs.Bytes.{u64_pair}
 use Rattle.xa_base.specs.Code.{code_number}
 use Rattle.xa_base.specs.XidText.{bytes_of, is_hex}
@@ -30,7 +30,7 @@ use Rattle.xa_requests.specs.Spellings.{CodesHaveOneSpelling, IndexesHaveOneSpel
 use Rattle.xa_requests.specs.Verbs.{code_named, code_table}
 use Rattle.xa_requests.specs.Words.{Word}
 use Rattle.xa_requests.proofs.NumberLemmas.{fits_within, index_of-some, index_of-text, signed_of-some, signed_of-text, within_fits}
-use Rattle.xa_requests.proofs.XidLemmas.{bytes_back, hex_of, named_if_spelled, xid_if_named}
+use Rattle.xa_requests.proofs.XidLemmas.{bytes_back, named_if_spelled, xid_if_named}
 
 pub indexes : IndexesHaveOneSpelling
 indexes word n = (index_of-some word n, λ h. index_of-text word n h.0 h.1)
@@ -43,21 +43,17 @@ integers word z = (
 
 -- ** transactions
 
-bytes_cons : (b : ℕ) (rest : List ℕ) → b < 256 → IsBytes rest → IsBytes (b ∷ rest)
-bytes_cons b rest h all zero = h
-bytes_cons b rest h all (suc i) = all i
-
 small_byte : (k n : ℕ) → byte_at k n < 256
 small_byte zero n = omega arith
 small_byte (suc k) n = omega arith
 
 pub number_bytes : (k n : ℕ) → IsBytes (bytes_high_first k n)
 number_bytes zero n = λ i. omega arith
-number_bytes (suc k) n = bytes_cons (byte_at k n) (bytes_high_first k n) (small_byte k n) (number_bytes k n)
+number_bytes (suc k) n = bytes-cons (byte_at k n) (bytes_high_first k n) (small_byte k n) (number_bytes k n)
 
 pub append_bytes : (xs ys : List ℕ) → IsBytes xs → IsBytes ys → IsBytes (xs ++ ys)
 append_bytes [] ys hx hy = hy
-append_bytes (x ∷ xs) ys hx hy = bytes_cons x (xs ++ ys) (hx 0) (append_bytes xs ys (λ i. hx (suc i)) hy)
+append_bytes (x ∷ xs) ys hx hy = bytes-cons x (xs ++ ys) (hx 0) (append_bytes xs ys (λ i. hx (suc i)) hy)
 
 gtrid_bytes : Gtrid → List ℕ
 gtrid_bytes g = to_be_bytes w64 g.incarnation ++ to_be_bytes w64 g.sequence
@@ -73,7 +69,7 @@ gtrid_from_text g hi hs =
     let text = gtrid_text g in
     let len : length text ≡ 32 = length-encode_with lower_digits (gtrid_bytes g) in
     let test : (length text == 32 && is_hex text) ≡ true =
-    and_from (length text == 32) (is_hex text) (eq-eqb (length text) 32 len) (hex_of (gtrid_bytes g) all) in
+    and_from (length text == 32) (is_hex text) (eq-eqb (length text) 32 len) (hex-encode (gtrid_bytes g) all) in
     ap (λ (t : Bool). if t then gtrid_of_bytes (bytes_of text) else None) test
     ∙ ap gtrid_of_bytes (bytes_back (gtrid_bytes g) all)
     ∙ ap (option_map gtrid_by) (u64_pair-bytes g.incarnation g.sequence hi hs)

@@ -42,11 +42,6 @@ not_log (Err e) P why is = absurd (⊎_elim (λ (m : e ≡ Memory). let no : Mem
     ∙ same_err e Log is in cc) (λ (o : e ≡ Output). let no : Output ≡ Log = sym o ∙ same_err e Log is in cc) why)
 
 -- what a fault of the output leaves
-pub on_output : (result : Result (Unit {0}) RunFault) (P Q : Type 0) → (P → Q)
-    → IfErr result (λ e. e ≡ Output → P) → IfErr result (λ e. e ≡ Output → Q)
-on_output (Ok done) P Q f h = tt
-on_output (Err e) P Q f h = λ is. f (h is)
-
 pub on_output_of : (result : Result (Unit {0}) RunFault) (P Q : Type 0) → (P → Q) → OnErr result P → IfErr result (λ e. e ≡ Output → Q)
 on_output_of (Ok done) P Q f h = tt
 on_output_of (Err e) P Q f h = λ is. f h

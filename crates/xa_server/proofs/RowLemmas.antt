@@ -1,6 +1,6 @@
 -- What rows owe.
-use Rattle.std.proofs.Common.{subst, Option, Some, None, ◌≡◌, ◌≢◌, ◌∙◌, ◌⊎◌, inl, inr, ℕ, Bool, true, false, not, ◌||◌, ◌==◌, List, [], ◌∷◌, ◌++◌, length, filter, map, cond, ap, refl, sym, arith}
-use Rattle.std.proofs.lemmas.Bool.{true≢false}
+use Rattle.std.proofs.Common.{subst, Option, Some, None, ◌≡◌, ◌≢◌, ◌∙◌, ◌⊎◌, inl, inr, ℕ, Bool, true, false, ◌||◌, ◌==◌, List, [], ◌∷◌, ◌++◌, length, filter, map, cond, ap, refl, sym, arith}
+use Rattle.std.proofs.lemmas.Bool.{true≢false, not-false}
 use Rattle.std.specs.Option.{option_or}
 use Rattle.std.proofs.lemmas.Bool.Decides.{nat_tests}
 use Rattle.std.specs.Prelude.{if◌then◌else◌, Result, Ok, Err, OnOk}
@@ -17,11 +17,13 @@ use Rattle.xa_server.specs.Rows.{HasRow, LogsRows, committed_by, is_gtrid_among,
 use Rattle.xa_log.specs.Content.{Content}
 use Rattle.xa_log.specs.Contract.{Moment}
 use Rattle.xa_model.specs.Trace.{Happening, Happening.Decided}
+use Rattle.xa_model.proofs.Replies.Guards.{peel}
 use Rattle.xa_server.specs.Replies.{response_of}
 use Rattle.xa_requests.specs.declared.request.Request.TheVariants as requests
 use Rattle.xa_requests.specs.declared.response.Response.{Response}
 use Rattle.xa_requests.specs.declared.response.Response.TheVariants as responses
 use Rattle.xa_session.specs.Logging.{KeepsLog}
+use Rattle.xa_session.proofs.Refusals.{if_there}
 use Rattle.xa_session.specs.Session.{decide_all_refusal, has_room_for, refusal_at}
 use Rattle.xa_session.specs.declared.session.Session.{Session}
 use Rattle.xa_tm.specs.Book.{Book, Waiting, after, after_all, voted_yes}
@@ -34,20 +36,12 @@ use Rattle.xa_tm.specs.Refusing.{refusal_in, refusal_in_turn}
 abbrev pub commits : List Gtrid → List Happening
 commits gs = map (λ g. Decided g Outcomes.Commit) gs
 
-if_none : (t : Bool) (r : Refusal) (rest : Option Refusal) → (if t then Some r else rest) ≡ None → (t ≡ false) × (rest ≡ None)
-if_none true r rest e = absurd (cc)
-if_none false r rest e = (refl, e)
-
-not_false : (b : Bool) → not b ≡ false → b ≡ true
-not_false true e = refl
-not_false false e = absurd (cc)
-
 -- what may be decided is of a manager that is up
 up_if_decided : (k : Book) (g : Gtrid) (o : Outcome) → refusal_in k (Steps.Decide g o) ≡ None → k.up ≡ true
-up_if_decided k g o none = not_false _ (if_none _ _ _ none).0
+up_if_decided k g o none = not-false _ (peel _ _ _ none).0
 
 up_if_settled : (k : Book) (g : Gtrid) → refusal_in k (Steps.Settle g) ≡ None → k.up ≡ true
-up_if_settled k g none = not_false _ (if_none _ _ _ none).0
+up_if_settled k g none = not-false _ (peel _ _ _ none).0
 
 -- what is decided later leaves a row
 row_kept : (gs : List Gtrid) (k : Book) (g : Gtrid) (set : Waiting) → voted_yes k g ≡ set → k.row g ≡ Some set
@@ -133,17 +127,12 @@ decided_up k (g ∷ gs) o none = inr (up_if_decided k g o (first (refusal_in k (
 
 pub decide_up : {L : Type 0} (s : Session L) (gs : List Gtrid) (o : Outcome) (r : Result (Unit {0}) Refusal) → OnOk r (decide_all_refusal s o gs ≡ None)
     → OnOk r ((gs ≡ []) ⊎ ((book_in s.manager).up ≡ true))
-decide_up s gs o (Ok x) none = decided_up (book_in s.manager) gs o (if_room (has_room_for s (length gs)) none)
-  where
-    if_room : (t : Bool) → (if t then refusal_in_turn (λ g. Steps.Decide g o) (λ g. Decided g o) (book_in s.manager) gs else Some Limit) ≡ None
-        → refusal_in_turn (λ g. Steps.Decide g o) (λ g. Decided g o) (book_in s.manager) gs ≡ None
-    if_room true e = e
-    if_room false e = absurd (cc)
+decide_up s gs o (Ok x) none = decided_up (book_in s.manager) gs o (if_there (has_room_for s (length gs)) _ Limit none)
 decide_up s gs o (Err n) none = tt
 
 pub settled_up : {L : Type 0} (s : Session L) (g : Gtrid) (r : Result (Unit {0}) Refusal) → OnOk r (refusal_at s (Steps.Settle g) ≡ None)
     → OnOk r ((g ∷ [] ≡ []) ⊎ ((book_in s.manager).up ≡ true))
-settled_up s g (Ok x) none = inr (up_if_settled (book_in s.manager) g (if_none _ _ _ none).1)
+settled_up s g (Ok x) none = inr (up_if_settled (book_in s.manager) g (peel _ _ _ none).1)
 settled_up s g (Err n) none = tt
 
 -- ** what is owed

@@ -8,6 +8,7 @@ use Rattle.xa_base.specs.declared.answer.Answer.{Answer}
 use Rattle.xa_base.specs.declared.branch.Gtrid.{Gtrid}
 use Rattle.xa_base.specs.declared.refusal.Refusal.{Refusal}
 use Rattle.xa_base.specs.declared.refusal.Refusal.TheVariants as Refusals
+use Rattle.xa_log.proofs.Parts.{on_err}
 use Rattle.xa_server.specs.Calls.{PerformsAnswer, answer_reply, waits_for_other}
 use Rattle.xa_session.specs.Steps.{Hears, Loses}
 use Rattle.xa_server.specs.Decisions.{PerformsDone}
@@ -26,12 +27,10 @@ use Rattle.xa_session.specs.Session.{line_refusal}
 use Rattle.xa_session.specs.declared.session.Session.{Session}
 use Rattle.xa_session.specs.declared.session.answers.Unfit.{Unfit}
 use Rattle.xa_session.specs.declared.session.answers.Unfit.TheVariants as Unfits
-
-pub all_stays : {L : Type 0} (s : Session L) → StaysAs s s
-all_stays s = record { book = refl; log = refl; lines = refl; happenings = refl; states = λ b. refl }
+use Rattle.xa_session.proofs.Sessions.{stays_same as stays_itself}
 
 pub stays_same : {L : Type 0} (old new : Session L) → new ≡ old → StaysAs old new
-stays_same old new is = subst (λ s. StaysAs old s) (sym is) (all_stays old)
+stays_same old new is = subst (λ s. StaysAs old s) (sym is) (stays_itself old)
 
 same : {L : Type 0} (old new : Server L) → new ≡ old → ChangesNothing old new
 same old new is = record { session = stays_same old.session new.session (ap (λ c. c.session) is); owed = ap (λ c. c.owed) is }
@@ -68,17 +67,13 @@ of_memory : (p : Result (Unit {0}) Refusal) (P : Type 0) → IfErr p (λ n. (n �
 of_memory (Ok x) P h = tt
 of_memory (Err n) P h = h.1
 
-on_any : (p : Result (Unit {0}) Refusal) (P : Type 0) → P → OnErr p P
-on_any (Ok x) P h = tt
-on_any (Err n) P h = h
-
 -- a line that isn't lost
 pub line_stays : {L : Type 0} (t r : ℕ) (old new : Session L) (q : Result (Unit {0}) Refusal) → Loses t r old new q → OnErr q (StaysAs old new)
 line_stays t r old new q loses = by_rule (line_refusal old t r) refl
   where
     by_rule : (why : Option Refusal) → line_refusal old t r ≡ why → OnErr q (StaysAs old new)
     by_rule None is = of_memory q _ (loses.memory is)
-    by_rule (Some n) is = on_any q _ (stays_same old new (loses.rules.refused n is).1)
+    by_rule (Some n) is = on_err q _ (stays_same old new (loses.rules.refused n is).1)
 
 module _ {L : Type 0} (old new : Server L) (reply : Response) (undone : is_not_done reply ≡ true) where
   answered : (t r : ℕ) (name : CallName) (answer : Answer Xid) → PerformsAnswer t r name answer old reply new → ChangesNothing old new

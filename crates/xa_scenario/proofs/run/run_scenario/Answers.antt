@@ -2,7 +2,8 @@ use Rattle.std.proofs.lemmas.Result.{err_from_is_err_and, on_ok_weaker}
 use Rattle.xa_scenario.specs.Scenarios.{scenario_of}
 use Rattle.xa_files.proofs.TablesInTurnLemmas.{same_err}
 use Rattle.xa_files.proofs.ReadingLemmas.{ends_with}
-use Rattle.xa_scenario.proofs.RunLemmas.{begins_text, explains, not_log, not_of_log, not_of_output, not_of_work, on_output, prints_text}
+use Rattle.xa_scenario.proofs.RunLemmas.{begins_text, explains, not_log, not_of_log, not_of_output, not_of_work, prints_text}
+use Rattle.xa_files.proofs.TextFaults.{on_output}
 use Rattle.xa_scenario.proofs.run.run_scenario.Goals as goal
 
 pub returns-in_err-scenario-clause-fault : goal.returns-in_err-scenario-clause-fault

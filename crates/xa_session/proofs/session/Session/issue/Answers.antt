@@ -10,7 +10,7 @@ use Rattle.xa_session.proofs.Lines.{all_with, may_issue_so}
 use Rattle.xa_line.proofs.SeveralCalls.{line_took}
 use Rattle.xa_session.proofs.Refusals.{known_issue}
 use Rattle.xa_session.proofs.Sessions.{has_few, sized_after, step_leaves}
-use Rattle.xa_session.proofs.Telling.{issued_follows}
+use Rattle.xa_session.proofs.IssuedCalls.{issued_follows}
 use Rattle.xa_session.proofs.Logging.{quiet_keeps, same_book, same_issued}
 use Rattle.xa_session.proofs.StepLemmas.{ok_obeys}
 use Rattle.xa_session.specs.Session.{issue_refusal}

@@ -20,7 +20,7 @@ use Rattle.xa_session.specs.Headroom.{HasHeadroom, first_headroom}
 use Rattle.xa_session.specs.Session.{AllHeard}
 use Rattle.xa_session.proofs.Headroom.{starts_have_headroom}
 use Rattle.xa_session.proofs.Books.{old_log}
-use Rattle.xa_session.proofs.Logging.{blamed_behind, start_holds, started_behind}
+use Rattle.xa_session.proofs.LogStarts.{blamed_behind, start_holds, started_behind}
 use Rattle.xa_session.proofs.Sessions.{all_new}
 use Rattle.xa_session.proofs.session.Session.new.Goals as goal
 

@@ -14,7 +14,8 @@ use Rattle.xa_tm.specs.Calls.{book_in}
 use Rattle.xa_system.specs.Parts.{sees}
 use Rattle.xa_system.proofs.Steps.Issue.{has_room_at, is_full_at, issue_did, issue_found, issue_limit, issue_manager_down}
 use Rattle.xa_system.proofs.Steps.OfManager.{sound_book}
-use Rattle.xa_system.proofs.Histories.Standing.{lacking_goes, refused_goes, site_read}
+use Rattle.xa_system.proofs.Histories.Standing.{site_read}
+use Rattle.xa_system.proofs.Histories.RefusedSteps.{lacking_goes, refused_goes}
 use Rattle.xa_tm.specs.Refusing.{refusal_in}
 use Rattle.xa_system.proofs.parts.Parts.issue.Goals as goal
 

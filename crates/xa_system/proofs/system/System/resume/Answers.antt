@@ -14,9 +14,12 @@ use Rattle.xa_system.specs.Steps.{AreCrashed}
 use Rattle.xa_system.specs.SystemView.{ArePast, HasNewer}
 use Rattle.xa_system.specs.declared.site.Site.{Site}
 use Rattle.xa_system.proofs.Histories.NextProcess.{each_resumes, finds_newer}
-use Rattle.xa_system.proofs.Histories.Past.{all_still, newer_after, none_newer, of_sites, past_old, past_over, still_clear}
-use Rattle.xa_system.proofs.Histories.Start.{back_again, new_may_restart, new_sound, origin_same, starts_over_log, starts_right, starts_up}
-use Rattle.xa_system.proofs.Histories.SystemView.{follows_a_crash, holds}
+use Rattle.xa_system.proofs.Histories.Past.{none_newer, of_sites, past_old, past_over}
+use Rattle.xa_system.proofs.Histories.CrashedRms.{all_still, newer_after, still_clear}
+use Rattle.xa_system.proofs.Histories.Start.{back_again, new_may_restart, new_sound, origin_same, starts_over_log, starts_up}
+use Rattle.xa_system.proofs.Histories.ClearStart.{starts_right}
+use Rattle.xa_system.proofs.Histories.SystemView.{holds}
+use Rattle.xa_system.proofs.Histories.AfterEvent.{follows_a_crash}
 use Rattle.xa_system.proofs.Log.Changes.{slot_durable}
 use Rattle.xa_system.proofs.system.System.resume.Goals as goal
 
