@@ -2,9 +2,9 @@ pub mod Documents
 pub mod Fates
 pub mod Faults
 pub mod Fields
-pub mod Gtrids
 pub mod TablesInTurn
 pub mod Outputs
 pub mod Reading
+pub mod Replies
 pub mod Misfits
 pub mod Words

@@ -1,9 +1,13 @@
--- The words for calls, votes and flags.
+-- The words for calls, outcomes, votes and flags.
 use Rattle.std.specs.Prelude.{ℕ, List, [], ◌∷◌, codes, Option, Some, None, if◌then◌else◌}
+use Rattle.std.specs.List.{find}
 use Rattle.std.specs.Str.{bytes_eq}
+use Rattle.xa_base.specs.Call.{kind_name}
 use Rattle.xa_base.specs.declared.call.CallKind.{CallKind}
 use Rattle.xa_base.specs.declared.call.CallKind.TheVariants as calls
 use Rattle.xa_base.specs.declared.code.RbCode.TheVariants as rb
+use Rattle.xa_base.specs.declared.step.Outcome.{Outcome}
+use Rattle.xa_base.specs.declared.step.Outcome.TheVariants as outcomes
 use Rattle.xa_base.specs.declared.vote.Vote.{Vote}
 use Rattle.xa_base.specs.declared.vote.Vote.TheVariants.{Yes, ReadOnly, No}
 
@@ -12,12 +16,18 @@ abbrev pub meaning_in : {A : Type 0} → List (List ℕ × A) → List ℕ → O
 meaning_in [] word = None
 meaning_in (entry ∷ entries) word = if bytes_eq word entry.0 then Some entry.1 else meaning_in entries word
 
--- the kind of a call, by its `xa`
+-- the kinds of calls
+abbrev pub call_kinds : List CallKind
+call_kinds =
+    calls.OpenRm ∷ calls.CloseRm ∷ calls.Start ∷ calls.End ∷ calls.Prepare ∷ calls.Commit ∷ calls.Rollback ∷ calls.Forget ∷ calls.Recover ∷ []
+
+-- the kind of a call, by its `xa`, which is its name
 abbrev pub call_named : List ℕ → Option CallKind
-call_named = meaning_in (
-    (codes "xa_open", calls.OpenRm) ∷ (codes "xa_close", calls.CloseRm) ∷ (codes "xa_start", calls.Start) ∷ (codes "xa_end", calls.End)
-    ∷ (codes "xa_prepare", calls.Prepare) ∷ (codes "xa_commit", calls.Commit) ∷ (codes "xa_rollback", calls.Rollback)
-    ∷ (codes "xa_forget", calls.Forget) ∷ (codes "xa_recover", calls.Recover) ∷ [])
+call_named word = find (λ kind. bytes_eq (kind_name kind) word) call_kinds
+
+-- how a transaction ends
+abbrev pub outcome_named : List ℕ → Option Outcome
+outcome_named = meaning_in ((codes "commit", outcomes.Commit) ∷ (codes "rollback", outcomes.Rollback) ∷ [])
 
 -- a vote: `ok`, `ro`, or the number of a code that tells of a rollback
 abbrev pub vote_named : List ℕ → Option Vote

@@ -1,27 +1,40 @@
-//! The words for calls, votes and flags.
+//! The words for calls, outcomes, votes and flags.
 
 ghost use Rattle.std.specs.Prelude.{◌≡◌};
-ghost use Rattle.xa_files.specs.Words.{call_named, vote_named, flag_named};
+ghost use Rattle.xa_files.specs.Words.{call_named, flag_named, outcome_named, vote_named};
 
 use xa_base::{
-    CallKind, RbCode, TMENDRSCAN, TMFAIL, TMJOIN, TMNOFLAGS, TMONEPHASE, TMSTARTRSCAN, TMSUCCESS,
-    Vote,
+    CallKind, Outcome, RbCode, TMENDRSCAN, TMFAIL, TMJOIN, TMNOFLAGS, TMONEPHASE, TMSTARTRSCAN,
+    TMSUCCESS, Vote,
 };
+
+/// The kinds of calls.
+const KINDS: [CallKind; 9] = [
+    CallKind::OpenRm,
+    CallKind::CloseRm,
+    CallKind::Start,
+    CallKind::End,
+    CallKind::Prepare,
+    CallKind::Commit,
+    CallKind::Rollback,
+    CallKind::Forget,
+    CallKind::Recover,
+];
 
 /// The kind of a call, by its `xa`: the name that it has in XA, chapter 5.
 pub fn call_named(word: &str) -> Option<CallKind>
     ensures { result ≡ call_named word.now }
 {
+    KINDS.iter().copied().find(|kind| kind.name() == word)
+}
+
+/// How a transaction ends.
+pub fn outcome_named(word: &str) -> Option<Outcome>
+    ensures { result ≡ outcome_named word.now }
+{
     match word {
-        "xa_open" => Some(CallKind::OpenRm),
-        "xa_close" => Some(CallKind::CloseRm),
-        "xa_start" => Some(CallKind::Start),
-        "xa_end" => Some(CallKind::End),
-        "xa_prepare" => Some(CallKind::Prepare),
-        "xa_commit" => Some(CallKind::Commit),
-        "xa_rollback" => Some(CallKind::Rollback),
-        "xa_forget" => Some(CallKind::Forget),
-        "xa_recover" => Some(CallKind::Recover),
+        "commit" => Some(Outcome::Commit),
+        "rollback" => Some(Outcome::Rollback),
         _ => None,
     }
 }
