@@ -8,6 +8,7 @@ mod fault;
 mod fields;
 mod finding;
 mod misfit;
+mod numbers;
 mod output;
 mod replies;
 mod words;
@@ -21,6 +22,7 @@ pub use fields::{
 };
 pub use finding::Finding;
 pub use misfit::Misfit;
+pub use numbers::{index_of, integer_of};
 pub use output::{write_text, write_unflushed};
 pub use replies::{begun_text, push_xids, refused_text, restarted_text};
-pub use words::{call_named, flag_named, outcome_named, vote_named};
+pub use words::{call_named, code_named, flag_named, outcome_named, vote_named};

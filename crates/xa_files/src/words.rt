@@ -1,10 +1,11 @@
-//! The words for calls, outcomes, votes and flags.
+//! The words for calls, codes, outcomes, votes and flags.
 
 ghost use Rattle.std.specs.Prelude.{◌≡◌};
-ghost use Rattle.xa_files.specs.Words.{call_named, flag_named, outcome_named, vote_named};
+ghost use Rattle.xa_files.specs.Words.{call_named, code_named, flag_named, outcome_named, vote_named};
 
+use crate::numbers::integer_of;
 use xa_base::{
-    CallKind, Outcome, RbCode, TMENDRSCAN, TMFAIL, TMJOIN, TMNOFLAGS, TMONEPHASE, TMSTARTRSCAN,
+    CallKind, Code, Outcome, TMENDRSCAN, TMFAIL, TMJOIN, TMNOFLAGS, TMONEPHASE, TMSTARTRSCAN,
     TMSUCCESS, Vote,
 };
 
@@ -39,22 +40,26 @@ pub fn outcome_named(word: &str) -> Option<Outcome>
     }
 }
 
-/// A vote: `ok`, `ro`, or the number of a code that tells of a rollback (XA, section 4.5, Return Codes).
+/// The code of a number, as it is written in decimal (XA, section 4.5, Return Codes).
+#[tactic(auto, using(crate::proofs::WordLemmas::code_unread, crate::proofs::WordLemmas::code_unfit))]
+pub fn code_named(word: &str) -> Option<Code>
+    ensures { result ≡ code_named word.now }
+{
+    let number = integer_of(word)?;
+    Code::from_number(i32::try_from(number).ok()?)
+}
+
+/// A vote: `ok`, `ro`, or the number of a code that tells of a rollback.
 pub fn vote_named(word: &str) -> Option<Vote>
     ensures { result ≡ vote_named word.now }
 {
     match word {
         "ok" => Some(Vote::Yes),
         "ro" => Some(Vote::ReadOnly),
-        "100" => Some(Vote::No(RbCode::Rollback)),
-        "101" => Some(Vote::No(RbCode::CommFail)),
-        "102" => Some(Vote::No(RbCode::Deadlock)),
-        "103" => Some(Vote::No(RbCode::Integrity)),
-        "104" => Some(Vote::No(RbCode::Other)),
-        "105" => Some(Vote::No(RbCode::Proto)),
-        "106" => Some(Vote::No(RbCode::Timeout)),
-        "107" => Some(Vote::No(RbCode::Transient)),
-        _ => None,
+        _ => match code_named(word)? {
+            Code::RolledBack(code) => Some(Vote::No(code)),
+            _ => None,
+        },
     }
 }
 
