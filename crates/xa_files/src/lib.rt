@@ -25,4 +25,4 @@ pub use misfit::Misfit;
 pub use numbers::{index_of, integer_of};
 pub use output::{write_text, write_unflushed};
 pub use replies::{begun_text, push_xids, refused_text, restarted_text};
-pub use words::{call_named, code_named, flag_named, outcome_named, vote_named};
+pub use words::{CALL_KINDS, call_named, code_named, flag_named, outcome_named, vote_named};

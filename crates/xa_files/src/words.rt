@@ -10,7 +10,7 @@ use xa_base::{
 };
 
 /// The kinds of calls.
-const KINDS: [CallKind; 9] = [
+pub const CALL_KINDS: [CallKind; 9] = [
     CallKind::OpenRm,
     CallKind::CloseRm,
     CallKind::Start,
@@ -26,7 +26,7 @@ const KINDS: [CallKind; 9] = [
 pub fn call_named(word: &str) -> Option<CallKind>
     ensures { result ≡ call_named word.now }
 {
-    KINDS.iter().copied().find(|kind| kind.name() == word)
+    CALL_KINDS.iter().copied().find(|kind| kind.name() == word)
 }
 
 /// How a transaction ends.
