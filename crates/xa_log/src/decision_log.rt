@@ -12,9 +12,6 @@ use crate::log_rows::LogRows;
 use std::alloc::Global;
 use xa_base::{Branch, Gtrid, How};
 
-/// The greatest number that a row can have, 9,223,372,036,854,775,807, and so the last incarnation.
-pub const LAST_NUMBER: u64 = i64::MAX as u64;
-
 /// Whether a decision is a new row.
 #[derive(Clone, Copy, Debug, PartialEq, Eq)]
 pub enum Logged {

@@ -22,10 +22,12 @@ mod turns;
 
 pub use commands::{Command, Told, run_commands};
 pub use decision::Decision;
-pub use decision_log::{DecisionLog, LAST_NUMBER, Logged};
+pub use decision_log::{DecisionLog, Logged};
 pub use fail_log::FailLog;
 pub use fail_plan::{FailPlan, LogCall};
 pub use log_fault::{LogFault, counted};
 pub use log_rows::LogRows;
 pub use mem_log::MemLog;
 pub use turns::{decisions_in_turn, rows_left_together};
+/// The last incarnation of a log, and the last sequence of one.
+pub use xa_base::LAST_NUMBER;

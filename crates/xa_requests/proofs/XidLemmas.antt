@@ -1,10 +1,10 @@
 -- The words of identifiers.
-use Rattle.std.proofs.Common.{◌≡◌, ◌∙◌, ℕ, ◌^◌, ◌==◌, ◌&&◌, Bool, true, false, List, [], ◌∷◌, ◌++◌, get_or, Option, Some, None, Result, Ok, Err, IfOk, ℤ, pos, negsuc, refl, sym, ap, subst, arith, w32, FitsSigned, if◌then◌else◌}
+use Rattle.std.proofs.Common.{◌≡◌, ◌∙◌, ℕ, ◌^◌, ◌==◌, ◌&&◌, Bool, true, false, List, [], ◌∷◌, ◌++◌, get_or, Option, Some, None, Result, Ok, Err, IfOk, ℤ, refl, sym, ap, subst, arith, if◌then◌else◌}
 use Rattle.std.specs.Fmt.{signed_decimal}
 use Rattle.std.specs.List.{All, join_with_byte, slice_split}
 use Rattle.std.specs.Prelude.{option_and_then}
 use Rattle.std.specs.Result.{result_ok}
-use Rattle.std.proofs.lemmas.Bool.{and_parts, and_from, ltb-true, lt-ltb, ne_eqb}
+use Rattle.std.proofs.lemmas.Bool.{and_parts, and_from, ne_eqb}
 use Rattle.std.proofs.lemmas.List.Elements.{All-from_get_or}
 use Rattle.std.proofs.lemmas.List.Splits.{slice_split_at, slice_split_none, join_with_byte-slice_split}
 use Rattle.hex.specs.Hex.{IsBytes, encode_lower, decode_of}
@@ -15,9 +15,9 @@ use Rattle.xa_base.specs.Xid.{Xid, IsInRange, IsXid, text_of, xid_of}
 use Rattle.xa_base.specs.XidText.{HasNoColon, Spells, bytes_of, is_hex}
 use Rattle.xa_base.specs.declared.fault.XidFault.{XidFault}
 use Rattle.xa_requests.specs.Names.{xid_named, xid_of_texts}
-use Rattle.xa_requests.specs.Numbers.{is_within, signed_of}
-use Rattle.xa_requests.proofs.Choices.{none_left}
-use Rattle.xa_requests.proofs.NumberLemmas.{signed_of-some, signed_of-text}
+use Rattle.xa_files.specs.Numbers.{signed_of}
+use Rattle.xa_files.proofs.Choices.{none_left}
+use Rattle.xa_files.proofs.NumberLemmas.{fits_of, signed_of-some, signed_of-text, within_of}
 
 -- ** what spells an identifier is named by its texts
 
@@ -42,14 +42,6 @@ bytes_back bytes h =
     let same : Ok (bytes_of (encode_lower bytes)) ≡ Ok bytes =
     sym (decode_of-encode_lower (bytes_of (encode_lower bytes)) back.1) ∙ ap decode_of back.0 ∙ decode_of-encode_lower bytes h in
     cc same
-
-within_of : (z : ℤ) → FitsSigned w32 z → is_within (2 ^ 31) z ≡ true
-within_of (pos n) h = lt-ltb n (2 ^ 31) h.sfits
-within_of (negsuc n) h = lt-ltb n (2 ^ 31) h.sfits
-
-fits_of : (z : ℤ) → is_within (2 ^ 31) z ≡ true → FitsSigned w32 z
-fits_of (pos n) h = let small = ltb-true n (2 ^ 31) h in record { sfits = omega arith }
-fits_of (negsuc n) h = let small = ltb-true n (2 ^ 31) h in record { sfits = omega arith }
 
 named_texts : (x : Xid) → IsInRange x
     → xid_of_texts (signed_decimal x.format ∷ encode_lower x.gtrid ∷ encode_lower x.bqual ∷ []) ≡ result_ok (xid_of x.format x.gtrid x.bqual)

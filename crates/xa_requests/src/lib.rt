@@ -11,7 +11,6 @@ mod calls;
 mod decisions;
 mod laws;
 mod names;
-mod numbers;
 mod reading;
 mod recoveries;
 mod request;

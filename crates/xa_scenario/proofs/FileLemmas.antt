@@ -7,6 +7,7 @@ use Rattle.toml.specs.Data.{item}
 use Rattle.toml.specs.View.{view, items_view}
 use Rattle.toml.specs.declared.value.Value.{Value}
 use Rattle.toml.proofs.Views.{items_view-drop}
+use Rattle.xa_base.specs.declared.limits.TheConstants.{MAX_RMS, MAX_THREADS}
 use Rattle.xa_scenario.specs.Branches.{BegunNames}
 use Rattle.xa_scenario.specs.Files.{AreOfOneSize, Earlier, file_after, file_then, files_from, is_alike, names_with, with_plan}
 use Rattle.xa_scenario.specs.Scenarios.{IsSize, IsSized, Plan, names_after}
@@ -81,7 +82,7 @@ files_end front place earlier all so_far = sym so_far ∙ ap Ok (append-nil fron
 abbrev pub AreOfSize : Option (ℕ × ℕ) → List Plan → Type 0
 AreOfSize None plans = plans ≡ []
 AreOfSize (Some size) plans =
-    IsSize size.0 × IsSize size.1 × All (λ (plan : Plan). (plan.threads ≡ size.0) × (plan.rms ≡ size.1)) plans
+    IsSize MAX_THREADS size.0 × IsSize MAX_RMS size.1 × All (λ (plan : Plan). (plan.threads ≡ size.0) × (plan.rms ≡ size.1)) plans
 
 pub of_size_more : (size : Option (ℕ × ℕ)) (plans : List Plan) (plan : Plan) → AreOfSize size plans → is_alike size plan.threads plan.rms ≡ true → IsSized plan
     → AreOfSize (Some (plan.threads, plan.rms)) (plans ++ plan ∷ [])
@@ -108,9 +109,9 @@ are_alike None plans none = record {
 are_alike (Some size) plans each = record { threads = size.0; rms = size.1; some_threads = each.0; some_rms = each.1; each = each.2 }
 
 -- each of them is sized, and as large as the first
-sized_by : (threads rms : ℕ) → IsSize threads → IsSize rms → (plan : Plan) → (plan.threads ≡ threads) × (plan.rms ≡ rms) → IsSized plan
+sized_by : (threads rms : ℕ) → IsSize MAX_THREADS threads → IsSize MAX_RMS rms → (plan : Plan) → (plan.threads ≡ threads) × (plan.rms ≡ rms) → IsSized plan
 sized_by threads rms some_threads some_rms plan is =
-    record { threads = subst IsSize (sym is.0) some_threads; rms = subst IsSize (sym is.1) some_rms }
+    record { threads = subst (IsSize MAX_THREADS) (sym is.0) some_threads; rms = subst (IsSize MAX_RMS) (sym is.1) some_rms }
 
 pub sized_first : (plan : Plan) (plans : List Plan) → AreOfOneSize (plan ∷ plans) → IsSized plan
 sized_first plan plans alike =

@@ -2,8 +2,8 @@
 use Rattle.std.specs.Prelude.{[], ◌∷◌, codes, Option, Some}
 use Rattle.toml.specs.Data.{Members}
 use Rattle.xa_files.specs.Fields.{◌>>=◌, text_at}
+use Rattle.xa_files.specs.Words.{outcome_named}
 use Rattle.xa_scenario.specs.Branches.{BegunNames, begin_at, only, only_begin}
-use Rattle.xa_scenario.specs.Words.{outcome_named}
 use Rattle.xa_scenario.specs.declared.entry.Entry.{Entry}
 use Rattle.xa_scenario.specs.declared.entry.Ending.TheVariants as endings
 use Rattle.xa_scenario.specs.declared.entry.Entry.TheVariants as entries

@@ -2,6 +2,7 @@
 use Rattle.std.specs.Prelude.{◌≡◌, ℕ, ◌+◌, Bool, true, ◌&&◌, nat_eq, if◌then◌else◌, List, [], ◌∷◌, map, All, Option, Some, None, Result, Ok, Err}
 use Rattle.std.specs.String.{string_bytes}
 use Rattle.toml.specs.Data.{Items, no_items, item, Members}
+use Rattle.xa_base.specs.declared.limits.TheConstants.{MAX_RMS, MAX_THREADS}
 use Rattle.xa_files.specs.Documents.{document_of}
 use Rattle.xa_files.specs.Reading.{◌>>=◌}
 use Rattle.xa_files.specs.declared.fault.RunFault.{RunFault}
@@ -81,6 +82,6 @@ scenarios_of texts = files_from 0 nothing_earlier texts
 pub record AreOfOneSize (plans : List Plan) : Type 0 where
   pub threads : ℕ
   pub rms : ℕ
-  pub some_threads : IsSize threads
-  pub some_rms : IsSize rms
+  pub some_threads : IsSize MAX_THREADS threads
+  pub some_rms : IsSize MAX_RMS rms
   pub each : All (λ plan. (plan.threads ≡ threads) × (plan.rms ≡ rms)) plans

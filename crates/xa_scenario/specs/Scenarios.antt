@@ -1,4 +1,5 @@
 -- Which texts are scenarios, and the fault of each other text.
+use Rattle.xa_base.specs.declared.limits.TheConstants.{MAX_RMS, MAX_THREADS}
 use Rattle.xa_system.specs.declared.system.TheConstants.{EVENT_LIMIT}
 use Rattle.std.specs.Prelude.{◌≤◌, ℕ, ◌+◌, nat_lt, if◌then◌else◌, List, [], ◌∷◌, ◌++◌, Option, Some, None, Result, Ok}
 use Rattle.std.specs.Option.{ok_or, option_and_then}
@@ -20,14 +21,14 @@ pub record Plan : Type 0 where
   pub rms : ℕ
   pub entries : List Entry
 
--- a number of threads or of resource managers
-abbrev pub IsSize : ℕ → Type 0
-IsSize n = (1 ≤ n) × (n ≤ 8)
+-- a number of threads or of resource managers, of which there are so many at most
+abbrev pub IsSize : (most : ℕ) → ℕ → Type 0
+IsSize most n = (1 ≤ n) × (n ≤ most)
 
--- there are 1 to 8 of either
+-- there are as many of either as a system may have
 pub record IsSized (plan : Plan) : Type 0 where
-  pub threads : IsSize plan.threads
-  pub rms : IsSize plan.rms
+  pub threads : IsSize MAX_THREADS plan.threads
+  pub rms : IsSize MAX_RMS plan.rms
 
 -- the plan of a scenario, without where it lies in memory
 abbrev pub plan_of : Scenario → Plan

@@ -2,8 +2,6 @@
 use Rattle.std.specs.Prelude.{ℕ, List, [], ◌∷◌, codes, Option}
 use Rattle.xa_base.specs.declared.code.How.{How}
 use Rattle.xa_base.specs.declared.code.How.TheVariants as hows
-use Rattle.xa_base.specs.declared.step.Outcome.{Outcome}
-use Rattle.xa_base.specs.declared.step.Outcome.TheVariants as outcomes
 use Rattle.xa_files.specs.Words.{meaning_in}
 use Rattle.xa_scenario.specs.declared.words.EntryKind.{EntryKind}
 use Rattle.xa_scenario.specs.declared.words.EntryKind.TheVariants as kinds
@@ -25,10 +23,6 @@ entry_named = meaning_in (
 abbrev pub how_named : List ℕ → Option How
 how_named = meaning_in (
     (codes "com", hows.Com) ∷ (codes "rb", hows.Rb) ∷ (codes "mix", hows.Mix) ∷ (codes "haz", hows.Haz) ∷ [])
-
--- how a transaction ends
-abbrev pub outcome_named : List ℕ → Option Outcome
-outcome_named = meaning_in ((codes "commit", outcomes.Commit) ∷ (codes "rollback", outcomes.Rollback) ∷ [])
 
 -- the kind of a part, by its `part`
 abbrev pub part_named : List ℕ → Option PartKind

@@ -20,16 +20,11 @@ use crate::entry::Entry;
 use crate::tables::entry_of;
 use std::alloc::{AllocError, Global};
 use toml::{Table, Value};
+use xa_base::{MAX_RMS, MAX_THREADS};
 use xa_files::{Finding, Misfit, RunFault, document_of, only_keys, size_at, tables_at};
 
 /// The most entries of a scenario.
 const MAX_ENTRIES: usize = 10_000;
-
-/// The most threads.
-const MAX_THREADS: u32 = 8;
-
-/// The most resource managers.
-const MAX_RMS: u32 = 8;
 
 /// A scenario: how large the system is, and what is asked of it.
 #[derive(Drop)]
@@ -55,7 +50,7 @@ pub struct NamedScenario {
 fn header_at(document: &Table) -> Result<(u32, u32, &[Value]), Finding<'_>>
     ensures value { option_map (λ h. (h.0, h.1, items_view h.2.now)) (result_ok result)
         ≡ header_at (table_view document.now) }
-    ensures sized { IfOk result (λ h. IsSize h.0 × IsSize h.1) }
+    ensures sized { IfOk result (λ h. IsSize MAX_THREADS h.0 × IsSize MAX_RMS h.1) }
 {
     let of = "the top of a scenario";
     only_keys(document, of, &["threads", "rms", "step"])?;
@@ -69,7 +64,7 @@ fn header_at(document: &Table) -> Result<(u32, u32, &[Value]), Finding<'_>>
 pub fn header_of(document: &Table) -> Result<(u32, u32, &[Value]), Misfit<'_>>
     ensures value { ReadsDocument (λ h. (h.0, h.1, items_view h.2.now)) result
         (header_of (table_view document.now)) }
-    ensures sized { IfOk result (λ h. IsSize h.0 × IsSize h.1) }
+    ensures sized { IfOk result (λ h. IsSize MAX_THREADS h.0 × IsSize MAX_RMS h.1) }
 {
     match header_at(document) {
         Ok(header) => Ok(header),

@@ -4,15 +4,14 @@ ghost use Rattle.std.specs.Prelude.{◌≡◌, codes, map, option_and_then};
 ghost use Rattle.std.specs.Result.{result_ok};
 ghost use Rattle.toml.specs.View.{table_view};
 ghost use Rattle.xa_files.specs.Fields.{text_at};
+ghost use Rattle.xa_files.specs.Words.{outcome_named};
 ghost use Rattle.xa_scenario.specs.Endings.{abandon_row, claim_row, decide_row, done_row, settle_row};
-ghost use Rattle.xa_scenario.specs.Words.{outcome_named};
 
 use crate::branches::{begin_at, only_begin};
 use crate::entry::{Ending, Entry};
-use crate::words::outcome_named;
 use toml::Table;
 use xa_base::Outcome;
-use xa_files::{Finding, meaning_at, only_keys, text_at};
+use xa_files::{Finding, meaning_at, only_keys, outcome_named, text_at};
 
 /// The outcome of a decision.
 fn outcome_at<'a>(table: &'a Table) -> Result<Outcome, Finding<'a>>

@@ -1,9 +1,9 @@
 //! The words of scenario files alone.
 
 ghost use Rattle.std.specs.Prelude.{◌≡◌};
-ghost use Rattle.xa_scenario.specs.Words.{entry_named, how_named, outcome_named, part_named};
+ghost use Rattle.xa_scenario.specs.Words.{entry_named, how_named, part_named};
 
-use xa_base::{How, Outcome};
+use xa_base::How;
 
 /// The kinds of entries.
 #[derive(Clone, Copy, Debug, PartialEq, Eq)]
@@ -74,17 +74,6 @@ pub fn how_named(word: &str) -> Option<How>
         "rb" => Some(How::Rb),
         "mix" => Some(How::Mix),
         "haz" => Some(How::Haz),
-        _ => None,
-    }
-}
-
-/// How a transaction ends.
-pub fn outcome_named(word: &str) -> Option<Outcome>
-    ensures { result ≡ outcome_named word.now }
-{
-    match word {
-        "commit" => Some(Outcome::Commit),
-        "rollback" => Some(Outcome::Rollback),
         _ => None,
     }
 }

@@ -15,11 +15,8 @@ use crate::ledger::room::{reserve_branch, set_branch};
 use crate::notes::BranchNotes;
 use std::alloc::{AllocError, Global};
 use std::collections::BTreeMap;
-use xa_base::{Branch, Gtrid, How};
+use xa_base::{Branch, Gtrid, How, LAST_NUMBER};
 use xa_log::LogRows;
-
-/// The greatest number that a row can have.
-const LAST_NUMBER: u64 = i64::MAX as u64;
 
 /// The participants of a transaction that stand first.
 fn run_of(alloc: Global, participants: &[Branch], g: Gtrid) -> Result<Vec<Branch>, AllocError>

@@ -2,8 +2,8 @@ use Rattle.std.proofs.Common.{ℤ, FitsSigned, w64, sym, ◌∙◌, ap, subst}
 use Rattle.std.specs.Prelude.{Some}
 use Rattle.std.proofs.lemmas.Int.{to_z-of_z}
 use Rattle.xa_base.specs.XidText.{is_canonical_decimal}
-use Rattle.xa_requests.proofs.NumberLemmas.{integer_of-read, integer_of-other, integer_of-unread}
-use Rattle.xa_requests.proofs.numbers.integer_of.Goals as goal
+use Rattle.xa_files.proofs.NumberLemmas.{integer_of-read, integer_of-other, integer_of-unread}
+use Rattle.xa_files.proofs.numbers.integer_of.Goals as goal
 
 pub returns-in-Ok : goal.returns-in-Ok
 returns-in-Ok c =

@@ -2,7 +2,7 @@
 
 ghost use Rattle.std.specs.Prelude.{◌≡◌};
 ghost use Rattle.xa_base.specs.XidText.{is_canonical_decimal};
-ghost use Rattle.xa_requests.specs.Numbers.{index_of, integer_of};
+ghost use Rattle.xa_files.specs.Numbers.{index_of, integer_of};
 
 /// Whether a decimal text is `0` or begins with another digit, after a minus sign at most.
 fn is_canonical(text: &[u8]) -> bool
@@ -16,7 +16,7 @@ fn is_canonical(text: &[u8]) -> bool
 }
 
 /// The number of 32 bits that a word spells in decimal, without a sign or leading zeros.
-pub(crate) fn index_of(word: &str) -> Option<u32>
+pub fn index_of(word: &str) -> Option<u32>
     ensures { result ≡ index_of word.now }
 {
     match word.parse() {
@@ -26,7 +26,7 @@ pub(crate) fn index_of(word: &str) -> Option<u32>
 }
 
 /// The signed number of 64 bits that a word spells in decimal, without a plus sign, leading zeros or `-0`.
-pub(crate) fn integer_of(word: &str) -> Option<i64>
+pub fn integer_of(word: &str) -> Option<i64>
     ensures { result ≡ integer_of word.now }
 {
     match word.parse() {

@@ -1,5 +1,5 @@
 -- The words of numbers.
-use Rattle.std.proofs.Common.{◌≡◌, ◌≢◌, ◌∙◌, ℕ, suc, ◌<◌, ◌≤◌, ◌^◌, ◌&&◌, true, false, inl, inr, List, [], ◌∷◌, length, get_or, Some, None, Ok, Err, ℤ, pos, negsuc, refl, sym, ap, subst, arith, w64, FitsSigned, nat_lt, if◌then◌else◌}
+use Rattle.std.proofs.Common.{◌≡◌, ◌≢◌, ◌∙◌, ℕ, suc, ◌<◌, ◌≤◌, ◌^◌, ◌&&◌, true, false, inl, inr, List, [], ◌∷◌, length, get_or, Some, None, Ok, Err, ℤ, pos, negsuc, refl, sym, ap, subst, arith, w64, FitsSigned, w32, nat_lt, if◌then◌else◌}
 use Rattle.std.specs.Fmt.{decimal, signed_decimal}
 use Rattle.std.specs.Str.{bytes_eq}
 use Rattle.std.specs.Str.Parse.{ParsesSigned, ParsesUnsigned, digits_value, signed_digits_value, without_leading_plus, starts_with_minus}
@@ -10,8 +10,8 @@ use Rattle.std.proofs.lemmas.Str.Parse.{digit_at, parse_plain, parse_signed_minu
 use lib.IntN.{neg_ℤ}
 use Rattle.xa_base.proofs.DecimalLemmas.{canonical_decimal, canonical_negative, leading, negative_text, numerals}
 use Rattle.xa_base.specs.XidText.{is_canonical_decimal}
-use Rattle.xa_requests.specs.Numbers.{index_of, is_within, signed_of}
-use Rattle.xa_requests.proofs.Choices.{choice_true, choice_parts, none_left}
+use Rattle.xa_files.specs.Numbers.{index_of, is_within, signed_of}
+use Rattle.xa_files.proofs.Choices.{choice_true, choice_parts, none_left}
 
 -- ** canonical texts
 
@@ -105,6 +105,15 @@ fits_within limit (negsuc n) most h = let small = ltb-true n limit h in record {
 pub within_fits : (z : ℤ) → FitsSigned w64 z → is_within (2 ^ 63) z ≡ true
 within_fits (pos n) h = lt-ltb n (2 ^ 63) h.sfits
 within_fits (negsuc n) h = lt-ltb n (2 ^ 63) h.sfits
+
+-- the same of 32 bits
+pub within_of : (z : ℤ) → FitsSigned w32 z → is_within (2 ^ 31) z ≡ true
+within_of (pos n) h = lt-ltb n (2 ^ 31) h.sfits
+within_of (negsuc n) h = lt-ltb n (2 ^ 31) h.sfits
+
+pub fits_of : (z : ℤ) → is_within (2 ^ 31) z ≡ true → FitsSigned w32 z
+fits_of (pos n) h = let small = ltb-true n (2 ^ 31) h in record { sfits = omega arith }
+fits_of (negsuc n) h = let small = ltb-true n (2 ^ 31) h in record { sfits = omega arith }
 
 pub signed_of-text : (limit : ℕ) (word : List ℕ) (z : ℤ) → limit ≤ 2 ^ 63 → is_within limit z ≡ true → word ≡ signed_decimal z → signed_of limit word ≡ Some z
 unfolding signed_of

@@ -1,7 +1,7 @@
 use Rattle.std.proofs.Common.{sym, ◌∙◌, ap}
 use Rattle.xa_base.specs.XidText.{is_canonical_decimal}
-use Rattle.xa_requests.proofs.NumberLemmas.{index_of-read, index_of-other, index_of-unread}
-use Rattle.xa_requests.proofs.numbers.index_of.Goals as goal
+use Rattle.xa_files.proofs.NumberLemmas.{index_of-read, index_of-other, index_of-unread}
+use Rattle.xa_files.proofs.numbers.index_of.Goals as goal
 
 pub returns-in-Ok : goal.returns-in-Ok
 returns-in-Ok c =
