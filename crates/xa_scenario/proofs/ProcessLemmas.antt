@@ -14,7 +14,7 @@ use Rattle.xa_model.specs.Replies.History.{history}
 use Rattle.xa_model.specs.Trace.{Origin, Trace}
 use Rattle.xa_model.proofs.ProcessLemmas.Joining.{gone_right, joined_faces, of_processes_right, resumes_both}
 use Rattle.xa_scenario.specs.LogKeeping.{CannotGoOn, HasGoneOn, HasStarted}
-use Rattle.xa_scenario.specs.Processes.{AreProcesses, AreProcesses.First, AreProcesses.Next, HasPlayed, IsLast, IsProcess, Plays, Process, heading, process_of}
+use Rattle.xa_scenario.specs.Processes.{AddsStarted, AreProcesses, AreProcesses.First, AreProcesses.Next, HasPlayed, IsLast, IsProcess, Plays, Process, heading, process_of}
 use Rattle.xa_scenario.specs.Replies.{trace_lines}
 use Rattle.xa_scenario.specs.Runs.{IsStartOf}
 use Rattle.xa_scenario.specs.Scenarios.{Plan}
@@ -81,15 +81,15 @@ module _ {R L : Type 0} (look : R → Look) (moment : L → Moment) where
   see = record { look = look; moment = moment; place = slot_moment moment }
 
   -- a process as it started: its log is left so by the start
-  record IsProcessFrom (found left : L) (gtrids : List Gtrid) (names : List Xid) (plan : Plan) (p : Process L) : Type 0 where
-    is : IsProcess moment found gtrids names plan p
+  record IsProcessFrom (found left : L) (gtrids : List Gtrid) (plan : Plan) (p : Process L) : Type 0 where
+    is : IsProcess moment found gtrids plan p
     same : is.over.left ≡ left
 
-  is_process : (found : L) (plan : Plan) (old_gtrids gtrids : List Gtrid) (old_names names : List Xid) (begun s : SystemView R L)
+  is_process : (found : L) (plan : Plan) (old_gtrids gtrids : List Gtrid) (names : List Xid) (begun s : SystemView R L)
       (started : HasStarted see found begun) → begun.events ≡ [] → (origin_in look begun).threads ≡ plan.threads → (origin_in look begun).rms ≡ plan.rms
-      → HasPlayed see plan old_gtrids gtrids old_names names begun s
-      → IsProcessFrom found started.over.left old_gtrids old_names plan (process_of see found gtrids names s)
-  is_process found plan old_gtrids gtrids old_names names begun s started empty threads rms played = record {
+      → HasPlayed see plan old_gtrids gtrids begun s
+      → IsProcessFrom found started.over.left old_gtrids plan (process_of see found gtrids names s)
+  is_process found plan old_gtrids gtrids names begun s started empty threads rms played = record {
     is = record {
       over = record {
         left = started.over.left;
@@ -100,7 +100,6 @@ module _ {R L : Type 0} (look : R → Look) (moment : L → Moment) where
       rms = ap (λ (o : Origin). o.rms) played.start ∙ rms;
       played = subst (λ trace. Plays plan old_gtrids gtrids trace s.events) empty played.played;
       allowed = played.holds.allowed;
-      listed = played.listed;
       order = λ left at order. out_in_order moment s.log left at
           (played.holds.log.order (subst (λ l. (moment l).is_in_order) (sym (played.log.handed ∙ started.handed)) order));
       honest = λ left at h. out_of_slot moment begun.log started.over.left started.is_left (played.log.honest (in_slot moment s.log left at h));
@@ -133,14 +132,15 @@ module _ {R L : Type 0} (look : R → Look) (moment : L → Moment) where
 
   -- the first one
   pub first_stands : (log : L) (plan : Plan) (gtrids : List Gtrid) (names : List Xid) (begun s : SystemView R L) → HasStarted see log begun
-      → begun.events ≡ [] → IsStartOf plan (origin_in look begun) → RightOrigin (origin_in look begun) → HasPlayed see plan [] gtrids [] names begun s
-      → IsLast see log plan.rms (plan ∷ []) gtrids names s (trace_lines 1 s.events)
-  first_stands log plan gtrids names begun s started empty start right played =
-      let from = is_process log plan [] gtrids [] names begun s started empty start.threads start.rms played in
+      → names ≡ [] → begun.events ≡ [] → IsStartOf plan (origin_in look begun) → RightOrigin (origin_in look begun)
+      → HasPlayed see plan [] gtrids begun s → IsLast see log plan.rms (plan ∷ []) gtrids names s (trace_lines 1 s.events)
+  first_stands log plan gtrids names begun s started none empty start right played =
+      let from = is_process log plan [] gtrids names begun s started empty start.threads start.rms played in
       record {
         whole = history (origin_in look s) s.events;
         are = First plan (process_of see log gtrids names s) (record {
           is = from.is;
+          names = none;
           start = subst (IsStartOf plan) (sym played.start) start;
           right = subst RightOrigin (sym played.start) right;
           headline = played.headline (subst RightOrigin (sym played.start) right);
@@ -154,11 +154,11 @@ module _ {R L : Type 0} (look : R → Look) (moment : L → Moment) where
   -- one more
   pub next_stands : (log : L) (rms number : ℕ) (plans : List Plan) (plan : Plan) (old_gtrids gtrids : List Gtrid) (old_names names : List Xid)
       (traces : List ℕ) (old begun s : SystemView R L) → number ≡ length plans + 1 → IsLast see log rms plans old_gtrids old_names old traces
-      → HasGoneOn see old begun → begun.events ≡ [] → begun.lines.threads ≡ plan.threads → length begun.start ≡ length old.rms → plan.rms ≡ rms
-      → HasPlayed see plan old_gtrids gtrids old_names names begun s
+      → AddsStarted (trace_in look old) old_names names → HasGoneOn see old begun → begun.events ≡ [] → begun.lines.threads ≡ plan.threads
+      → length begun.start ≡ length old.rms → plan.rms ≡ rms → HasPlayed see plan old_gtrids gtrids begun s
       → IsLast see log rms (plans ++ plan ∷ []) gtrids names s (traces ++ (heading number ++ trace_lines 1 s.events))
-  next_stands log rms number plans plan old_gtrids gtrids old_names names traces old begun s counted last gone empty threads more size played =
-      let from = is_process gone.found plan old_gtrids gtrids old_names names begun s gone.started empty threads (more ∙ last.count ∙ sym size) played in
+  next_stands log rms number plans plan old_gtrids gtrids old_names names traces old begun s counted last listed gone empty threads more size played =
+      let from = is_process gone.found plan old_gtrids gtrids names begun s gone.started empty threads (more ∙ last.count ∙ sym size) played in
       let before = process_of see log old_gtrids old_names old in
       let p = process_of see log gtrids names s in
       let slot : (moment from.is.over.left).is_honest → (slot_moment moment begun.log).is_honest =
@@ -175,6 +175,7 @@ module _ {R L : Type 0} (look : R → Look) (moment : L → Moment) where
               found = gone.found;
               left = gone.left;
               is = from.is;
+              listed = listed;
               resumes = resumes;
               headline = λ order h. played.resumed last.whole
                   (all_right moment log plans last.whole before traces last.are order gone.found gone.left (from.is.over.honest h)) (resumes order h);

@@ -1,8 +1,8 @@
 -- Processes of the manager, one for each of several scenario files: what they do over the same resource managers and the
 -- same log, and what is printed of them.
-use Rattle.std.specs.Prelude.{◌≡◌, ◌<◌, ◌↔◌, ◌⊎◌, ℕ, ◌+◌, Bool, true, if◌then◌else◌, List, [], ◌∷◌, ◌++◌, length, codes, All, Contains, Option, Some}
+use Rattle.std.specs.Prelude.{◌≡◌, ◌<◌, ◌↔◌, ◌⊎◌, ℕ, ◌+◌, Bool, true, List, [], ◌∷◌, ◌++◌, length, codes, All, Contains, Option, Some}
 use Rattle.std.specs.Fmt.{decimal}
-use Rattle.std.specs.Io.KnownBytes.{Appends}
+use Rattle.std.specs.Io.KnownBytes.{Appends, Keeps}
 use Rattle.std.specs.List.Sorted.{IsStrictlySortedBy}
 use Rattle.std.specs.Map.{keys_of}
 use Rattle.xa_base.specs.Branch.{IsBranch, xid_of_branch}
@@ -24,7 +24,7 @@ use Rattle.xa_model.specs.Trace.{Origin, Trace}
 use Rattle.xa_scenario.specs.LogKeeping.{CannotGoOn, KeepsLog}
 use Rattle.xa_scenario.specs.Plays.{IsPlay, PerformsSteps, gtrids_begun}
 use Rattle.xa_scenario.specs.Replies.{trace_lines}
-use Rattle.xa_scenario.specs.Runs.{IsStartOf, StartsOverLog}
+use Rattle.xa_scenario.specs.Runs.{IsReportOf, IsStartOf, StartsOverLog, shown}
 use Rattle.xa_scenario.specs.Scenarios.{Plan}
 use Rattle.xa_tm.specs.StartFaults.{IsToBlame}
 use Rattle.xa_system.specs.SystemView.{HoldsItsTrace, MayRestart, Observes, SystemView, origin_in, trace_in}
@@ -33,7 +33,7 @@ use Rattle.xa_tm.specs.Slots.{log_held}
 -- ** one process
 
 -- what became of a process: where it started, its events, what the names of all files so far stand for, the branches whose
--- xa_start was accepted in it and before, and the log that it leaves
+-- xa_start was accepted before it, and the log that it leaves
 pub record Process (L : Type 0) : Type 0 where
   pub origin : Origin
   pub events : List Event
@@ -61,10 +61,6 @@ Plays plan old new before after =
 abbrev pub heading : ℕ → List ℕ
 heading number = codes "process " ++ decimal number ++ codes "\n"
 
--- a trace, where it is asked for
-abbrev pub shown : (with_trace : Bool) → List ℕ → List ℕ
-shown with_trace text = if with_trace then text else []
-
 -- what became of the branch of an identifier, if it is one of the process's threads and resource managers: as its resource
 -- manager has it in the end
 abbrev pub IsFateOf : Origin → List Event → Xid × Fate → Type 0
@@ -76,12 +72,18 @@ pub record AreFates (o : Origin) (events : List Event) (names : List Xid) (fates
   pub listed : keys_of fates ≡ names
   pub each : All (IsFateOf o events) fates
 
+-- The text goes on with what became of these branches in the end, and then with the report of the process.
+pub record AddsFates (o : Origin) (events : List Event) (names : List Xid) (text whole : List ℕ) : Type 0 where
+  pub earlier : List (Xid × Fate)
+  pub own : List (Xid × Fate)
+  pub told : AreFates o events names earlier
+  pub report : IsReportOf o events own
+  pub spelled : whole ≡ text ++ fate_lines earlier ++ fate_lines own
+
 -- The entries were played at a system that had just started, and it is where its history leaves it, of which the headline
 -- holds.
-pub record HasPlayed {R L : Type 0} (see : Observes R L) (plan : Plan) (old_gtrids gtrids : List Gtrid) (old_names names : List Xid)
-    (old new : SystemView R L) : Type 0 where
+pub record HasPlayed {R L : Type 0} (see : Observes R L) (plan : Plan) (old_gtrids gtrids : List Gtrid) (old new : SystemView R L) : Type 0 where
   pub played : Plays plan old_gtrids gtrids old.events new.events
-  pub listed : AddsStarted (trace_in see.look new) old_names names
   pub start : origin_in see.look new ≡ origin_in see.look old
   pub log : KeepsLog see old new
   pub holds : HoldsItsTrace see new
@@ -92,19 +94,19 @@ pub record HasPlayed {R L : Type 0} (see : Observes R L) (plan : Plan) (old_gtri
 module _ {L : Type 0} (moment : L → Moment) where
   -- A process plays a plan over this log. Its system is as large as the plan says. What its log rests on was honest as it
   -- started where that is so of the log that it leaves, which is in order where this one is.
-  pub record IsProcess (log : L) (gtrids : List Gtrid) (names : List Xid) (plan : Plan) (p : Process L) : Type 0 where
+  pub record IsProcess (log : L) (gtrids : List Gtrid) (plan : Plan) (p : Process L) : Type 0 where
     pub over : StartsOverLog moment log p.origin
     pub threads : p.origin.threads ≡ plan.threads
     pub rms : p.origin.rms ≡ plan.rms
     pub played : Plays plan gtrids p.gtrids [] p.events
     pub allowed : AreAllowed p.origin p.events
-    pub listed : AddsStarted (history p.origin p.events) names p.names
     pub order : (left : L) → p.log ≡ Some left → (moment log).is_in_order → (moment left).is_in_order
     pub honest : (left : L) → p.log ≡ Some left → (moment left).is_honest → (moment over.left).is_honest
 
   -- the first one: no branch ever was at its resource managers
   pub record IsFirst (log : L) (plan : Plan) (p : Process L) : Type 0 where
-    pub is : IsProcess log [] [] plan p
+    pub is : IsProcess log [] plan p
+    pub names : p.names ≡ []
     pub start : IsStartOf plan p.origin
     pub right : RightOrigin p.origin
     pub headline : Headline p.origin p.events
@@ -115,7 +117,8 @@ module _ {L : Type 0} (moment : L → Moment) where
   pub record IsNext (log : L) (past : Trace) (before : Process L) (plan : Plan) (p : Process L) : Type 0 where
     pub found : L
     pub left : before.log ≡ Some found
-    pub is : IsProcess found before.gtrids before.names plan p
+    pub is : IsProcess found before.gtrids plan p
+    pub listed : AddsStarted (history before.origin before.events) before.names p.names
     pub resumes : Honestly (moment log) (moment is.over.left) (Resumes past p.origin)
     pub headline : Honestly (moment log) (moment is.over.left) (HeadlineSince (resumed past p.origin) p.events)
 
@@ -135,43 +138,45 @@ module _ {L : Type 0} (moment : L → Moment) where
 
   -- ** what is printed
 
-  -- the traces of processes of these plans, where they are asked for, and then what became of all their branches
-  pub record PrintsProcesses (log : L) (plans : List Plan) (with_trace : Bool) (old new : Option (List ℕ)) : Type 0 where
+  -- the text of processes of these plans, up to this last one: their traces, where they are asked for, and then what became
+  -- of the branches of all, as the last one has them in the end
+  pub record AreTold (log : L) (plans : List Plan) (with_trace : Bool) (last : Process L) (text : List ℕ) : Type 0 where
     pub whole : Trace
-    pub last : Process L
     pub traces : List ℕ
-    pub fates : List (Xid × Fate)
     pub run : AreProcesses log plans whole last traces
-    pub told : AreFates last.origin last.events last.names fates
-    pub writes : Appends old new (shown with_trace traces ++ fate_lines fates)
+    pub fates : AddsFates last.origin last.events last.names (shown with_trace traces) text
 
-  -- a beginning of that
+  -- it was written, and the last one left this log
+  pub record PrintsProcesses (log : L) (plans : List Plan) (with_trace : Bool) (left : Option L) (old new : Option (List ℕ)) : Type 0 where
+    pub last : Process L
+    pub text : List ℕ
+    pub told : AreTold log plans with_trace last text
+    pub leaves : left ≡ last.log
+    pub writes : Appends old new text
+
+  -- a beginning of it was written
   pub record BeginsProcesses (log : L) (plans : List Plan) (with_trace : Bool) (old new : Option (List ℕ)) : Type 0 where
-    pub whole : Trace
     pub last : Process L
-    pub traces : List ℕ
-    pub fates : List (Xid × Fate)
-    pub run : AreProcesses log plans whole last traces
-    pub told : AreFates last.origin last.events last.names fates
-    pub begins : AppendsBeginning old new (shown with_trace traces ++ fate_lines fates)
+    pub text : List ℕ
+    pub told : AreTold log plans with_trace last text
+    pub begins : AppendsBeginning old new text
 
-  -- these are the traces of processes of all these plans, where they are asked for; none is there where no plan is
-  abbrev pub HaveTraces : (log : L) → List Plan → (with_trace : Bool) → List ℕ → Type 0
-  HaveTraces log [] with_trace traces = traces ≡ []
-  HaveTraces log (plan ∷ plans) with_trace traces =
-      (whole : Trace) × (last : Process L) × (text : List ℕ) × AreProcesses log (plan ∷ plans) whole last text
-      × (traces ≡ shown with_trace text)
-
-  -- The first of the plans were processes, and these are their traces, where they are asked for.
+  -- The first of the plans, but not all, were processes, and these are their traces, where they are asked for.
   pub record AreTraces (log : L) (plans : List Plan) (with_trace : Bool) (traces : List ℕ) : Type 0 where
     pub first : List Plan
+    pub next : Plan
     pub later : List Plan
-    pub are : first ++ later ≡ plans
-    pub traced : HaveTraces log first with_trace traces
+    pub are : first ++ next ∷ later ≡ plans
+    pub whole : Trace
+    pub last : Process L
+    pub text : List ℕ
+    pub run : AreProcesses log first whole last text
+    pub spelled : traces ≡ shown with_trace text
 
-  -- Just the traces of the first of them were written.
+  -- Nothing was written, or just the traces of the first of them.
   abbrev pub StopsBetween : (log : L) → List Plan → (with_trace : Bool) → (old new : Option (List ℕ)) → Type 0
-  StopsBetween log plans with_trace old new = (traces : List ℕ) × AreTraces log plans with_trace traces × Appends old new traces
+  StopsBetween log plans with_trace old new =
+      Keeps old new ⊎ ((traces : List ℕ) × AreTraces log plans with_trace traces × Appends old new traces)
 
   -- A beginning of these was written, or one of all that is to be printed.
   abbrev pub StopsAnywhere : (log : L) → List Plan → (with_trace : Bool) → (old new : Option (List ℕ)) → Type 0

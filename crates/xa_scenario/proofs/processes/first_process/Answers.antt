@@ -1,4 +1,4 @@
-use Rattle.std.proofs.Common.{[], subst}
+use Rattle.std.proofs.Common.{subst}
 use Rattle.xa_scenario.specs.Processes.{HasPlayed}
 use Rattle.xa_scenario.specs.Scenarios.{plan_of}
 use Rattle.xa_scenario.proofs.ProcessLemmas.{first_stands}
@@ -13,8 +13,6 @@ returns-clause-last g c =
     let begun = c.in_ok-system.system in
     let s = c.play_process.new.system in
     let gtrids = c.play_process.new.gtrids.items in
-    let names = c.play_process.new.names.items in
-    first_stands look g.L.DecisionLog.moment c.args.log plan gtrids names begun s c.in_ok-system.ensures.over c.in_ok-system.ensures.empty
-    c.in_ok-system.ensures.start c.in_ok-system.ensures.right
-    (subst (λ gs. HasPlayed see plan gs gtrids [] names begun s) c.new-gtrids.ensures.items
-    (subst (λ ns. HasPlayed see plan c.new-gtrids.result.items gtrids ns names begun s) c.new-names.ensures.items c.in_ok-play_process.ensures.played))
+    first_stands look g.L.DecisionLog.moment c.args.log plan gtrids c.new-names.result.items begun s c.in_ok-system.ensures.over c.new-names.ensures.items
+    c.in_ok-system.ensures.empty c.in_ok-system.ensures.start c.in_ok-system.ensures.right
+    (subst (λ gs. HasPlayed see plan gs gtrids begun s) c.new-gtrids.ensures.items c.in_ok-play_process.ensures.played)
