@@ -12,7 +12,7 @@ use Rattle.xa_log.specs.Contract.{Moment}
 use Rattle.xa_log.specs.declared.decision_log.DecisionLog as DecisionLog
 use Rattle.xa_model.specs.Trace.{Trace}
 use Rattle.xa_scenario.specs.Files.{AreOfOneSize}
-use Rattle.xa_scenario.specs.Processes.{AreProcesses, AreProcesses.First, AreProcesses.Next, AreTold, IsFirst, LogStops, PrintsProcesses, Process, StopsAnywhere, StopsBetween}
+use Rattle.xa_scenario.specs.Processes.{AreProcesses, AreProcesses.First, AreProcesses.Next, AreTold, IsFirst, LogStops, PrintsProcesses, Process, StopsAnywhere, StopsBetween, process_of}
 use Rattle.xa_scenario.specs.Replies.{trace_lines}
 use Rattle.xa_scenario.specs.Runs.{Begins, IsPrinted, IsRunOf, IsStartFault, IsTextOf, Prints, shown}
 use Rattle.xa_scenario.specs.Scenarios.{IsSized, Plan, scenario_of}
@@ -116,7 +116,7 @@ pub blamed : {R L : Type 0} (see : Observes R L) (log : L) (logs : DecisionLog.G
     → IsToBlame logs log
 blamed see log logs plan (inl it) = it
 blamed see log logs plan (inr h) =
-    absurd (two_plans see.moment log h.first h.next h.later plan h.last.whole _ h.traces h.last.are h.are)
+    absurd (two_plans see.moment log h.first h.next h.later plan h.last.whole (process_of see log h.process) h.traces h.last.are h.are)
 
 -- the text was read then
 pub says_read : (fault : RunFault) (text : List ℕ) (plan : Plan) → scenario_of text ≡ Ok plan → IsStartFault fault ⊎ (fault ≡ Output)

@@ -1,6 +1,6 @@
 -- Processes of the manager, one for each of several scenario files: what they do over the same resource managers and the
 -- same log, and what is printed of them.
-use Rattle.std.specs.Prelude.{◌≡◌, ◌<◌, ◌↔◌, ◌⊎◌, ℕ, ◌+◌, Bool, true, List, [], ◌∷◌, ◌++◌, length, codes, All, Contains, Option, Some}
+use Rattle.std.specs.Prelude.{◌≡◌, ◌<◌, ◌↔◌, ◌⊎◌, ℕ, ◌+◌, Bool, true, List, [], ◌∷◌, ◌++◌, length, codes, All, Contains, Option, None, Some}
 use Rattle.std.specs.Fmt.{decimal}
 use Rattle.std.specs.Io.KnownBytes.{Appends, Keeps}
 use Rattle.std.specs.List.Sorted.{IsStrictlySortedBy}
@@ -26,6 +26,7 @@ use Rattle.xa_scenario.specs.Plays.{IsPlay, PerformsSteps, gtrids_begun}
 use Rattle.xa_scenario.specs.Replies.{trace_lines}
 use Rattle.xa_scenario.specs.Runs.{IsReportOf, IsStartOf, StartsOverLog, shown}
 use Rattle.xa_scenario.specs.Scenarios.{Plan}
+use Rattle.xa_scenario.specs.declared.processes.Process.{Process as Played}
 use Rattle.xa_tm.specs.StartFaults.{IsToBlame}
 use Rattle.xa_system.specs.SystemView.{HoldsItsTrace, MayRestart, Observes, SystemView, origin_in, trace_in}
 use Rattle.xa_tm.specs.Slots.{log_held}
@@ -57,9 +58,10 @@ abbrev pub Plays : Plan → (old new : List Gtrid) → (before after : List Even
 Plays plan old new before after =
     PerformsSteps (λ steps. IsPlay old plan.entries steps × (new ≡ old ++ gtrids_begun steps)) before after
 
--- the line in front of the trace of a process that is not the first
-abbrev pub heading : ℕ → List ℕ
-heading number = codes "process " ++ decimal number ++ codes "\n"
+-- the line in front of the trace of a process: its number, if it is not the first
+abbrev pub heading : Option ℕ → List ℕ
+heading None = []
+heading (Some number) = codes "process " ++ decimal number ++ codes "\n"
 
 -- what became of the branch of an identifier, if it is one of the process's threads and resource managers: as its resource
 -- manager has it in the end
@@ -134,7 +136,7 @@ module _ {L : Type 0} (moment : L → Moment) where
         (plans : List Plan) (past : Trace) (before : Process L) (traces : List ℕ) (plan : Plan) (p : Process L)
         → AreProcesses log plans past before traces → IsNext log past before plan p
         → AreProcesses log (plans ++ plan ∷ []) (joined past p.origin p.events) p
-        (traces ++ (heading (length plans + 1) ++ trace_lines 1 p.events))
+        (traces ++ (heading (Some (length plans + 1)) ++ trace_lines 1 p.events))
 
   -- ** what is printed
 
@@ -187,32 +189,33 @@ module _ {L : Type 0} (moment : L → Moment) where
 -- ** a system as a process
 
 module _ {R L : Type 0} (see : Observes R L) (log : L) where
-  -- the process that a system is
-  abbrev pub process_of : List Gtrid → List Xid → SystemView R L → Process L
-  process_of gtrids names s =
-      record { origin = origin_in see.look s; events = s.events; gtrids = gtrids; names = names; log = log_held s.log }
+  -- a process without where it lies in memory
+  abbrev pub process_of : Played R L → Process L
+  process_of p = record {
+    origin = origin_in see.look p.system;
+    events = p.system.events;
+    gtrids = p.gtrids.items;
+    names = p.names.items;
+    log = log_held p.system.log;
+  }
 
-  -- The system is the last of processes of these plans, and as large as they say.
-  pub record IsLast (rms : ℕ) (plans : List Plan) (gtrids : List Gtrid) (names : List Xid) (s : SystemView R L) (traces : List ℕ) : Type 0 where
+  -- It is the last of processes of these plans.
+  pub record IsLast (plans : List Plan) (p : Played R L) (traces : List ℕ) : Type 0 where
     pub whole : Trace
-    pub are : AreProcesses see.moment log plans whole (process_of gtrids names s) traces
-    pub count : length s.rms ≡ rms
-    pub order : (see.moment log).is_in_order → (see.moment s.handed).is_in_order
-    pub near : Honestly (see.moment log) (see.place s.log) (MayRestart see s)
+    pub are : AreProcesses see.moment log plans whole (process_of p) traces
+    pub order : (see.moment log).is_in_order → (see.moment p.system.handed).is_in_order
+    pub near : Honestly (see.moment log) (see.place p.system.log) (MayRestart see p.system)
 
-  -- Some of these plans were played, but not all: a system is the last process of those, and none can go on from it.
+  -- Some of these plans were played, but not all, and none can go on from the last process of those.
   pub record StopsBehind (logs : DecisionLog.Ghosts L) (plans : List Plan) : Type 0 where
     pub first : List Plan
     pub next : Plan
     pub later : List Plan
     pub are : first ++ next ∷ later ≡ plans
-    pub rms : ℕ
-    pub gtrids : List Gtrid
-    pub names : List Xid
-    pub system : SystemView R L
+    pub process : Played R L
     pub traces : List ℕ
-    pub last : IsLast rms first gtrids names system traces
-    pub stops : CannotGoOn see.look logs system
+    pub last : IsLast first process traces
+    pub stops : CannotGoOn see.look logs process.system
 
   -- the log keeps the processes of these plans from being played: it is to blame at the first, or none can go on behind some
   abbrev pub LogStops : DecisionLog.Ghosts L → List Plan → Type 0

@@ -28,23 +28,21 @@ use xa_log::DecisionLog;
 use xa_rm::{MemRm, ResourceManager};
 use xa_system::{ResumeFault, System};
 
-/// The trace of a process, where it is asked for.
-fn trace_text(alloc: Global, with_trace: bool, events: &[Event]) -> Result<String, RunFault>
+/// A trace behind the heading of the process of a number.
+#[tactic(auto, using(crate::proofs::LineLemmas::four_pieces))]
+fn headed(alloc: Global, number: usize, events: &[Event]) -> Result<String, RunFault>
     ensures text { IfOk result (λ text. string_bytes text
-        ≡ shown with_trace (trace_lines 1 events.now)) }
+        ≡ heading (Some number) ++ trace_lines 1 events.now) }
     ensures fault { IfErr result (λ e. e ≡ Memory) }
 {
-    if with_trace {
-        trace_lines(alloc, events)
-    } else {
-        Ok(String::new(alloc))
-    }
+    let lines = trace_lines(alloc, events)?;
+    Ok(format!(in alloc; "process {number}\n{lines}")?)
 }
 
-/// The same behind the heading of the process of a number.
-fn next_text(
+/// The trace of a process, where it is asked for, behind its number, if it is not the first.
+fn trace_text(
     alloc: Global,
-    number: usize,
+    number: Option<usize>,
     with_trace: bool,
     events: &[Event],
 ) -> Result<String, RunFault>
@@ -52,22 +50,13 @@ fn next_text(
         ≡ shown with_trace (heading number ++ trace_lines 1 events.now)) }
     ensures fault { IfErr result (λ e. e ≡ Memory) }
 {
-    if with_trace {
-        headed(alloc, number, events)
-    } else {
-        Ok(String::new(alloc))
+    if !with_trace {
+        return Ok(String::new(alloc));
     }
-}
-
-/// A trace behind the heading of the process of a number.
-#[tactic(auto, using(crate::proofs::LineLemmas::four_pieces))]
-fn headed(alloc: Global, number: usize, events: &[Event]) -> Result<String, RunFault>
-    ensures text { IfOk result (λ text. string_bytes text
-        ≡ heading number ++ trace_lines 1 events.now) }
-    ensures fault { IfErr result (λ e. e ≡ Memory) }
-{
-    let lines = trace_lines(alloc, events)?;
-    Ok(format!(in alloc; "process {number}\n{lines}")?)
+    match number {
+        Some(number) => headed(alloc, number, events),
+        None => trace_lines(alloc, events),
+    }
 }
 
 /// Adds the identifiers of a report.
@@ -198,9 +187,9 @@ pub fn first_process<R: ResourceManager + Drop, L: DecisionLog + Drop>(
     requires sized { IsSized (plan_of scenario.now) }
     requires count { vec_len rms ≡ scenario.now.rms }
     requires new { All (IsNewRm R.look) rms.items }
-    ensures last { IfOk result (λ p. IsLast (observes R.look L.moment) log scenario.now.rms
-        (plan_of scenario.now ∷ []) p.gtrids.items p.names.items p.system
-        (trace_lines 1 p.system.events)) }
+    ensures last { IfOk result (λ p. IsLast (observes R.look L.moment) log
+        (plan_of scenario.now ∷ []) p (trace_lines 1 p.system.events)) }
+    ensures count { IfOk result (λ p. length p.system.rms ≡ scenario.now.rms) }
     ensures text { IfOk result (λ p. string_bytes p.text
         ≡ shown with_trace (trace_lines 1 p.system.events)) }
     ensures log { result ≡ Err Log → IsToBlame L.DecisionLog log }
@@ -210,7 +199,7 @@ pub fn first_process<R: ResourceManager + Drop, L: DecisionLog + Drop>(
     let names = Vec::new(alloc);
     let mut system = system_of(alloc, scenario, rms, log)?;
     play_process(&mut system, &mut gtrids, scenario)?;
-    let text = trace_text(alloc, with_trace, system.trace())?;
+    let text = trace_text(alloc, None, with_trace, system.trace())?;
     Ok(Process {
         system,
         gtrids,
@@ -230,13 +219,12 @@ fn next_process<R: ResourceManager + Drop, L: DecisionLog + Drop>(
     requires sized { IsSized (plan_of scenario.now) }
     requires count { length before.system.rms ≡ scenario.now.rms }
     ensures last { IfOk result (λ p. (log : L) (plans : List Plan) (traces : List ℕ) →
-        number ≡ length plans + 1 → IsLast (observes R.look L.moment) log scenario.now.rms plans
-        before.gtrids.items before.names.items before.system traces →
-        IsLast (observes R.look L.moment) log scenario.now.rms (plans ++ plan_of scenario.now ∷ [])
-        p.gtrids.items p.names.items p.system (traces
-        ++ (heading number ++ trace_lines 1 p.system.events))) }
+        number ≡ length plans + 1 → IsLast (observes R.look L.moment) log plans before traces →
+        IsLast (observes R.look L.moment) log (plans ++ plan_of scenario.now ∷ []) p
+        (traces ++ (heading (Some number) ++ trace_lines 1 p.system.events))) }
+    ensures count { IfOk result (λ p. length p.system.rms ≡ scenario.now.rms) }
     ensures text { IfOk result (λ p. string_bytes p.text
-        ≡ shown with_trace (heading number ++ trace_lines 1 p.system.events)) }
+        ≡ shown with_trace (heading (Some number) ++ trace_lines 1 p.system.events)) }
     ensures log { result ≡ Err Log → CannotGoOn R.look L.DecisionLog before.system }
     ensures fault { IfErr result IsStartFault }
 {
@@ -246,7 +234,7 @@ fn next_process<R: ResourceManager + Drop, L: DecisionLog + Drop>(
     before.system.agree();
     let mut system = next_system(alloc, scenario.threads, before.system)?;
     play_process(&mut system, &mut gtrids, scenario)?;
-    let text = next_text(alloc, number, with_trace, system.trace())?;
+    let text = trace_text(alloc, Some(number), with_trace, system.trace())?;
     Ok(Process {
         system,
         gtrids,

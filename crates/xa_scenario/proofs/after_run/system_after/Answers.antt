@@ -9,16 +9,14 @@ pub returns-clause-run : goal.returns-clause-run
 returns-clause-run g c =
     let moment = g.L.DecisionLog.moment in
     let plan = plan_of c.args.scenario.now in
-    let p = c.in_ok-process.process in
     let last = c.in_ok-process.ensures.last in
-    let process = process_of (observes (memory.ghosts).look moment) c.args.log p.gtrids.items p.names.items p.system in
+    let process = process_of (observes (memory.ghosts).look moment) c.args.log c.in_ok-process.process in
     is_run moment c.args.log plan process (is_first moment c.args.log plan last.whole process _ last.are)
 
 pub returns-clause-over : goal.returns-clause-over
 returns-clause-over g c =
     let moment = g.L.DecisionLog.moment in
     let plan = plan_of c.args.scenario.now in
-    let p = c.in_ok-process.process in
     let last = c.in_ok-process.ensures.last in
-    let process = process_of (observes (memory.ghosts).look moment) c.args.log p.gtrids.items p.names.items p.system in
+    let process = process_of (observes (memory.ghosts).look moment) c.args.log c.in_ok-process.process in
     (is_first moment c.args.log plan last.whole process _ last.are).is.over
