@@ -5,6 +5,7 @@ pub mod FlagLemmas
 pub mod KeepingLemmas
 pub mod LineLemmas
 pub mod ListedLemmas
+pub mod OneProcess
 pub mod PlayLemmas
 pub mod PrintLemmas
 pub mod ProcessLemmas

@@ -18,12 +18,12 @@ mod flags;
 mod moves;
 mod names;
 mod play;
-mod print;
 mod processes;
 mod recoveries;
 mod replies;
 mod run;
 mod scripts;
+mod start;
 mod tables;
 mod words;
 
@@ -35,4 +35,4 @@ pub use document::{
 pub use entry::{BranchEntry, Ending, Entry, Script};
 pub use files::{FileFault, read_scenarios};
 pub use processes::run_scenarios;
-pub use run::{check_scenario, print_check, run_scenario};
+pub use run::{check_scenario, run_scenario};

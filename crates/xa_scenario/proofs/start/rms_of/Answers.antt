@@ -2,7 +2,7 @@ use Rattle.std.proofs.Common.{rules}
 use Rattle.std.proofs.lemmas.List.Elements.{All-push}
 use Rattle.xa_rm.specs.contracts.mem_rm.MemRmResourceManager.TheImpl as memory
 use Rattle.xa_scenario.specs.Runs.{IsNewRm}
-use Rattle.xa_scenario.proofs.run.rms_of.Goals as goal
+use Rattle.xa_scenario.proofs.start.rms_of.Goals as goal
 
 pub loop-rm-preserved : goal.loop-rm-preserved
 loop-rm-preserved c = record {

@@ -1,7 +1,7 @@
 use Rattle.std.proofs.Common.{◌≡◌, All, Err, IsSomeAnd, ap, arith, length, refl, slice_get, subst, sym}
 use Rattle.xa_scenario.proofs.StartLemmas.{new_at, none_in_doubt, none_open, not_wrong, has_started, unstarted}
 use Rattle.xa_scenario.specs.Runs.{IsNewRm}
-use Rattle.xa_scenario.proofs.run.system_of.Goals as goal
+use Rattle.xa_scenario.proofs.start.system_of.Goals as goal
 use Rattle.xa_system.specs.LogInHistory.{StartsOver}
 use Rattle.xa_system.specs.SystemView.{HasWrongSize, observes, origin_in}
 use Rattle.xa_system.specs.declared.system.NewFault.TheVariants as faults

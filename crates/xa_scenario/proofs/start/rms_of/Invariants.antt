@@ -1,7 +1,7 @@
 use Rattle.std.proofs.Common.{◌≡◌, All, vec_len}
 use Rattle.xa_rm.specs.contracts.mem_rm.MemRmResourceManager.TheImpl as memory
 use Rattle.xa_scenario.specs.Runs.{IsNewRm}
-use Rattle.xa_scenario.proofs.run.rms_of.Given as goal
+use Rattle.xa_scenario.proofs.start.rms_of.Given as goal
 
 abbrev pub invariant-loop-rm : goal.invariant-loop-rm
 invariant-loop-rm l = record {
