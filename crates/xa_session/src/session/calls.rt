@@ -33,9 +33,7 @@ impl<L: DecisionLog + Drop> Session<L> {
         self.check_line(thread, rm)?;
         let line = self.lines.line(thread, rm);
         line.check(call)?;
-        if let Some(refusal) = self.manager.may_issue(thread, rm, call) {
-            return Err(refusal);
-        }
+        self.manager.check_issue(thread, rm, call)?;
         line.check_room(1)
     }
 

@@ -31,7 +31,7 @@ impl<R: ResourceManager + Drop, L: DecisionLog + Drop> Parts<R, L> {
         if let Err(refusal) = self.lines.line(thread, rm).check(call) {
             return Twin::refused(refusal);
         }
-        if let Some(refusal) = self.manager.may_issue(thread, rm, call) {
+        if let Err(refusal) = self.manager.check_issue(thread, rm, call) {
             return Twin::refused(refusal);
         }
         if self.lines.line(thread, rm).free_calls() == 0 {

@@ -1,6 +1,7 @@
 //! A call is issued on a line.
 
 ghost use Rattle.std.specs.Prelude.{◌≡◌, Option, Some, IfErr, OnOk};
+ghost use Rattle.std.specs.Result.{result_err};
 ghost use Rattle.xa_base.specs.Call.{map_call};
 ghost use Rattle.xa_base.specs.declared.refusal.Refusal.TheVariants as Refusals;
 ghost use Rattle.xa_base.specs.declared.step.Step.TheVariants as Steps;
@@ -18,11 +19,11 @@ use xa_log::DecisionLog;
 
 impl<L: DecisionLog + Drop> Manager<L> {
     /// The refusal of a call on a line, but for those that the line and the resource manager find.
-    pub fn may_issue(&self, thread: u32, rm: u32, call: &Call) -> Option<Refusal>
-        ensures { result ≡ refusal_in (book_in self.now)
+    pub fn check_issue(&self, thread: u32, rm: u32, call: &Call) -> Result<(), Refusal>
+        ensures { result_err result ≡ refusal_in (book_in self.now)
             (Steps.Issue thread rm (map_call name_of call.now)) }
     {
-        self.ledger.check_issue(thread, rm, call).err()
+        self.ledger.check_issue(thread, rm, call)
     }
 
     /// Notes a call that is issued.
