@@ -59,7 +59,7 @@ impl<L: DecisionLog + Drop> Session<L> {
         let Ok(room) = self.lines.room(thread, rm) else {
             return Err(Refusal::Memory);
         };
-        self.manager.note_issued(thread, rm, call)?;
+        self.manager.note_issued(call)?;
         let _ = self.lines.line_mut(thread, rm).issue(call.copy(), room);
         self.happenings += 1;
         Ok(())

@@ -37,7 +37,7 @@ impl<R: ResourceManager + Drop, L: DecisionLog + Drop> Parts<R, L> {
         if self.lines.line(thread, rm).free_calls() == 0 {
             return Twin::refused(Refusal::Full);
         }
-        if let Err(refusal) = self.manager.note_issued(thread, rm, call) {
+        if let Err(refusal) = self.manager.note_issued(call) {
             return Twin::refused(refusal);
         }
         let _ = self.lines.line_mut(thread, rm).issue(call.copy());

@@ -7,6 +7,7 @@ use Rattle.xa_base.specs.declared.refusal.Refusal.TheVariants as Refusals
 use Rattle.xa_base.specs.declared.reply.Reply.TheVariants as Replies
 use Rattle.xa_base.specs.declared.step.Step.TheVariants as Steps
 use Rattle.xa_model.proofs.Replies.Guards.{issue_why}
+use Rattle.xa_model.specs.Trace.{line}
 use Rattle.xa_line.specs.Grid.{line_at}
 use Rattle.xa_line.specs.Traffic.{barred, calls_issued}
 use Rattle.xa_line.proofs.SeveralCalls.{line_took}
@@ -158,4 +159,4 @@ returns g c tr stands few =
     line_took (line_at p.lines t r) c.line_mut.result.now call c.copy.result c.issue.result c.issue.new.self c.line_mut.ensures.value c.copy.ensures
     c.issue.ensures.reason c.issue.ensures.accepted barred_so full in
     issue_did see p t r call c.index.result.now c.issue.new.self c.note_issued.new.self c.new.result c.requires.has_xid c.new.ensures there up free
-    c.in_default-note_issued.ensures.ok c.in_default-note_issued.ensures.log put tr stands none
+    (c.in_default-note_issued.ensures.ok (line t r)) c.in_default-note_issued.ensures.log put tr stands none
