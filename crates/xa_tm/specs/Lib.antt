@@ -11,6 +11,7 @@ pub mod RefusalOrder
 pub mod Release
 pub mod News
 pub mod Outcomes
+pub mod Owed
 pub mod Refusing
 pub mod Resolving
 pub mod BookAndLog
