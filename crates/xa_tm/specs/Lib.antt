@@ -19,7 +19,6 @@ pub mod LogRows
 pub mod StartFaults
 pub mod Started
 pub mod Starting
-pub mod Ascending
 pub mod Begins
 pub mod Slots
 pub mod Swaps
