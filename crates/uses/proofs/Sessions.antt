@@ -66,8 +66,8 @@ is_served moment threads rms handed old new text unread before written starts or
       read = serves.read;
       unread = unread;
       start = start;
-      decisions = old.decisions;
-      heuristics = old.heuristics;
+      decisions = (book_in old.session.manager).rows;
+      heuristics = (book_in old.session.manager).records;
       turns = serves.turns;
       seen = so.seen;
       threads_are = refl;

@@ -5,3 +5,4 @@ pub mod FailPlan
 pub mod KeySet
 pub mod Memory
 pub mod MemoryLaws
+pub mod Starting

@@ -6,6 +6,7 @@ pub mod KnownCalls
 pub mod LineLemmas
 pub mod LogLemmas
 pub mod ManagerLemmas
+pub mod OwedLemmas
 pub mod ReleaseLemmas
 pub mod RowLemmas
 pub mod TextLines

@@ -1,19 +1,17 @@
--- What rows owe.
-use Rattle.std.proofs.Common.{subst, Option, Some, None, ◌≡◌, ◌≢◌, ◌∙◌, ◌⊎◌, inl, inr, ℕ, Bool, true, false, ◌||◌, ◌==◌, List, [], ◌∷◌, ◌++◌, length, filter, map, cond, ap, refl, sym, arith}
+-- Rows of what is committed.
+use Rattle.std.proofs.Common.{subst, Option, Some, None, ◌≡◌, ◌∙◌, ◌⊎◌, inl, inr, Bool, true, false, ◌||◌, List, [], ◌∷◌, length, map, ap, refl, sym}
 use Rattle.std.proofs.lemmas.Bool.{true≢false, not-false}
 use Rattle.std.specs.Option.{option_or}
-use Rattle.std.proofs.lemmas.Bool.Decides.{nat_tests}
 use Rattle.std.specs.Prelude.{if◌then◌else◌, Result, Ok, Err, OnOk}
 use Rattle.xa_base.proofs.BranchKeys.{gtrid_eq-true}
-use Rattle.xa_base.specs.Branch.{gtrid_eq, xid_of_branch}
-use Rattle.xa_base.specs.declared.branch.Branch.{Branch}
+use Rattle.xa_base.specs.Branch.{gtrid_eq}
 use Rattle.xa_base.specs.declared.branch.Gtrid.{Gtrid}
 use Rattle.xa_base.specs.declared.step.Outcome.{Outcome}
 use Rattle.xa_base.specs.declared.step.Outcome.TheVariants as Outcomes
 use Rattle.xa_base.specs.declared.step.Step.TheVariants as Steps
 use Rattle.xa_base.specs.declared.refusal.Refusal.{Refusal}
 use Rattle.xa_base.specs.declared.refusal.Refusal.TheVariants.{Limit}
-use Rattle.xa_server.specs.Rows.{HasRow, LogsRows, committed_by, is_gtrid_among, owed_xids}
+use Rattle.xa_server.specs.Rows.{HasRow, LogsRows, committed_by, is_gtrid_among}
 use Rattle.xa_log.specs.Content.{Content}
 use Rattle.xa_log.specs.Contract.{Moment}
 use Rattle.xa_model.specs.Trace.{Happening, Happening.Decided}
@@ -134,31 +132,3 @@ pub settled_up : {L : Type 0} (s : Session L) (g : Gtrid) (r : Result (Unit {0})
     → OnOk r ((g ∷ [] ≡ []) ⊎ ((book_in s.manager).up ≡ true))
 settled_up s g (Ok x) none = inr (up_if_settled (book_in s.manager) g (peel _ _ _ none).1)
 settled_up s g (Err n) none = tt
-
--- ** what is owed
-
--- numbers that differ
-pub test_fails : (m n : ℕ) → m ≢ n → (m == n) ≡ false
-test_fails m n other = grind (arith, nat_tests)
-
--- of one branch more, which is there
-pub one_more_owed : (rm : ℕ) (bs : List Branch) (b : Branch) → (b.rm == rm) ≡ true → owed_xids rm (bs ++ b ∷ []) ≡ owed_xids rm bs ++ xid_of_branch b ∷ []
-one_more_owed rm [] b there = rw there refl
-one_more_owed rm (x ∷ xs) b there = by_test (x.rm == rm) (one_more_owed rm xs b there)
-  where
-    by_test : (c : Bool) → owed_xids rm (xs ++ b ∷ []) ≡ owed_xids rm xs ++ xid_of_branch b ∷ []
-        → map xid_of_branch (cond c (x ∷ filter (λ y. y.rm == rm) (xs ++ b ∷ [])) (filter (λ y. y.rm == rm) (xs ++ b ∷ [])))
-        ≡ map xid_of_branch (cond c (x ∷ filter (λ y. y.rm == rm) xs) (filter (λ y. y.rm == rm) xs)) ++ xid_of_branch b ∷ []
-    by_test true same = ap (λ ys. xid_of_branch x ∷ ys) same
-    by_test false same = same
-
--- or isn't
-pub one_not_owed : (rm : ℕ) (bs : List Branch) (b : Branch) → (b.rm == rm) ≡ false → owed_xids rm (bs ++ b ∷ []) ≡ owed_xids rm bs
-one_not_owed rm [] b there = rw there refl
-one_not_owed rm (x ∷ xs) b there = by_test (x.rm == rm) (one_not_owed rm xs b there)
-  where
-    by_test : (c : Bool) → owed_xids rm (xs ++ b ∷ []) ≡ owed_xids rm xs
-        → map xid_of_branch (cond c (x ∷ filter (λ y. y.rm == rm) (xs ++ b ∷ [])) (filter (λ y. y.rm == rm) (xs ++ b ∷ [])))
-        ≡ map xid_of_branch (cond c (x ∷ filter (λ y. y.rm == rm) xs) (filter (λ y. y.rm == rm) xs))
-    by_test true same = ap (λ ys. xid_of_branch x ∷ ys) same
-    by_test false same = same

@@ -122,6 +122,20 @@ impl<L: DecisionLog + Drop> Session<L> {
         self.manager.incarnation()
     }
 
+    /// How many rows the log has.
+    pub fn row_count(&self) -> u64
+        ensures { result ≡ (book_in self.now.manager).rows }
+    {
+        self.manager.row_count()
+    }
+
+    /// How many branches the log records as ended by their resource managers alone.
+    pub fn record_count(&self) -> u64
+        ensures { result ≡ (book_in self.now.manager).records }
+    {
+        self.manager.record_count()
+    }
+
     /// How many steps have happened since the start: those that succeeded, and one in which the log failed.
     pub fn happenings(&self) -> u64
         ensures { result ≡ self.now.happenings }

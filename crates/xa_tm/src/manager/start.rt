@@ -5,7 +5,6 @@ ghost use Rattle.xa_tm.specs.StartFaults.{IsOnlyRead, IsToBlame};
 ghost use Rattle.xa_tm.specs.Started.{IsStarted, IsStartedOver};
 
 use crate::ledger::Ledger;
-use crate::ledger::order::can_start;
 use crate::manager::Manager;
 use std::alloc::{AllocError, Global};
 use std::snapshot::Snapshot;
@@ -60,7 +59,7 @@ impl<L: DecisionLog + Drop> Manager<L> {
         let rows = log.rows()?;
         let ledger = Ledger::load(alloc, threads, rms, &rows)?;
         let incarnation = log.bump()?;
-        if can_start(&rows, incarnation) {
+        if rows.can_start(incarnation) {
             let ledger = ledger.in_incarnation(incarnation);
             let began = Snapshot::of(&rows);
             Ok(Manager { ledger, log, began })

@@ -14,7 +14,8 @@ use Rattle.xa_tm.proofs.Log.Begins.{begun_apart, begun_book}
 use Rattle.xa_tm.specs.LedgerBook.{IsSound, as_book}
 use Rattle.xa_tm.specs.Release.{RowsAreOwn}
 use Rattle.xa_tm.specs.declared.ledger.Ledger.{Ledger}
-use Rattle.xa_tm.specs.Starting.{IsOld, ended_among, fits_before, loaded, book_at_start}
+use Rattle.xa_log.specs.Starting.{fits_before}
+use Rattle.xa_tm.specs.Starting.{IsOld, ended_among, loaded, book_at_start}
 use Rattle.xa_tm.proofs.History.Starts.{in_incarnation, raised_over, start_old, start_sound, start_tied, started_over}
 use Rattle.xa_tm.proofs.History.LoadedRows.{loaded_own}
 use Rattle.xa_tm.proofs.Log.Pasts.{not_past, past_of}

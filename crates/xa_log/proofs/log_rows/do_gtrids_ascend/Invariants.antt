@@ -1,7 +1,7 @@
 use Rattle.std.proofs.Common.{◌≡◌, drop}
 use Rattle.xa_base.specs.Branch.{gtrid_cmp}
-use Rattle.xa_tm.specs.Ascending.{ascends, ascends_behind}
-use Rattle.xa_tm.proofs.ledger.order.do_gtrids_ascend.Given as goal
+use Rattle.xa_log.specs.Starting.{ascends, ascends_behind}
+use Rattle.xa_log.proofs.log_rows.do_gtrids_ascend.Given as goal
 
 -- what is left decides
 abbrev pub invariant-loop-g : goal.invariant-loop-g

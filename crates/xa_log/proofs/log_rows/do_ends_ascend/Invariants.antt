@@ -2,8 +2,8 @@ use Rattle.std.proofs.Common.{◌≡◌, drop, map}
 use Rattle.xa_base.specs.Branch.{branch_cmp}
 use Rattle.xa_base.specs.declared.branch.Branch.{Branch}
 use Rattle.xa_base.specs.declared.code.How.{How}
-use Rattle.xa_tm.specs.Ascending.{ascends, ascends_behind}
-use Rattle.xa_tm.proofs.ledger.order.do_ends_ascend.Given as goal
+use Rattle.xa_log.specs.Starting.{ascends, ascends_behind}
+use Rattle.xa_log.proofs.log_rows.do_ends_ascend.Given as goal
 
 -- what is left decides
 abbrev pub invariant-loop-end : goal.invariant-loop-end
