@@ -16,7 +16,7 @@ use Rattle.xa_base.specs.declared.step.Step.TheVariants as Steps
 use Rattle.xa_log.specs.Content.{Content, unchanged, with_bump}
 use Rattle.xa_log.specs.Contract.{Makes, Moment, Reads, one_more_fault}
 use Rattle.xa_log.specs.declared.decision_log.DecisionLog as DecisionLog
-use Rattle.xa_log.specs.declared.fail_plan.LogCall.TheVariants.{Rows}
+use Rattle.xa_log.specs.declared.decision_log.LogCall.TheVariants.{Rows}
 use Rattle.xa_log.specs.declared.log_fault.LogFault.{LogFault as Fails}
 use Rattle.xa_log.specs.declared.log_rows.LogRows.{LogRows}
 use Rattle.xa_model.specs.Facts.{record_of}

@@ -1,20 +1,8 @@
 //! Which calls of a log fail by plan.
 
 ghost use Rattle.std.specs.Prelude.{◌≡◌};
-/// The kinds of a log's calls that can fail.
-#[derive(Clone, Copy, Debug, PartialEq, Eq)]
-pub enum LogCall {
-    /// `commit`, and `commit_all`, which counts as one.
-    Commit,
-    Contains,
-    Participants,
-    /// `done`, and `done_all`, which counts as one.
-    Done,
-    NoteHeuristic,
-    HeuristicOf,
-    Bump,
-    Rows,
-}
+
+use crate::decision_log::LogCall;
 
 /// Which calls of a log fail.
 #[derive(Clone, Copy, Debug, PartialEq, Eq)]
