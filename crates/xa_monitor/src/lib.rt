@@ -11,5 +11,5 @@ mod monitor;
 mod states;
 
 pub use explained::{answers_are_explained, one_history_agrees, sessions_agree};
-pub use monitor::{HearFault, Monitor};
+pub use monitor::Monitor;
 pub use states::{HeuristicEnds, States};
