@@ -1,4 +1,4 @@
-//! Lines, and those of histories.
+//! Lines, and those of histories. These functions do nothing: each contract is a theorem.
 ghost use Rattle.std.specs.Prelude.{◌≡◌, ◌++◌, ℕ, length, slice_get, Some, true, false};
 ghost use Rattle.std.specs.Option.{option_map};
 ghost use Rattle.xa_model.specs.Facts as facts;
@@ -14,7 +14,7 @@ ghost use Rattle.xa_base.specs.declared.step.Step.TheVariants.{Issue};
 ghost use Rattle.xa_line.specs.Histories.{AreKnownAs, HasGrown, LineStands, known, known_answered};
 ghost use Rattle.xa_line.specs.Traffic.{Traffic, calls_issued, is_full, no_traffic};
 
-/// A line refuses a call exactly where a history does. This is a law; the function does nothing:
+/// A line refuses a call exactly where a history does:
 ///
 /// - `not_open`, `on_closed`: if the calls issued on the line are those of the history, both refuse a call as not open,
 ///   or as closed, alike;
@@ -32,8 +32,7 @@ pub fn lines_as_in_histories()
 {}
 
 /// What waits on a line is what waits in a history, as long as the two stand alike (`LineStands`): they have the same
-/// calls issued, the same answers and the same answers heard, and each call that was taken was answered. This is a law;
-/// the function does nothing:
+/// calls issued, the same answers and the same answers heard, and each call that was taken was answered:
 ///
 /// - `front`, `front_answer`: the call that `Line::front` shows is the history's next one, and the answer that
 ///   `Line::front_answer` shows is its next answer, with its call; if one has none, so has the other;

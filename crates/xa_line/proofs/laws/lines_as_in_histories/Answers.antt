@@ -7,7 +7,7 @@ use Rattle.xa_model.specs.Replies.View.{lines_of, view_of}
 use Rattle.xa_model.specs.Trace.{line}
 use Rattle.xa_model.proofs.Replies.Guards.{full_among}
 use Rattle.xa_line.proofs.HistoryLaws.{opens_mapped, opened_known, closed_known}
-use Rattle.xa_line.proofs.histories.lines_as_in_histories.Goals as goal
+use Rattle.xa_line.proofs.laws.lines_as_in_histories.Goals as goal
 use Rattle.xa_line.specs.Traffic.{calls_issued, places}
 
 pub returns-clause-not_open : goal.returns-clause-not_open

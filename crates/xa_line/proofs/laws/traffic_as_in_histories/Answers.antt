@@ -1,5 +1,5 @@
 use Rattle.xa_line.proofs.TrafficLaws.{next_call_waits, next_answer_waits, as_many_calls, as_many_answers, line_renewed, line_goes_on}
-use Rattle.xa_line.proofs.histories.traffic_as_in_histories.Goals as goal
+use Rattle.xa_line.proofs.laws.traffic_as_in_histories.Goals as goal
 
 pub returns-clause-front : goal.returns-clause-front
 returns-clause-front c tr l t stands = next_call_waits tr l t stands
