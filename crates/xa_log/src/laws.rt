@@ -1,4 +1,5 @@
-//! What decisions make that are written together, and what is left where rows are taken away together.
+//! What decisions make that are written together, and what is left where rows are taken away together. These functions do
+//! nothing: each contract is a theorem.
 ghost use Rattle.std.specs.Prelude.{◌≡◌, ◌<◌, ℕ, List, None, Some, get_or, length, take, if◌then◌else◌};
 ghost use Rattle.std.specs.FinMap.{get};
 ghost use Rattle.std.specs.List.{find, list_any};

@@ -1,5 +1,5 @@
 use Rattle.xa_log.proofs.RowsInTurn.{answer_at, answer_each, first_row, row_there, same_heuristics, same_incarnation}
-use Rattle.xa_log.proofs.turns.decisions_in_turn.Goals as goal
+use Rattle.xa_log.proofs.laws.decisions_in_turn.Goals as goal
 
 pub returns-clause-there : goal.returns-clause-there
 returns-clause-there w ds c g set has = row_there ds c g set has

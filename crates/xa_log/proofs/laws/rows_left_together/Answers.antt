@@ -1,5 +1,5 @@
 use Rattle.xa_log.proofs.TakenTogether.{rows_left, same_heuristics, same_incarnation}
-use Rattle.xa_log.proofs.turns.rows_left_together.Goals as goal
+use Rattle.xa_log.proofs.laws.rows_left_together.Goals as goal
 
 pub returns-clause-rows : goal.returns-clause-rows
 returns-clause-rows w gs c g = rows_left gs c g
