@@ -10,7 +10,7 @@ ghost use Rattle.xa_server.specs.Tracking.{ServedSessionsAreExplained, SessionsA
 ghost use Rattle.xa_server.specs.Votes.{CommitsAreLogged, VotedCommitsAreLogged};
 
 use xa_log::DecisionLog;
-use xa_monitor::{answers_are_explained, sessions_agree};
+use xa_monitor::laws::{answers_are_explained, sessions_agree};
 use xa_names::names_part_identifiers;
 use xa_session::{
     answers_are_tracked, losses_are_tracked, refusals_are_tracked, releases_are_tracked,

@@ -1,6 +1,6 @@
 use Rattle.xa_monitor.proofs.Agreeing.{agreed, agreed_across}
 use Rattle.xa_monitor.proofs.Choices.{chosen, gone_on}
-use Rattle.xa_monitor.proofs.explained.answers_are_explained.Goals as goal
+use Rattle.xa_monitor.proofs.laws.answers_are_explained.Goals as goal
 
 pub returns-clause-each : goal.returns-clause-each
 returns-clause-each c o seen old keeps f may = chosen o seen old keeps f may

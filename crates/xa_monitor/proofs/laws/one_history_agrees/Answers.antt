@@ -1,5 +1,5 @@
 use Rattle.xa_monitor.proofs.OneHistory.{history_alike, history_decides}
-use Rattle.xa_monitor.proofs.explained.one_history_agrees.Goals as goal
+use Rattle.xa_monitor.proofs.laws.one_history_agrees.Goals as goal
 
 pub returns : goal.returns
 returns c = record {

@@ -1,5 +1,5 @@
 use Rattle.xa_monitor.proofs.OneHistory.{commit_stands, one_history, rows_decide, sessions_alike}
-use Rattle.xa_monitor.proofs.explained.sessions_agree.Goals as goal
+use Rattle.xa_monitor.proofs.laws.sessions_agree.Goals as goal
 
 pub returns : goal.returns
 returns c = record {

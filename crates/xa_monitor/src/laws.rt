@@ -1,4 +1,4 @@
-//! Why answers that some standing explains are enough.
+//! Why answers that some standing explains are enough. These functions do nothing: each contract is a theorem.
 ghost use Rattle.xa_base.specs.declared.state.Standing.{Standing};
 ghost use Rattle.xa_model.specs.Facts.{held_of};
 ghost use Rattle.xa_model.specs.Promises.Processes.{Resumes};
