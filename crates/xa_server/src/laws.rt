@@ -17,7 +17,7 @@ use xa_session::{
     sessions_are_explained, starts_are_tracked, starts_find_the_log, steps_are_tracked,
     waiting_calls_are_tracked,
 };
-use xa_tm::starts_are_histories;
+use xa_tm::laws::starts_are_histories;
 
 /// A session that tracks what was seen does so with each request and its reply (`performs` of
 /// [`Server::perform`](crate::Server::perform)), as long as the log doesn't fail: just what both tell is seen
