@@ -11,8 +11,8 @@ ghost use Rattle.xa_server.specs.Votes.{CommitsAreLogged, VotedCommitsAreLogged}
 
 use xa_log::DecisionLog;
 use xa_monitor::laws::{answers_are_explained, sessions_agree};
-use xa_names::names_part_identifiers;
-use xa_session::{
+use xa_names::laws::names_part_identifiers;
+use xa_session::laws::{
     answers_are_tracked, losses_are_tracked, refusals_are_tracked, releases_are_tracked,
     sessions_are_explained, starts_are_tracked, starts_find_the_log, steps_are_tracked,
     waiting_calls_are_tracked,
