@@ -1,7 +1,9 @@
-//! The order of this manager's identifiers.
+//! The order of this manager's identifiers, and the parts of calls. These functions do nothing: each contract is a theorem.
+
 ghost use Rattle.std.specs.Prelude.{◌≡◌, ◌&&◌, nat_eq, Some};
 ghost use Rattle.xa_base.specs.Branch.{IsBranch, branch_cmp, branch_eq, branch_of_xid};
 ghost use Rattle.xa_base.specs.Branch.{gtrid_eq, xid_of_branch};
+ghost use Rattle.xa_base.specs.Call.{CallsHaveTheirParts};
 ghost use Rattle.xa_base.specs.Xid.{IsXid, Xid, xid_cmp};
 ghost use Rattle.xa_base.specs.declared.branch.Branch.{Branch};
 ghost use Rattle.xa_base.specs.declared.branch.Gtrid.{Gtrid};
@@ -21,4 +23,9 @@ pub fn branches_in_order()
     ensures same_branch { (b c : Branch) →
         (gtrid_eq b.gtrid c.gtrid && (nat_eq b.thread c.thread && nat_eq b.rm c.rm))
         ≡ branch_eq b c }
+{}
+
+/// The call of some parts is the one that has them, wherever there is one.
+pub fn calls_have_their_parts()
+    ensures { CallsHaveTheirParts }
 {}

@@ -1,7 +1,7 @@
 use Rattle.xa_base.proofs.BranchLemmas.{numbers_fit}
 use Rattle.xa_base.proofs.BytesOrder.{branch_order}
 use Rattle.xa_base.proofs.BranchOrder.{gtrid_numbers, branch_numbers}
-use Rattle.xa_base.proofs.identifiers.branches_in_order.Goals as goal
+use Rattle.xa_base.proofs.laws.branches_in_order.Goals as goal
 
 pub returns-clause-fit : goal.returns-clause-fit
 returns-clause-fit c x b v e = numbers_fit x b v e
