@@ -21,6 +21,21 @@ pub enum Logged {
     Already,
 }
 
+/// The kinds of a log's calls that can fail.
+#[derive(Clone, Copy, Debug, PartialEq, Eq)]
+pub enum LogCall {
+    /// `commit`, and `commit_all`, which counts as one.
+    Commit,
+    Contains,
+    Participants,
+    /// `done`, and `done_all`, which counts as one.
+    Done,
+    NoteHeuristic,
+    HeuristicOf,
+    Bump,
+    Rows,
+}
+
 /// What outlives the transaction manager: which transactions are decided to commit, with the branches whose xa_commit
 /// each waits for; which branches their resource managers ended by themselves; and how often the manager has started.
 /// A transaction without a row is rolled back (presumed rollback: XA, section 2.3, Transaction Completion and Recovery).
@@ -42,7 +57,7 @@ pub enum Logged {
 /// Beside it stand `answer`, of the log before the call, and `cause`, what the log says may make a call fail and what it
 /// then holds.
 pub trait DecisionLog {
-    ghost use Rattle.xa_log.specs.declared.fail_plan.LogCall.{LogCall};
+    ghost use Rattle.xa_log.specs.declared.decision_log.LogCall.{LogCall};
     ghost use Rattle.xa_log.specs.declared.log_fault.LogFault.{LogFault};
 
     /// What the log is at this moment. Its content is nothing once a failure has shut it, after which every call fails; it

@@ -1,6 +1,6 @@
 //! A scenario file as a whole.
 
-ghost use Rattle.std.specs.Prelude.{◌≡◌, IfErr, IfOk, Ok, OnOk, ◌+◌, [], map, option_map};
+ghost use Rattle.std.specs.Prelude.{◌≡◌, IfErr, IfOk, Ok, OnOk, ◌+◌, map, option_map};
 ghost use Rattle.std.specs.Result.{result_ok};
 ghost use Rattle.std.specs.String.{string_bytes};
 ghost use Rattle.toml.specs.View.{view, table_view, items_view};
@@ -11,9 +11,7 @@ ghost use Rattle.xa_scenario.specs.Scenarios.{IsSize, IsSized, plan_of, entry_at
 ghost use Rattle.xa_files.specs.Reading.{Gives};
 ghost use Rattle.xa_files.specs.Misfits.{ReadsDocument, document_fault_of};
 ghost use Rattle.xa_files.specs.Documents.{document_of};
-ghost use Rattle.xa_files.specs.TablesInTurn.{EachIsRead, FirstIsFaulty, FaultsAreOfTexts};
 ghost use Rattle.xa_files.specs.declared.fault.RunFault.TheVariants.{Step};
-ghost use Rattle.xa_scenario.specs.StepTables.{asked_at};
 
 use crate::begins::name_begun;
 use crate::entry::Entry;
@@ -202,14 +200,3 @@ pub fn read_named_scenario(alloc: Global, text: &[u8]) -> Result<NamedScenario, 
         names,
     })
 }
-
-/// The tables are read each by itself, after the names that those before it begin, and a fault is the first one.
-pub fn tables_are_read_in_turn()
-    ensures each_is_read { EachIsRead asked_at (entries_from 1 []) }
-    ensures first_is_faulty { FirstIsFaulty asked_at (entries_from 1 []) }
-{}
-
-/// A text has no other faults than these: it is no TOML, its header is faulty, or a step.
-pub fn faults_are_of_texts()
-    ensures { FaultsAreOfTexts Step scenario_of }
-{}

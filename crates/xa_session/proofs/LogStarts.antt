@@ -5,7 +5,7 @@ use Rattle.std.specs.FinMap.{get}
 use Rattle.xa_log.specs.Content.{Content, unchanged, with_bump}
 use Rattle.xa_log.specs.Contract.{Makes, Moment, Reads, one_more_fault}
 use Rattle.xa_log.specs.declared.decision_log.DecisionLog as DecisionLog
-use Rattle.xa_log.specs.declared.fail_plan.LogCall.TheVariants.{Rows}
+use Rattle.xa_log.specs.declared.decision_log.LogCall.TheVariants.{Rows}
 use Rattle.xa_log.specs.declared.log_fault.LogFault.{LogFault as Fails}
 use Rattle.xa_log.specs.declared.log_rows.LogRows.{LogRows}
 use Rattle.xa_tm.proofs.Several.Contents.{changed_at, of_same}

@@ -131,11 +131,6 @@ impl Ledger {
         self.rows.contains(&gtrid)
     }
 
-    /// Whether the branch has a record.
-    pub fn has_record(&self, branch: Branch) -> bool {
-        self.recorded.contains(&branch)
-    }
-
     /// The branches that the row of a transaction waits for.
     pub fn waits_for(&self, alloc: Global, gtrid: Gtrid) -> Result<Vec<Branch>, Memory> {
         let mut open = Vec::new(alloc);

@@ -14,7 +14,7 @@ use crate::laws::books_have_headroom;
 use crate::session_line::SessionLine;
 use xa_base::{Call, Refusal, Xid};
 use xa_log::DecisionLog;
-use xa_tm::recoveries_are_read;
+use xa_tm::laws::recoveries_are_read;
 
 impl<L: DecisionLog + Drop> Session<L> {
     /// Says why no recovery of so many calls may begin at a resource manager: the first reason that applies.
