@@ -7,9 +7,8 @@ ghost use Rattle.xa_base.specs.declared.branch.Branch.{Branch as Named};
 ghost use Rattle.xa_base.specs.declared.code.How.{How as End};
 ghost use Rattle.xa_log.specs.Starting.{are_ascending, are_old, ascends, can_start, fits_before, is_behind};
 
-use crate::decision_log::LAST_NUMBER;
 use std::cmp::Ordering;
-use xa_base::{Branch, Gtrid, How};
+use xa_base::{Branch, Gtrid, How, LAST_NUMBER};
 
 /// The rows of a decision log, each list in the order of the identifiers (`xa_base`'s law `branches_in_order`).
 #[derive(Drop)]
