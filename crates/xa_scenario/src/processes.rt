@@ -29,7 +29,7 @@ use xa_rm::{MemRm, ResourceManager};
 use xa_system::{ResumeFault, System};
 
 /// A trace behind the heading of the process of a number.
-#[tactic(auto, using(crate::proofs::LineLemmas::four_pieces))]
+#[tactic(auto, using(xa_files::proofs::Pieces::four_pieces))]
 fn headed(alloc: Global, number: usize, events: &[Event]) -> Result<String, RunFault>
     ensures text { IfOk result (λ text. string_bytes text
         ≡ heading (Some number) ++ trace_lines 1 events.now) }
