@@ -5,7 +5,7 @@ use Rattle.xa_base.specs.declared.branch.Gtrid.{Gtrid}
 use Rattle.xa_log.specs.KeySet.{from_list}
 use Rattle.xa_model.specs.Trace.{Origin, Trace.From}
 use Rattle.xa_scenario.specs.Runs.{IsTextOf}
-use Rattle.xa_scenario.specs.Scenarios.{Plan, scenario_of}
+use Rattle.xa_scenario_file.specs.Scenarios.{Plan, scenario_of}
 use Rattle.xa_system.specs.LogInHistory.{participants_of_row}
 
 -- the text of a run of the scenario that starts in the second incarnation, with the row of this transaction

@@ -1,10 +1,5 @@
-pub mod BranchLemmas
-pub mod EntryLemmas
-pub mod FileLemmas
-pub mod FlagLemmas
 pub mod KeepingLemmas
 pub mod LineLemmas
-pub mod ListedLemmas
 pub mod OneProcess
 pub mod PlayLemmas
 pub mod PrintLemmas
@@ -12,4 +7,3 @@ pub mod ProcessLemmas
 pub mod ReportLemmas
 pub mod RunLemmas
 pub mod StartLemmas
-pub mod TextFaults

@@ -11,11 +11,11 @@ use Rattle.xa_files.specs.declared.fault.RunFault.TheVariants.{Output}
 use Rattle.xa_log.specs.Contract.{Moment}
 use Rattle.xa_log.specs.declared.decision_log.DecisionLog as DecisionLog
 use Rattle.xa_model.specs.Trace.{Trace}
-use Rattle.xa_scenario.specs.Files.{AreOfOneSize}
+use Rattle.xa_scenario_file.specs.Files.{AreOfOneSize}
 use Rattle.xa_scenario.specs.Processes.{AreProcesses, AreProcesses.First, AreProcesses.Next, AreTold, IsFirst, LogStops, PrintsProcesses, Process, StopsAnywhere, StopsBetween, process_of}
 use Rattle.xa_scenario.specs.Replies.{trace_lines}
 use Rattle.xa_scenario.specs.Runs.{Begins, IsPrinted, IsRunOf, IsStartFault, IsTextOf, Prints, shown}
-use Rattle.xa_scenario.specs.Scenarios.{IsSized, Plan, scenario_of}
+use Rattle.xa_scenario_file.specs.Scenarios.{IsSized, Plan, scenario_of}
 use Rattle.xa_scenario.proofs.PlayLemmas.{performs_also}
 use Rattle.xa_system.specs.SystemView.{Observes}
 use Rattle.xa_tm.specs.StartFaults.{IsToBlame}

@@ -11,7 +11,7 @@ use Rattle.xa_log.specs.declared.decision_log.DecisionLog as DecisionLog
 use Rattle.xa_scenario.specs.Processes.{AddsFates, AreTold, AreTraces, IsLast, LogStops, PrintsProcesses, StopsAnywhere, StopsBetween, process_of}
 use Rattle.xa_scenario.specs.LogKeeping.{CannotGoOn}
 use Rattle.xa_scenario.specs.Runs.{shown}
-use Rattle.xa_scenario.specs.Scenarios.{Plan}
+use Rattle.xa_scenario_file.specs.Scenarios.{Plan}
 use Rattle.xa_scenario.specs.declared.processes.Process.{Process as Played}
 use Rattle.xa_system.specs.SystemView.{Observes, origin_in}
 use Rattle.xa_tm.specs.Slots.{log_held}

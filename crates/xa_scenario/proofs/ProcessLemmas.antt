@@ -16,7 +16,7 @@ use Rattle.xa_scenario.specs.LogKeeping.{CannotGoOn, HasGoneOn, HasStarted}
 use Rattle.xa_scenario.specs.Processes.{AddsStarted, AreProcesses, AreProcesses.First, AreProcesses.Next, HasPlayed, IsLast, IsProcess, Plays, Process, heading, process_of}
 use Rattle.xa_scenario.specs.Replies.{trace_lines}
 use Rattle.xa_scenario.specs.Runs.{IsStartOf}
-use Rattle.xa_scenario.specs.Scenarios.{Plan}
+use Rattle.xa_scenario_file.specs.Scenarios.{Plan}
 use Rattle.xa_scenario.specs.declared.processes.Process.{Process as Played}
 use Rattle.xa_scenario.proofs.StartLemmas.{in_slot, out_of_slot}
 use Rattle.xa_system.specs.LogInHistory.{StartsOver}

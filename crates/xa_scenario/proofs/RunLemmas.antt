@@ -6,8 +6,8 @@ use Rattle.xa_files.specs.Reading.{Fails, SaysOfReading}
 use Rattle.xa_files.specs.declared.fault.RunFault.{RunFault}
 use Rattle.xa_files.specs.declared.fault.RunFault.TheVariants.{Log, Work, Output}
 use Rattle.xa_scenario.specs.Runs.{BeginsCheck, check_line}
-use Rattle.xa_scenario.specs.Scenarios.{Plan, scenario_of}
-use Rattle.xa_scenario.proofs.TextFaults as texts
+use Rattle.xa_scenario_file.specs.Scenarios.{Plan, scenario_of}
+use Rattle.xa_scenario_file.proofs.TextFaults as texts
 
 -- a fault of the reading
 pub explains : (fault : RunFault) (text : List ℕ) → Fails fault (scenario_of text) → SaysOfReading fault (scenario_of text)

@@ -10,7 +10,7 @@ use Rattle.xa_log.specs.Contract.{Moment}
 use Rattle.xa_model.specs.Trace.{Name.Foreign}
 use Rattle.xa_scenario.specs.LogKeeping.{HasStarted}
 use Rattle.xa_scenario.specs.Runs.{IsNewRm}
-use Rattle.xa_scenario.specs.Scenarios.{IsSize}
+use Rattle.xa_scenario_file.specs.Scenarios.{IsSize}
 use Rattle.xa_system.specs.LogInHistory.{StartsOver}
 use Rattle.xa_system.specs.SystemView.{HasWrongSize, MayRestart, Observes, SystemView, origin_in}
 use Rattle.xa_system.specs.RmInHistory.{scan_by}

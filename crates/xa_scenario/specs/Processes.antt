@@ -25,7 +25,7 @@ use Rattle.xa_scenario.specs.LogKeeping.{CannotGoOn, KeepsLog}
 use Rattle.xa_scenario.specs.Plays.{IsPlay, PerformsSteps, gtrids_begun}
 use Rattle.xa_scenario.specs.Replies.{trace_lines}
 use Rattle.xa_scenario.specs.Runs.{IsReportOf, IsStartOf, StartsOverLog, shown}
-use Rattle.xa_scenario.specs.Scenarios.{Plan}
+use Rattle.xa_scenario_file.specs.Scenarios.{Plan}
 use Rattle.xa_scenario.specs.declared.processes.Process.{Process as Played}
 use Rattle.xa_tm.specs.StartFaults.{IsToBlame}
 use Rattle.xa_system.specs.SystemView.{HoldsItsTrace, MayRestart, Observes, SystemView, origin_in, trace_in}

@@ -19,7 +19,7 @@ use Rattle.xa_files.specs.declared.fault.RunFault.{RunFault}
 use Rattle.xa_files.specs.declared.fault.RunFault.TheVariants.{Log, Memory}
 use Rattle.xa_scenario.specs.Plays.{IsPlay, PerformsSteps}
 use Rattle.xa_scenario.specs.Replies.{trace_lines}
-use Rattle.xa_scenario.specs.Scenarios.{Plan, scenario_of}
+use Rattle.xa_scenario_file.specs.Scenarios.{Plan, scenario_of}
 use Rattle.xa_system.specs.LogInHistory.{StartsOver}
 use Rattle.xa_system.specs.Report.{IsReported}
 use Rattle.xa_rm.specs.Look.{Look}

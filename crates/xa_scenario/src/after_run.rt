@@ -3,17 +3,17 @@
 ghost use Rattle.std.specs.Prelude.{◌≡◌, Err, IfErr, IfOk};
 ghost use Rattle.xa_files.specs.declared.fault.RunFault.TheVariants.{Log};
 ghost use Rattle.xa_scenario.specs.Runs.{IsRunOf, IsStartFault, StartsOverLog};
-ghost use Rattle.xa_scenario.specs.Scenarios.{IsSized, plan_of};
+ghost use Rattle.xa_scenario_file.specs.Scenarios.{IsSized, plan_of};
 ghost use Rattle.xa_tm.specs.StartFaults.{IsToBlame};
 ghost use Rattle.xa_system.specs.SystemView.{origin_in};
 
-use crate::document::Scenario;
 use crate::processes::first_process;
 use crate::start::rms_of;
 use std::alloc::Global;
 use xa_files::RunFault;
 use xa_log::DecisionLog;
 use xa_rm::{MemRm, ResourceManager};
+use xa_scenario_file::Scenario;
 use xa_system::System;
 
 /// The system after a run of a scenario at new resource managers and over a decision log: its trace and its report are

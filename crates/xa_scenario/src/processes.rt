@@ -5,18 +5,17 @@ ghost use Rattle.std.specs.Io.KnownBytes.{Keeps};
 ghost use Rattle.std.specs.Option.{ok_or};
 ghost use Rattle.std.specs.String.{string_bytes};
 ghost use Rattle.xa_files.specs.declared.fault.RunFault.TheVariants.{Log, Memory, Output};
-ghost use Rattle.xa_scenario.specs.Files.{AreOfOneSize};
+ghost use Rattle.xa_scenario_file.specs.Files.{AreOfOneSize};
 ghost use Rattle.xa_scenario.specs.LogKeeping.{CannotGoOn, HasGoneOn};
 ghost use Rattle.xa_scenario.specs.Processes.{AddsFates, AddsStarted, AreFates, HasPlayed, IsLast, LogStops, PrintsProcesses};
 ghost use Rattle.xa_scenario.specs.Processes.{StopsAnywhere, StopsBetween, heading};
 ghost use Rattle.xa_scenario.specs.Replies.{trace_lines};
 ghost use Rattle.xa_scenario.specs.Runs.{IsNewRm, IsStartFault, shown};
-ghost use Rattle.xa_scenario.specs.Scenarios.{IsSized, Plan, plan_of};
+ghost use Rattle.xa_scenario_file.specs.Scenarios.{IsSized, Plan, plan_of};
 ghost use Rattle.xa_tm.specs.Slots.{log_held};
 ghost use Rattle.xa_tm.specs.StartFaults.{IsToBlame};
 ghost use Rattle.xa_system.specs.SystemView.{HasWrongSize, observes, origin_in, trace_in};
 
-use crate::document::Scenario;
 use crate::play::play;
 use crate::replies::trace_lines;
 use crate::start::{rms_of, system_of};
@@ -26,6 +25,7 @@ use xa_base::{Event, Fate, Gtrid, Xid};
 use xa_files::{RunFault, push_fates, write_text};
 use xa_log::DecisionLog;
 use xa_rm::{MemRm, ResourceManager};
+use xa_scenario_file::Scenario;
 use xa_system::{ResumeFault, System};
 
 /// A trace behind the heading of the process of a number.

@@ -8,16 +8,16 @@ ghost use Rattle.xa_files.specs.Reading.{EndsWith, SaysOfReading};
 ghost use Rattle.xa_files.specs.declared.fault.RunFault.{RunFault};
 ghost use Rattle.xa_files.specs.declared.fault.RunFault.TheVariants.{Log, Memory, Output, Work};
 ghost use Rattle.xa_scenario.specs.Runs.{Begins, BeginsCheck, Prints, PrintsCheck, check_line};
-ghost use Rattle.xa_scenario.specs.Scenarios.{plan_of, scenario_of};
+ghost use Rattle.xa_scenario_file.specs.Scenarios.{plan_of, scenario_of};
 ghost use Rattle.xa_tm.specs.StartFaults.{IsToBlame};
 
-use crate::document::{Scenario, read_scenario};
 use crate::processes::run_scenarios;
 use std::alloc::Global;
 use std::io::Write;
 use std::slice;
 use xa_files::{RunFault, write_text};
 use xa_log::DecisionLog;
+use xa_scenario_file::{Scenario, read_scenario};
 
 /// Runs a scenario file at new resource managers and over a decision log, whatever that holds: the run starts from its
 /// rows and its record, in its next incarnation. It prints a line for each event, where the trace is asked for, and then

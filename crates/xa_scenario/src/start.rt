@@ -5,15 +5,15 @@ ghost use Rattle.xa_files.specs.declared.fault.RunFault.TheVariants.{Log, Memory
 ghost use Rattle.xa_model.specs.Protocol.{RightOrigin};
 ghost use Rattle.xa_scenario.specs.LogKeeping.{HasStarted};
 ghost use Rattle.xa_scenario.specs.Runs.{IsNewRm, IsStartFault, IsStartOf};
-ghost use Rattle.xa_scenario.specs.Scenarios.{IsSized, plan_of};
+ghost use Rattle.xa_scenario_file.specs.Scenarios.{IsSized, plan_of};
 ghost use Rattle.xa_system.specs.SystemView.{observes, origin_in};
 ghost use Rattle.xa_tm.specs.StartFaults.{IsToBlame};
 
-use crate::document::Scenario;
 use std::alloc::Global;
 use xa_files::RunFault;
 use xa_log::DecisionLog;
 use xa_rm::{MemRm, ResourceManager};
+use xa_scenario_file::Scenario;
 use xa_system::{NewFault, System};
 
 /// New resource managers.

@@ -1,6 +1,6 @@
 use Rattle.xa_rm.specs.contracts.mem_rm.MemRmResourceManager.TheImpl as memory
 use Rattle.xa_scenario.specs.Processes.{process_of}
-use Rattle.xa_scenario.specs.Scenarios.{plan_of}
+use Rattle.xa_scenario_file.specs.Scenarios.{plan_of}
 use Rattle.xa_scenario.proofs.OneProcess.{is_first, is_run}
 use Rattle.xa_system.specs.SystemView.{observes}
 use Rattle.xa_scenario.proofs.after_run.system_after.Goals as goal

@@ -1,6 +1,6 @@
 use Rattle.std.proofs.Common.{[], subst}
 use Rattle.xa_scenario.specs.Processes.{HasPlayed}
-use Rattle.xa_scenario.specs.Scenarios.{plan_of}
+use Rattle.xa_scenario_file.specs.Scenarios.{plan_of}
 use Rattle.xa_scenario.proofs.ProcessLemmas.{first_stands, still_counted}
 use Rattle.xa_system.specs.SystemView.{observes}
 use Rattle.xa_scenario.proofs.processes.first_process.Goals as goal

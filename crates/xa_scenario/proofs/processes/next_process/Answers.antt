@@ -1,5 +1,5 @@
 use Rattle.std.proofs.Common.{◌∙◌}
-use Rattle.xa_scenario.specs.Scenarios.{plan_of}
+use Rattle.xa_scenario_file.specs.Scenarios.{plan_of}
 use Rattle.xa_scenario.proofs.ProcessLemmas.{next_stands, still_counted}
 use Rattle.xa_scenario.proofs.processes.next_process.Goals as goal
 

@@ -5,11 +5,11 @@ use Rattle.std.specs.Io.KnownBytes.{Appends}
 use Rattle.xa_files.proofs.TablesInTurnLemmas.{same_err}
 use Rattle.xa_files.specs.Outputs.{AppendsBeginning}
 use Rattle.xa_rm.specs.contracts.mem_rm.MemRmResourceManager.TheImpl as memory
-use Rattle.xa_scenario.specs.Files.{AreOfOneSize}
+use Rattle.xa_scenario_file.specs.Files.{AreOfOneSize}
 use Rattle.xa_scenario.specs.Processes.{heading}
 use Rattle.xa_scenario.specs.Replies.{trace_lines}
-use Rattle.xa_scenario.specs.Scenarios.{plan_of}
-use Rattle.xa_scenario.proofs.FileLemmas.{as_large, sized_first, sized_later}
+use Rattle.xa_scenario_file.specs.Scenarios.{plan_of}
+use Rattle.xa_scenario_file.proofs.FileLemmas.{as_large, sized_first, sized_later}
 use Rattle.xa_scenario.proofs.PrintLemmas.{HavePrinted, all_are, begins_all, counted, nothing_written, one_more, printed_more, prints_all, stops_behind, stops_between, stops_in, with_rest}
 use Rattle.xa_system.specs.SystemView.{observes}
 use Rattle.xa_scenario.proofs.processes.run_scenarios.Goals as goal

@@ -1,6 +1,6 @@
 use Rattle.std.proofs.Common.{◌≡◌, ◌∷◌, length, map, take}
 use Rattle.xa_rm.specs.contracts.mem_rm.MemRmResourceManager.TheImpl as memory
-use Rattle.xa_scenario.specs.Scenarios.{Plan, plan_of}
+use Rattle.xa_scenario_file.specs.Scenarios.{Plan, plan_of}
 use Rattle.xa_scenario.proofs.PrintLemmas.{HavePrinted}
 use Rattle.xa_system.specs.SystemView.{observes}
 use Rattle.xa_scenario.proofs.processes.run_scenarios.Given as goal

@@ -1,9 +1,9 @@
 use Rattle.std.proofs.Common.{◌≡◌, ◌⊎◌, [], inr, map, subst, sym, ⊎_elim}
 use Rattle.std.proofs.lemmas.Result.{err_from_is_err_and}
 use Rattle.xa_rm.specs.contracts.mem_rm.MemRmResourceManager.TheImpl as memory
-use Rattle.xa_scenario.specs.Files.{AreOfOneSize}
+use Rattle.xa_scenario_file.specs.Files.{AreOfOneSize}
 use Rattle.xa_scenario.specs.Processes.{LogStops, PrintsProcesses, StopsAnywhere, StopsBetween}
-use Rattle.xa_scenario.specs.Scenarios.{plan_of, scenario_of}
+use Rattle.xa_scenario_file.specs.Scenarios.{plan_of, scenario_of}
 use Rattle.xa_system.specs.SystemView.{observes}
 use Rattle.xa_files.proofs.TablesInTurnLemmas.{same_err}
 use Rattle.xa_files.proofs.ReadingLemmas.{ends_with}
