@@ -121,6 +121,6 @@ blamed see log logs plan (inr h) =
 -- the text was read then
 pub says_read : (fault : RunFault) (text : List ℕ) (plan : Plan) → scenario_of text ≡ Ok plan → IsStartFault fault ⊎ (fault ≡ Output)
     → SaysOfReading fault (scenario_of text)
-says_read fault text plan reads (inl (inl is)) = subst (λ (f : RunFault). SaysOfReading f (scenario_of text)) (sym is) (subst IsOk (sym reads) tt)
+says_read fault text plan reads (inl (inl is)) = subst (λ (f : RunFault). SaysOfReading f (scenario_of text)) (sym is) (subst IsOk (sym reads) refl)
 says_read fault text plan reads (inl (inr is)) = subst (λ (f : RunFault). SaysOfReading f (scenario_of text)) (sym is) tt
-says_read fault text plan reads (inr is) = subst (λ (f : RunFault). SaysOfReading f (scenario_of text)) (sym is) (subst IsOk (sym reads) tt)
+says_read fault text plan reads (inr is) = subst (λ (f : RunFault). SaysOfReading f (scenario_of text)) (sym is) (subst IsOk (sym reads) refl)

@@ -21,7 +21,7 @@ first_process-requires-clause-sized g c =
 
 pub returns-in_err-rms-clause-stopped : goal.returns-in_err-rms-clause-stopped
 returns-in_err-rms-clause-stopped g c =
-    let p = err_from_is_err_and c.from_residual-in_err-rms.result c.from_residual-in_err-rms.ensures.1 in
+    let p = err_from_is_err_and c.from_residual.result c.from_residual.ensures.1 in
     rw (p.1, p.2) (λ e. inl (Keeps-refl (g.W.Write.contents c.args.out.now)))
 
 pub returns-in_err-process-clause-stopped : goal.returns-in_err-process-clause-stopped

@@ -36,8 +36,8 @@ returns-in_err-scenario-clause-log g c =
     let p = err_from_is_err_and c.from_residual.result c.from_residual.ensures.1 in
     rw (p.1, p.2) (λ is. absurd (not_of_log c.in_err-scenario.field-0.0 c.args.text.now c.in_err-scenario.ensures.read (same_err _ _ is)))
 
-pub run_scenarios-requires-clause-alike : goal.run_scenarios-requires-clause-alike
-run_scenarios-requires-clause-alike g c =
+pub run_scenarios-requires : goal.run_scenarios-requires
+run_scenarios-requires g c =
     subst (λ scenarios. AreOfOneSize (map plan_of scenarios)) (sym c.from_ref.ensures.value)
     (of_one_size (plan_of c.in_ok-scenario.scenario) c.in_ok-scenario.ensures.sized)
 
@@ -46,31 +46,31 @@ returns-in-Ok-clause-ok g c =
     let moment = g.L.DecisionLog.moment in
     let contents = g.W.Write.contents in
     let plan = plan_of c.in_ok-scenario.scenario in
-    let told = subst (λ scenarios. (scenarios ≡ []) ⊎ PrintsProcesses moment c.args.log (map plan_of scenarios) c.args.with_trace c.in-Ok.left
+    let told = subst (λ scenarios. (scenarios ≡ []) ⊎ PrintsProcesses moment c.args.log (map plan_of scenarios) c.args.with_trace c.in-Ok._left
     (contents c.args.out.now) (contents c.run_scenarios.new.out)) c.from_ref.ensures.value c.in-Ok.ensures.ok in
-    ⊎_elim (λ none. absurd (cc)) (prints_one moment c.args.log plan c.args.text.now c.args.with_trace c.in_ok-scenario.ensures.read c.in-Ok.left
+    ⊎_elim (λ none. absurd (cc)) (prints_one moment c.args.log plan c.args.text.now c.args.with_trace c.in_ok-scenario.ensures.read c.in-Ok._left
     (contents c.args.out.now) (contents c.run_scenarios.new.out)) told
 
-pub returns-in-Err-clause-fault : goal.returns-in-Err-clause-fault
-returns-in-Err-clause-fault g c =
+pub returns-clause-fault : goal.returns-clause-fault
+returns-clause-fault g c =
     says_read c.in-Err.fault c.args.text.now (plan_of c.in_ok-scenario.scenario) c.in_ok-scenario.ensures.read c.in-Err.ensures.fault
 
-pub returns-in-Err-clause-log : goal.returns-in-Err-clause-log
-returns-in-Err-clause-log g c = λ is.
+pub returns-clause-log : goal.returns-clause-log
+returns-clause-log g c = λ is.
     let see = observes (memory.ghosts).look g.L.DecisionLog.moment in
     blamed see c.args.log g.L.DecisionLog (plan_of c.in_ok-scenario.scenario)
     (subst (λ scenarios. LogStops see c.args.log g.L.DecisionLog (map plan_of scenarios)) c.from_ref.ensures.value (c.run_scenarios.ensures.log (cc)))
 
-pub returns-in-Err-clause-memory : goal.returns-in-Err-clause-memory
-returns-in-Err-clause-memory g c = λ is.
+pub returns-clause-memory : goal.returns-clause-memory
+returns-clause-memory g c = λ is.
     let moment = g.L.DecisionLog.moment in
     let contents = g.W.Write.contents in
     keeps_one moment c.args.log (plan_of c.in_ok-scenario.scenario) c.args.with_trace (contents c.args.out.now) (contents c.run_scenarios.new.out)
     (subst (λ scenarios. StopsBetween moment c.args.log (map plan_of scenarios) c.args.with_trace (contents c.args.out.now) (contents c.run_scenarios.new.out))
     c.from_ref.ensures.value (c.in-Err.ensures.stopped (inr is)))
 
-pub returns-in-Err-clause-begun : goal.returns-in-Err-clause-begun
-returns-in-Err-clause-begun g c = λ is.
+pub returns-clause-begun : goal.returns-clause-begun
+returns-clause-begun g c = λ is.
     let moment = g.L.DecisionLog.moment in
     let contents = g.W.Write.contents in
     begins_one moment c.args.log (plan_of c.in_ok-scenario.scenario) c.args.text.now c.args.with_trace c.in_ok-scenario.ensures.read
