@@ -70,7 +70,7 @@ impl<L: DecisionLog + Drop> Server<L> {
             ((left : L) × IsOnlyRead L.DecisionLog log left) }
     {
         match Session::new(alloc, threads, rms, log) {
-            Ok((session, _)) => Ok(Server { alloc, session }),
+            Ok(session) => Ok(Server { alloc, session }),
             Err(fault) => Err(fault),
         }
     }
