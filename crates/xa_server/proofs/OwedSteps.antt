@@ -1,11 +1,10 @@
 -- What each step of a session does to what is owed.
-use Rattle.std.proofs.Common.{◌≡◌, ◌≢◌, ◌<◌, ◌≤◌, inl, inr, ◌∙◌, ℕ, Bool, true, false, not, ◌&&◌, ◌||◌, List, [], ◌∷◌, map, Option, Some, None, IsSome, length, refl, sym, ap, arith}
-use Rattle.std.specs.Prelude.{Result, Ok, Err, IfErr, IfOk, OnErr, OnOk, if◌then◌else◌, nat_eq, nat_lt, unwrap_or}
-use Rattle.std.specs.Option.{option_or}
-use Rattle.std.proofs.lemmas.Bool.{and_parts, eqb-true, le-ltb, lt-ltb}
+use Rattle.std.proofs.Common.{◌≡◌, inl, inr, ◌∙◌, ℕ, Bool, true, false, not, ◌&&◌, ◌||◌, List, [], ◌∷◌, map, Option, Some, None, length, refl, sym, ap, arith}
+use Rattle.std.specs.Prelude.{Result, Ok, Err, IfErr, IfOk, OnErr, OnOk, if◌then◌else◌, nat_eq, nat_lt}
+use Rattle.std.proofs.lemmas.Bool.{and_parts, eqb-true, le-ltb}
 use Rattle.xa_base.proofs.BranchKeys.{gtrid_eq-true}
 use Rattle.xa_base.specs.Answer.{map_answer}
-use Rattle.xa_base.specs.Branch.{branch_cmp, gtrid_eq}
+use Rattle.xa_base.specs.Branch.{gtrid_eq}
 use Rattle.xa_base.specs.Call.{map_call}
 use Rattle.xa_base.specs.Xid.{Xid}
 use Rattle.xa_base.specs.declared.answer.Answer.{Answer}
@@ -20,17 +19,16 @@ use Rattle.xa_base.specs.declared.step.Step.TheVariants as Steps
 use Rattle.xa_model.specs.Facts.{record_of}
 use Rattle.xa_model.specs.Replies.History.{name_of}
 use Rattle.xa_model.specs.Replies.Steps.{accepted}
-use Rattle.xa_model.specs.Trace.{Call as KnownCall, Fault, Fault.InDecide, Fault.InDone, Fault.InHear, Happening, Happening.Begun, Happening.Claimed, Happening.Decided, Happening.Done, Happening.Issued, Happening.ResolvedOpen, line}
+use Rattle.xa_model.specs.Trace.{Call as KnownCall, Fault, Fault.InDecide, Fault.InDone, Fault.InHear, Happening.Decided, Happening.Done, Happening.Issued, line}
 use Rattle.xa_server.proofs.KnownCalls.{known_first, known_issue, or_none}
 use Rattle.xa_model.proofs.Replies.Guards.{peel}
 use Rattle.xa_session.proofs.Refusals.{begun_if_decided, begun_if_settled, if_there}
-use Rattle.xa_session.specs.Answering.{FailsToHear, HearsAs, IsFirst, IsFoundLater}
+use Rattle.xa_session.specs.Answering.{HearsAs, IsFirst, IsFoundLater}
 use Rattle.xa_session.specs.Following.{StaysAs}
 use Rattle.xa_session.specs.Session.{decide_all_refusal, done_all_refusal, has_room_for, issue_refusal, line_refusal, refusal_at, unfit}
 use Rattle.xa_session.specs.Steps.{Abandons, Begins, Claims, Decides, Finishes, Forgets, HappenInTurn, Happens, Hears, Issues, Loses, Resolves, ResolvesOpen, Settles}
 use Rattle.xa_session.specs.declared.session.Session.{Session}
 use Rattle.xa_session.specs.declared.session.answers.Unfit.{Unfit}
-use Rattle.xa_session.specs.declared.session.answers.Unfit.TheVariants as Unfits
 use Rattle.xa_tm.specs.Book.{Book, Doubt, Doubt.Adds, Doubt.Drops, Waiting, after, after_all, doubt_of, rows_for, voted_yes}
 use Rattle.xa_tm.specs.Calls.{FailsBy, book_in, written_by}
 use Rattle.xa_tm.specs.LedgerBook.{numbered_by, transaction_at}

@@ -1,4 +1,4 @@
-use Rattle.std.proofs.Common.{◌≡◌, [], false, ◌∙◌, ap, arith, refl, subst, sym}
+use Rattle.std.proofs.Common.{[], false, ◌∙◌, ap, arith, refl, subst, sym}
 use Rattle.xa_base.specs.HeldBranch.{new_branch}
 use Rattle.xa_base.specs.Scan.{Scan.NotOpen}
 use Rattle.xa_line.specs.Grid.{Grid, IsWhole, line_at}
