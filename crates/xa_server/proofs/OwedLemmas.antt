@@ -63,7 +63,8 @@ module _ {L : Type 0} where
     looked_owes : new ≡ old → OwesTheSame old.session new.session
     looked_owes same = same_owes old.session new.session (ap (λ c. c.session) same)
 
-    answer_owes : (t r : ℕ) (name : CallName) (answer : Answer Xid) (other : Bool) → MatchBool other (OnlyTells (responses.Fault faults.OtherCall) old reply new)
+    answer_owes : (t r : ℕ) (name : CallName) (answer : Answer Xid) (other : Bool)
+        → MatchBool other (OnlyTells (responses.Fault faults.OtherCall) old reply new)
         (StandsFor (Hears t r answer) (answer_reply (responses.Heard name.kind (answer_number answer))) old reply new ⊎ LacksMemory old reply new)
         → OwesTheSame old.session new.session
     answer_owes t r name answer true h = looked_owes h.1

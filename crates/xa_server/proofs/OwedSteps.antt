@@ -142,7 +142,8 @@ module _ {L : Type 0} (s t : Session L) where
   failed_owes asked f n (inr faulty) = λ rm b. ap (λ k. owes k rm b) faulty.1
 
   -- a step that no rule refuses fails so
-  unless_refused : {A : Type 0} (why : Option Refusal) (asked : Doubt) (f : Fault) (r : Result A Refusal) → ((n : Refusal) → why ≡ Some n → (r ≡ Err n) × (t ≡ s))
+  unless_refused : {A : Type 0} (why : Option Refusal) (asked : Doubt) (f : Fault) (r : Result A Refusal)
+      → ((n : Refusal) → why ≡ Some n → (r ≡ Err n) × (t ≡ s))
       → (why ≡ None → IfErr r (FailsBy asked f (book_in s.manager) (book_in t.manager))) → OnErr r OwesTheSame
   unless_refused why asked f (Ok x) refused fails = tt
   unless_refused why asked f (Err n) refused fails = by why refl
@@ -209,7 +210,8 @@ module _ {L : Type 0} (s t : Session L) where
 
       unheard : unfit s thread rm answer ≡ None → (u : Unfit) → r ≡ Err u → IsFoundLater u → OwesTheSame
       unheard none u is (inl (n, same)) =
-          failed_owes (doubt_of (record_of (first none).0 (map_answer name_of answer))) (InHear (line thread rm)) n (does.fails n (is ∙ ap (λ v. Err v) same) none (first none).0 (first none).1)
+          failed_owes (doubt_of (record_of (first none).0 (map_answer name_of answer))) (InHear (line thread rm)) n
+          (does.fails n (is ∙ ap (λ v. Err v) same) none (first none).0 (first none).1)
       unheard none u is (inr (b, same)) = same_owes (does.unexplained b (is ∙ ap (λ v. Err v) same)).1
 
       by : unfit s thread rm answer ≡ None → (q : Result (Unit {0}) Unfit) → r ≡ q
