@@ -15,11 +15,14 @@ def processors():
     return len(os.sched_getaffinity(0))
 
 
+def free_bytes():
+    with open("/proc/meminfo", encoding="utf-8") as it:
+        return next(int(line.split()[1]) << 10 for line in it if line.startswith("MemAvailable:"))
+
+
 def jobs_for(bytes_a_job):
     """How many jobs there are processors and memory for, where each takes so much."""
-    with open("/proc/meminfo", encoding="utf-8") as it:
-        free = next(int(line.split()[1]) << 10 for line in it if line.startswith("MemAvailable:"))
-    return max(1, min(processors(), free // bytes_a_job))
+    return max(1, min(processors(), free_bytes() // bytes_a_job))
 
 
 def on_signals(ends):

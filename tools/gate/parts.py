@@ -95,19 +95,17 @@ class Runner:
         with self.printing:
             print(f"check: {text}", flush=True)
 
-    def shown(self, part):
-        """Runs a part whose lines are shown as they come, and returns whether all of it passed."""
+    def shown(self, part, heard=None):
+        """Runs a part whose lines are shown as they come, and given to heard, and returns whether all of it passed."""
         self.say(f"{part.name} begins")
-        failed = self.failed
-        self.run(part, shows=True)
-        return self.failed == failed
+        return self.run(part, shows=True, heard=heard)
 
-    def run(self, part, shows=False):
-        """Runs a part, and shows what it printed once it has failed, or as it comes."""
+    def run(self, part, shows=False, heard=None):
+        """Runs a part, and shows what it printed once it has failed, or as it comes. Returns whether all of it passed."""
         known = part.known()
         if known is not None:
             self.add(part, Count(known, 0), "as earlier")
-            return
+            return True
         begun, lines = time.time(), []
         environment = dict(os.environ, TMPDIR=self.folder) if part.words[0] != "rt" or "ci" not in part.words else None
         with tempfile.TemporaryFile("w+", dir=self.folder, errors="replace", encoding="utf-8") as out:
@@ -117,6 +115,8 @@ class Runner:
                 sys.stdout.write(it)
                 sys.stdout.flush()
                 lines.append(it)
+                if heard:
+                    heard(it)
             status = started.wait()
             out.seek(0)
             text = "".join(lines) or out.read()
@@ -124,6 +124,7 @@ class Runner:
         part.keep(count)
         took = "; ".join([f"in {time.time() - begun:.0f} seconds", *LACKS.findall(text)])
         self.add(part, count, took, text if count.failed and not shows else "")
+        return count.failed == 0
 
     def add(self, part, count, how, text=""):
         with self.printing:

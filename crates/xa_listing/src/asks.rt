@@ -8,7 +8,7 @@ ghost use Rattle.xa_listing.specs.Ends.{against_commit, end_line, end_text, has_
 use crate::statements::{mariadb_commit, postgresql_commit};
 use std::alloc::Global;
 use xa_base::{Branch, Gtrid, How};
-use xa_files::{RunFault, gtrid_text};
+use xa_files::RunFault;
 use xa_log::LogRows;
 
 const NOTHING: &str = "Nothing waits: the log has no row and no record.\n";
@@ -24,7 +24,7 @@ const ENDED_BY: &str =
 fn decision_text(alloc: Global, g: Gtrid, count: usize) -> Result<String, RunFault>
     ensures fault { IfErr result (λ e. e ≡ Memory) }
 {
-    let name = gtrid_text(alloc, g)?;
+    let name = g.text(alloc)?;
     Ok(match count {
         0 => format!(in alloc; "{name} is decided to commit, and its row names no branch.\n")?,
         1 => format!(in alloc; "{name} is decided to commit, and its row waits for 1 branch:\n")?,

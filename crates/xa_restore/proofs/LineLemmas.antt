@@ -1,25 +1,14 @@
 -- The lines of a log behind its names: the first, those of the decisions, and the last.
-use Rattle.std.proofs.Common.{◌≡◌, ℕ, ◌+◌, ◌-◌, ◌<◌, List, [], ◌∷◌, ◌++◌, length, map, take, drop, get_or, suc, Bool, true, false, not, ap, refl, subst, sym, ◌∙◌, arith}
+use Rattle.std.proofs.Common.{◌≡◌, ℕ, ◌+◌, ◌-◌, ◌<◌, List, [], ◌∷◌, ◌++◌, length, map, take, drop, get_or, suc, ap, refl, subst, sym, ◌∙◌, arith}
 use Rattle.std.specs.Borrow.{Bor}
 use Rattle.std.specs.Option.{option_map}
 use Rattle.std.specs.Prelude.{codes, Option, Some, None, slice_get}
-use Rattle.std.proofs.lemmas.Bool.{true≢false}
 use Rattle.std.proofs.lemmas.List.{map-append, take_all, take_more}
-use Rattle.std.proofs.lemmas.Slice.Eq.{bytes_eq-Decides}
-use Rattle.std.specs.Str.{bytes_eq}
 use Rattle.xa_log.specs.declared.decision.Decision.{Decision}
 use Rattle.xa_names.specs.Lines.{line_renamed}
 use Rattle.xa_base.specs.declared.branch.Gtrid.{Gtrid}
 use Rattle.xa_restore.specs.LogLines.{AreLogLinesOf, Rise, RiseBehind, StandsBehind, decision_row_line, incarnation_line, last_behind}
 use Rattle.xa_restore.proofs.HeadingLemmas.{texts}
-
-not_true : (b : Bool) → false ≡ not b → b ≡ true
-not_true true e = refl
-not_true false e = absurd (true≢false (sym e))
-
--- texts of which `!=` is false are the same
-pub same_text : (xs ys : List ℕ) → false ≡ not (bytes_eq xs ys) → xs ≡ ys
-same_text xs ys e = (bytes_eq-Decides xs ys).0 (not_true (bytes_eq xs ys) e)
 
 map_texts : (f : List ℕ → List ℕ) (lines : List (Bor (List ℕ))) → map f (texts lines) ≡ map (λ line. f line.now) lines
 map_texts f [] = refl

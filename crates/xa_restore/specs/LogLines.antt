@@ -3,11 +3,10 @@ use Rattle.std.specs.Prelude.{◌≡◌, ℕ, List, [], ◌∷◌, ◌++◌, cod
 use Rattle.std.specs.Fmt.{decimal}
 use Rattle.std.specs.List.{AllByRecursion, flat_map}
 use Rattle.std.specs.declared.cmp.Ordering.TheVariants.{Less}
-use Rattle.xa_base.specs.Branch.{gtrid_cmp, xid_of_branch}
+use Rattle.xa_base.specs.Branch.{gtrid_cmp, gtrid_text, xid_of_branch}
 use Rattle.xa_base.specs.Xid.{text_of}
 use Rattle.xa_base.specs.declared.branch.Branch.{Branch}
 use Rattle.xa_base.specs.declared.branch.Gtrid.{Gtrid}
-use Rattle.xa_files.specs.Gtrids.{gtrid_text}
 use Rattle.xa_log.specs.declared.decision.Decision.{Decision}
 use Rattle.xa_names.specs.Lines.{line_renamed}
 

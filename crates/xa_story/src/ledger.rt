@@ -134,11 +134,6 @@ impl Ledger {
         self.rows.contains(&gtrid)
     }
 
-    /// Whether the branch has a record.
-    pub fn has_record(&self, branch: Branch) -> bool {
-        self.recorded.contains(&branch)
-    }
-
     /// Whether no row waits for the branch any more: it has acknowledged, or has a record.
     fn is_settled(&self, branch: Branch) -> bool
         ensures { result ≡ is_settled self.now branch }

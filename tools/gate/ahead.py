@@ -1,0 +1,66 @@
+"""Edits that are tried while rt ci still proves other crates."""
+
+import os
+import re
+import subprocess
+import threading
+from collections import deque
+
+from .machine import BYTES_A_JOB, free_bytes, processors
+
+# What rt ci prints of a crate that it has proved in this run.
+PROVED = re.compile(r"rt: (\w+) proved$")
+
+
+class Ahead:
+    """The last crates rest on one another, and rt ci leaves processors idle while it proves them. Meanwhile the edits of the crates
+    before them are tried, at the lowest priority. tools/edits keeps what is refused, and counts it when it is run over all."""
+
+    # How often is looked whether there is room for one more, in seconds.
+    LOOKS = 5
+    # One is begun where a proof may still take BYTES_A_PROOF beside it; all are ended where less than LEAST is left.
+    BYTES_A_PROOF, LEAST = 5_000_000_000, 2_000_000_000
+
+    def __init__(self, tool, running):
+        self.tool, self.running, self.crates, self.runs = tool, running, deque(), {}
+        self.ends = threading.Event()
+        self.thread = threading.Thread(target=self.work, daemon=True)
+        self.thread.start()
+
+    def hear(self, line):
+        found = PROVED.match(line.strip())
+        if found:
+            self.crates.append(found[1])
+
+    def work(self):
+        while not self.ends.wait(self.LOOKS):
+            self.runs = {crate: it for crate, it in self.runs.items() if it.poll() is None}
+            if free_bytes() < self.LEAST:
+                self.crates.extendleft(self.runs)
+                self.end_runs()
+            elif self.crates and self.has_room():
+                self.begin(self.crates.popleft())
+        self.end_runs()
+
+    def has_room(self):
+        is_idle = os.getloadavg()[0] < processors() - 0.5
+        return is_idle and free_bytes() > self.BYTES_A_PROOF + BYTES_A_JOB
+
+    def begin(self, crate):
+        words = ["nice", "-n", "19", self.tool, "--proved", "--jobs", "1", crate]
+        quiet = {"stdout": subprocess.DEVNULL, "stderr": subprocess.DEVNULL}
+        try:
+            self.runs[crate] = self.running.start(words, **quiet)
+        except InterruptedError:
+            self.ends.set()
+
+    def end_runs(self):
+        for it in self.runs.values():
+            it.terminate()
+        for it in self.runs.values():
+            it.wait()
+        self.runs = {}
+
+    def end(self):
+        self.ends.set()
+        self.thread.join()
