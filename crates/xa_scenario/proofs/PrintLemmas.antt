@@ -6,7 +6,6 @@ use Rattle.std.proofs.lemmas.List.{at_drop_more, length-map, length-take-le, map
 use Rattle.xa_files.proofs.OutputLemmas.{both_written}
 use Rattle.xa_files.specs.Fates.{fate_lines}
 use Rattle.xa_files.specs.Outputs.{AppendsBeginning}
-use Rattle.xa_log.specs.Contract.{Moment}
 use Rattle.xa_log.specs.declared.decision_log.DecisionLog as DecisionLog
 use Rattle.xa_scenario.specs.Processes.{AddsFates, AreTold, AreTraces, IsLast, LogStops, PrintsProcesses, StopsAnywhere, StopsBetween, process_of}
 use Rattle.xa_scenario.specs.LogKeeping.{CannotGoOn}

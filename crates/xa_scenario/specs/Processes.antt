@@ -28,7 +28,7 @@ use Rattle.xa_scenario.specs.Runs.{IsReportOf, IsStartOf, StartsOverLog, shown}
 use Rattle.xa_scenario_file.specs.Scenarios.{Plan}
 use Rattle.xa_scenario.specs.declared.processes.Process.{Process as Played}
 use Rattle.xa_tm.specs.StartFaults.{IsToBlame}
-use Rattle.xa_system.specs.SystemView.{HoldsItsTrace, MayRestart, Observes, SystemView, origin_in, trace_in}
+use Rattle.xa_system.specs.SystemView.{HoldsItsTrace, MayRestart, Observes, SystemView, origin_in}
 use Rattle.xa_tm.specs.Slots.{log_held}
 
 -- ** one process
