@@ -139,8 +139,8 @@ impl Monitor {
             Monitors o seen self.now → IsExplained o seen }
         ensures did { (o : Origin) (seen : Seen) (e : Happening) → Monitors o seen self.now →
             Monitors o (Seen.Did seen e) self.now }
-        ensures unexplained { (o : Origin) (seen : Seen) (l : Line) (c : KnownCall) (a : KnownAnswer)
-            (b : Named) → (CanExplain (states_of self.now) l c a b → ⊥) → Monitors o seen self.now →
+        ensures unexplained { (o : Origin) (seen : Seen) (l : Line) (c : KnownCall)
+            (a : KnownAnswer) (b : Named) → (CanExplain (states_of self.now) l c a b → ⊥) → Monitors o seen self.now →
             IsUnexplained o (Seen.Answered seen l c a) b }
     {}
 

@@ -7,6 +7,7 @@ pub mod LineLemmas
 pub mod LogLemmas
 pub mod ManagerLemmas
 pub mod OwedLemmas
+pub mod OwedSteps
 pub mod ReleaseLemmas
 pub mod RowLemmas
 pub mod TextLines

@@ -1,8 +1,11 @@
 -- What is owed.
-use Rattle.std.proofs.Common.{◌≡◌, inl, inr, ◌∙◌, ℕ, Bool, true, false, not, ◌&&◌, ◌||◌, List, [], ◌∷◌, map, Option, Some, None, IsSome, IsSomeAnd, refl, sym, ap, subst}
-use Rattle.std.specs.Prelude.{Result, Ok, Err, OnErr, OnOk, if◌then◌else◌, nat_eq, nat_lt, unwrap_or}
+use Rattle.std.proofs.Common.{◌≡◌, ◌⊎◌, inl, inr, ◌∙◌, ℕ, ◌+◌, zero, suc, Bool, true, false, ◌&&◌, List, [], ◌∷◌, Option, Some, None, IsSome, IsSomeAnd, refl, sym, ap, subst}
+use Rattle.std.specs.Prelude.{MatchBool, Result, Ok, Err, OnErr, OnOk, nat_eq, nat_lt, unwrap_or}
 use Rattle.std.proofs.lemmas.Bool.{lt-ltb}
-use Rattle.xa_base.specs.Branch.{branch_cmp, gtrid_eq}
+use Rattle.xa_base.specs.Answer.{answer_number}
+use Rattle.xa_base.specs.Branch.{branch_cmp}
+use Rattle.xa_base.specs.Xid.{Xid}
+use Rattle.xa_base.specs.declared.answer.Answer.{Answer}
 use Rattle.xa_base.specs.declared.branch.Branch.{Branch}
 use Rattle.xa_base.specs.declared.branch.Gtrid.{Gtrid}
 use Rattle.xa_base.specs.declared.refusal.Refusal.{Refusal}
@@ -10,61 +13,89 @@ use Rattle.xa_log.specs.Content.{Content, with_bump}
 use Rattle.xa_log.specs.Contract.{Makes}
 use Rattle.xa_log.specs.KeySet.{contains, contains-empty}
 use Rattle.xa_log.specs.KeySet.{empty as nobody}
-use Rattle.xa_model.specs.Trace.{Fault.InDone, Happening.Done}
+use Rattle.xa_requests.specs.declared.request.CallName.{CallName}
+use Rattle.xa_requests.specs.declared.request.Request.{Request}
+use Rattle.xa_requests.specs.declared.request.Request.TheVariants as requests
+use Rattle.xa_requests.specs.declared.response.RequestFault.TheVariants as faults
+use Rattle.xa_requests.specs.declared.response.Response.{Response}
 use Rattle.xa_requests.specs.declared.response.Response.TheVariants as responses
-use Rattle.xa_session.specs.Session.{done_all_refusal}
-use Rattle.xa_session.specs.Steps.{Finishes}
-use Rattle.xa_session.specs.declared.session.Session.{Session}
-use Rattle.xa_tm.specs.Book.{Book, Doubt.Drops, Waiting, after, after_all}
-use Rattle.xa_tm.specs.Calls.{FailsBy, book_in}
+use Rattle.xa_server.proofs.OwedSteps.{OwesTheSame, abandoned_owes, begun_owes, claimed_owes, ended_owes, finished_owes, forgotten_owes, heard_owes, issued_owes, lost_owes, open_resolved_owes, resolved_owes, same_owes, settled_owes, unfinished_owes}
+use Rattle.xa_server.specs.Calls.{answer_reply, waits_for_other}
+use Rattle.xa_server.specs.Crashes.{LosesFrom}
+use Rattle.xa_server.specs.Performing.{Does}
+use Rattle.xa_server.specs.Releasing.{ReleasesAll, ended_by}
+use Rattle.xa_server.specs.Replies.{greeting_over, response_of}
+use Rattle.xa_server.specs.Rows.{OwesAllBut, OwesRowsOf, finished_by}
+use Rattle.xa_server.specs.Standing.{LacksMemory, OnlyTells, StandsFor}
+use Rattle.xa_server.specs.declared.server.Server.{Server}
+use Rattle.xa_session.specs.Steps.{Hears}
+use Rattle.xa_tm.specs.Book.{Book, Waiting}
+use Rattle.xa_tm.specs.Calls.{book_in}
+use Rattle.xa_tm.specs.Owed.{waits_for}
 use Rattle.xa_tm.specs.Starting.{IsOld, book_at_start}
-use Rattle.xa_tm.specs.Owed.{owes, waits_for}
-use Rattle.xa_server.specs.Replies.{greeting_over}
-use Rattle.xa_server.specs.Rows.{OwesAllBut, OwesRowsOf, is_gtrid_among}
 
--- ** what is done is owed no more
+-- ** each request
 
-nothing : (s t : Bool) → (s && (t && false)) ≡ false
-nothing true true = refl
-nothing true false = refl
-nothing false t = refl
+module _ {L : Type 0} where
+  lines_owe : (rm t left : ℕ) (reply : Response) (old new : Server L) → LosesFrom rm t left old reply new → OwesTheSame old.session new.session
+  lines_owe rm t zero reply old new only = same_owes old.session new.session (ap (λ c. c.session) only.1)
+  lines_owe rm t (suc left) reply old new (next, Ok x, loses, more) = λ q b.
+      lines_owe rm (t + 1) left reply next new more q b ∙ lost_owes old.session next.session t rm (Ok x) loses.does q b
+  lines_owe rm t (suc left) reply old new (next, Err n, loses, more) = λ q b.
+      same_owes next.session new.session (ap (λ c. c.session) more.1) q b ∙ lost_owes old.session next.session t rm (Err n) loses.does q b
 
-done_owes : (k : Book) (g : Gtrid) (rm : ℕ) (b : Branch) → owes (after k (Done g)) rm b ≡ (not (gtrid_eq g b.gtrid) && owes k rm b)
-done_owes k g rm b = by (gtrid_eq g b.gtrid)
-  where
-    by : (t : Bool) → (nat_eq b.rm rm && (nat_lt b.gtrid.incarnation k.incarnation && waits_for (if t then None else k.row b.gtrid) b))
-        ≡ (not t && owes k rm b)
-    by true = nothing (nat_eq b.rm rm) (nat_lt b.gtrid.incarnation k.incarnation)
-    by false = refl
+  releases_owe : (gs : List Gtrid) (mid new : Server L) → ReleasesAll gs mid new → OwesTheSame mid.session new.session
+  releases_owe [] mid new same = same_owes mid.session new.session (ap (λ c. c.session) same)
+  releases_owe (g ∷ gs) mid new (next, inl (forgets, rest), more) = λ rm b.
+      releases_owe gs next new more rm b ∙ forgotten_owes mid.session next.session g forgets rm b
+  releases_owe (g ∷ gs) mid new (next, inr (open_still, same), more) = λ rm b.
+      releases_owe gs next new more rm b ∙ same_owes mid.session next.session (ap (λ c. c.session) same) rm b
 
-all_done_owes : (gs : List Gtrid) (k : Book) → OwesAllBut gs k (after_all k (map (λ g. Done g) gs))
-all_done_owes [] k rm b = refl
-all_done_owes (g ∷ gs) k rm b =
-    all_done_owes gs (after k (Done g)) rm b ∙ ap (λ t. not (is_gtrid_among gs b.gtrid) && t) (done_owes k g rm b)
-    ∙ both (is_gtrid_among gs b.gtrid) (gtrid_eq g b.gtrid) (owes k rm b)
-  where
-    both : (s t x : Bool) → (not s && (not t && x)) ≡ (not (t || s) && x)
-    both true true x = refl
-    both true false x = refl
-    both false true x = refl
-    both false false x = refl
+  module _ (old new : Server L) (reply : Response) where
+    done_tells : (gs : List Gtrid) (r : Result (Unit {0}) Refusal) → reply ≡ response_of (λ _. responses.Noted) r
+        → OnOk r (OwesAllBut gs (book_in old.session.manager) (book_in new.session.manager)) → OnErr r (OwesTheSame old.session new.session)
+        → OwesAllBut (finished_by (requests.Done gs) reply) (book_in old.session.manager) (book_in new.session.manager)
+    done_tells gs (Ok x) told ok err =
+        subst (λ r. OwesAllBut (finished_by (requests.Done gs) r) (book_in old.session.manager) (book_in new.session.manager)) (sym told) ok
+    done_tells gs (Err n) told ok err =
+        subst (λ r. OwesAllBut (finished_by (requests.Done gs) r) (book_in old.session.manager) (book_in new.session.manager)) (sym told) err
 
-module _ {L : Type 0} (s t : Session L) (gs : List Gtrid) where
-  pub finished_owes : (r : Result (Unit {0}) Refusal) → Finishes gs s t r → OnOk r (OwesAllBut gs (book_in s.manager) (book_in t.manager))
-  finished_owes (Ok x) does = λ rm b. ap (λ k. owes k rm b) does.done.book ∙ all_done_owes gs (book_in s.manager) rm b
-  finished_owes (Err n) does = tt
+    looked_owes : new ≡ old → OwesTheSame old.session new.session
+    looked_owes same = same_owes old.session new.session (ap (λ c. c.session) same)
 
-  pub unfinished_owes : (r : Result (Unit {0}) Refusal) → Finishes gs s t r → OnErr r (OwesAllBut [] (book_in s.manager) (book_in t.manager))
-  unfinished_owes (Ok x) does = tt
-  unfinished_owes (Err n) does = by_rule (done_all_refusal s gs) refl
-    where
-      failed : FailsBy (Drops gs) (InDone gs) (book_in s.manager) (book_in t.manager) n → OwesAllBut [] (book_in s.manager) (book_in t.manager)
-      failed (inl lacks) = λ rm b. ap (λ k. owes k rm b) lacks.1
-      failed (inr faulty) = λ rm b. ap (λ k. owes k rm b) faulty.1
+    answer_owes : (t r : ℕ) (name : CallName) (answer : Answer Xid) (other : Bool)
+        → MatchBool other (OnlyTells (responses.Fault faults.OtherCall) old reply new)
+        (StandsFor (Hears t r answer) (answer_reply (responses.Heard name.kind (answer_number answer))) old reply new ⊎ LacksMemory old reply new)
+        → OwesTheSame old.session new.session
+    answer_owes t r name answer true h = looked_owes h.1
+    answer_owes t r name answer false (inl h) = heard_owes old.session new.session t r answer h.result h.does
+    answer_owes t r name answer false (inr h) = looked_owes h.1
 
-      by_rule : (why : Option Refusal) → done_all_refusal s gs ≡ why → OwesAllBut [] (book_in s.manager) (book_in t.manager)
-      by_rule None is = failed (does.asks.fails is)
-      by_rule (Some m) is = λ rm b. ap (λ x. owes (book_in x.manager) rm b) (does.rules.refused m is).1
+    does_owe : (request : Request) → Does request old reply new
+        → OwesAllBut (finished_by request reply) (book_in old.session.manager) (book_in new.session.manager)
+    does_owe (requests.Begin t) h = begun_owes old.session new.session t h.result h.does
+    does_owe (requests.Issue t r call) h = issued_owes old.session new.session t r call h.result h.does
+    does_owe (requests.Answer t r name answer) h = answer_owes t r name answer (waits_for_other old.session.lines t r name) h
+    does_owe (requests.Decide gs o) h = ended_owes old.session new.session gs o h.result h.does
+    does_owe (requests.Claim g) h = claimed_owes old.session new.session g h.result h.does
+    does_owe (requests.Settle g) h = settled_owes old.session new.session g h.result h.does
+    does_owe (requests.Abandon g) h = abandoned_owes old.session new.session g h.result h.does
+    does_owe (requests.Done gs) h =
+        done_tells gs h.result h.told (finished_owes old.session new.session gs h.result h.does) (unfinished_owes old.session new.session gs h.result h.does)
+    does_owe (requests.Resolve r) h = resolved_owes old.session new.session r h.result h.does
+    does_owe (requests.ResolveOpen r) h = open_resolved_owes old.session new.session r h.result h.does
+    does_owe (requests.Waiting t r) h = looked_owes h.1
+    does_owe (requests.Owed r) h = looked_owes h.1
+    does_owe (requests.CrashLine t r) h = lost_owes old.session new.session t r h.result h.does
+    does_owe (requests.CrashRm r) h = lines_owe r 0 old.session.lines.threads reply old new h
+    does_owe requests.Status h = looked_owes h.1
+    does_owe requests.Quit h = looked_owes h.1
+
+  -- and what is then forgotten changes nothing of it
+  pub request_owes : (request : Request) (reply : Response) (old mid new : Server L) → Does request old reply mid → ReleasesAll (ended_by request reply) mid new
+      → OwesAllBut (finished_by request reply) (book_in old.session.manager) (book_in new.session.manager)
+  request_owes request reply old mid new does releases = λ rm b.
+      releases_owe (ended_by request reply) mid new releases rm b ∙ does_owe old mid reply request does rm b
 
 -- ** at the start
 

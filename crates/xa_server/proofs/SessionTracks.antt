@@ -122,7 +122,8 @@ module _ {L : Type 0} (laws : Laws L) (o : Origin) (seen : Seen) (old new : Sess
         (ap (λ g. g.threads) does.asks.lines)
     finished gs (Err m) does none = stayed (does.asks.stays (no_fault m none))
 
-    pub settled : (g : Gtrid) (result : Result (Unit {0}) Refusal) → Settles g old new result → is_log_fault (response_of (λ _. responses.Decided) result) ≡ false
+    pub settled : (g : Gtrid) (result : Result (Unit {0}) Refusal) → Settles g old new result
+        → is_log_fault (response_of (λ _. responses.Decided) result) ≡ false
         → Goes o (Tells n (requests.Settle g) (response_of (λ _. responses.Decided) result) seen) old new
     settled g (Ok x) does none = stepped (Decided g Outcomes.Commit) tt does.decided.follows (ap (λ g. g.threads) does.asks.lines)
     settled g (Err m) does none = stayed (does.asks.stays (no_fault m none))

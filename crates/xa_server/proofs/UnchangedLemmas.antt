@@ -1,5 +1,5 @@
 -- What isn't done changes nothing.
-use Rattle.std.proofs.Common.{◌≡◌, ◌≢◌, ◌∙◌, ◌⊎◌, inl, inr, ℕ, Bool, true, false, List, Option, Some, None, refl, sym, ap, subst}
+use Rattle.std.proofs.Common.{◌≡◌, ◌≢◌, ◌∙◌, ◌⊎◌, inl, inr, ℕ, Bool, true, false, Option, Some, None, refl, sym, ap, subst}
 use Rattle.std.specs.Prelude.{MatchBool, Result, Ok, Err, IfErr, OnErr}
 use Rattle.std.proofs.lemmas.Bool.{true≢false}
 use Rattle.xa_base.specs.Answer.{answer_number}

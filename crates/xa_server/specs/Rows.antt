@@ -27,6 +27,11 @@ is_gtrid_among gs g = list_any (λ h. gtrid_eq h g) gs
 abbrev pub OwesAllBut : List Gtrid → (old new : Book) → Type 0
 OwesAllBut gs old new = (rm : ℕ) (b : Branch) → owes new rm b ≡ (not (is_gtrid_among gs b.gtrid) && owes old rm b)
 
+-- the transactions whose rows a request takes away, if it is done
+abbrev pub finished_by : Request → Response → List Gtrid
+finished_by (requests.Done gs) responses.Noted = gs
+finished_by request reply = []
+
 -- all is owed that the rows of the log wait for
 abbrev pub OwesRowsOf : Book → Content → Type 0
 OwesRowsOf k c = (rm : ℕ) (b : Branch) → owes k rm b ≡ (nat_eq b.rm rm && contains (participants_of c b.gtrid) b)

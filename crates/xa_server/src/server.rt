@@ -4,7 +4,7 @@ ghost use Rattle.std.specs.Prelude.{◌≡◌, ◌∷◌, [], Bool, true, Err, I
 ghost use Rattle.xa_server.specs.Performing.{ChangesNothing, Does, Performs, is_not_done, is_one_step};
 ghost use Rattle.xa_server.specs.Releasing.{ended_by};
 ghost use Rattle.xa_server.specs.Replies.{greeting_of, greeting_over};
-ghost use Rattle.xa_server.specs.Rows.{LogsRows, OwesRowsOf, committed_by};
+ghost use Rattle.xa_server.specs.Rows.{LogsRows, OwesAllBut, OwesRowsOf, committed_by, finished_by};
 ghost use Rattle.xa_base.specs.declared.branch.Gtrid.{Gtrid};
 ghost use Rattle.xa_log.specs.Contract.{Honestly};
 ghost use Rattle.xa_model.specs.Trace.{Origin};
@@ -70,7 +70,7 @@ impl<L: DecisionLog + Drop> Server<L> {
             ((left : L) × IsOnlyRead L.DecisionLog log left) }
     {
         match Session::new(alloc, threads, rms, log) {
-            Ok((session, _)) => Ok(Server { alloc, session }),
+            Ok(session) => Ok(Server { alloc, session }),
             Err(fault) => Err(fault),
         }
     }
@@ -142,6 +142,9 @@ impl<L: DecisionLog + Drop> Server<L> {
         ensures performs { Performs L.moment request.now self.old result self.new }
         ensures unchanged { is_one_step request.now ≡ true → is_not_done result ≡ true →
             ChangesNothing self.old self.new }
+        // What was owed still is, except for the transactions that are done by this, and nothing more is.
+        ensures owed { OwesAllBut (finished_by request.now result)
+            (book_in self.old.session.manager) (book_in self.new.session.manager) }
         // Nothing is held of the transaction of an answered call, or of one that alone is decided or done, if it is over.
         ensures forgotten { (g : Gtrid) → ended_by request.now result ≡ g ∷ [] →
             IsOver (book_in self.new.session.manager) g →

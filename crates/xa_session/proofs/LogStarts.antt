@@ -1,58 +1,17 @@
 -- What a start finds in the log, and what is left of it.
-use Rattle.std.proofs.Common.{◌≡◌, ◌∙◌, ◌⊎◌, ◌+◌, ◌<◌, ◌≤◌, inl, inr, ℕ, Bool, true, false, Option, Some, None, IsSomeAnd, refl, ap, subst, arith}
-use Rattle.std.specs.Prelude.{Result, Ok}
+use Rattle.std.proofs.Common.{◌≡◌, ◌∙◌, ◌⊎◌, ◌+◌, ◌<◌, ◌≤◌, inl, inr, Bool, true, false, Some, IsSomeAnd, refl, ap, subst, arith}
 use Rattle.std.specs.FinMap.{get}
-use Rattle.xa_log.specs.Content.{Content, unchanged, with_bump}
-use Rattle.xa_log.specs.Contract.{Makes, Moment, Reads, one_more_fault}
-use Rattle.xa_log.specs.declared.decision_log.DecisionLog as DecisionLog
-use Rattle.xa_log.specs.declared.decision_log.LogCall.TheVariants.{Rows}
-use Rattle.xa_log.specs.declared.log_fault.LogFault.{LogFault as Fails}
-use Rattle.xa_log.specs.declared.log_rows.LogRows.{LogRows}
+use Rattle.xa_log.specs.Content.{Content, with_bump}
+use Rattle.xa_log.specs.Contract.{Moment}
 use Rattle.xa_tm.proofs.Several.Contents.{changed_at, of_same}
 use Rattle.xa_tm.proofs.Log.Leaves.{left_up}
 use Rattle.xa_tm.specs.Book.{Book, row_with}
 use Rattle.xa_tm.specs.BookAndLog.{HoldsBook, IsChangeOf, IsTied, SameRowsAndRecords, TiedBy, changed_by}
 use Rattle.xa_tm.specs.Calls.{book_in, log_in}
-use Rattle.xa_tm.specs.Started.{IsStartedOver}
 use Rattle.xa_tm.specs.Starting.{book_at_start}
-use Rattle.xa_tm.specs.StartFaults.{IsOnlyRead, IsToBlame}
 use Rattle.xa_tm.specs.declared.manager.Manager.{Manager}
 use Rattle.xa_session.specs.Logging.{HasAllOrNone, HoldsItsBook, LaterSessionsAreNewer, LeavesContent, LogsHaveAllOrNone, RowsAreHandedOn, StartsBehind}
 use Rattle.xa_session.proofs.Logging.{IsDurable}
-
--- what was read first is what a start then finds
-found : (P : Content → Type 0) (handed read : Option Content) → Makes unchanged handed read → IsSomeAnd read P → IsSomeAnd handed P
-found P None read same some = absurd same
-found P (Some c) read same some = let here : IsSomeAnd (Some c) P = subst (λ o. IsSomeAnd o P) same some in here
-
-module _ {L : Type 0} (logs : DecisionLog.Ghosts L) (handed read : L) (rows : LogRows)
-    (reads : Reads (logs.moment handed) (logs.moment read) (let r : Result LogRows Fails = Ok rows in r)) where
-  pub started_behind : (threads rms : ℕ) (m : Manager L) → IsStartedOver logs.moment threads rms (logs.moment read) m
-      → IsStartedOver logs.moment threads rms (logs.moment handed) m
-  started_behind threads rms m over = record {
-    order = λ h. over.order (reads.order h);
-    honest = λ h. reads.honest (over.honest h);
-    faults = over.faults ∙ reads.faults;
-    past = λ order honest. found _ _ _ (reads.ok order (over.honest honest)) (over.past (reads.order order) honest);
-    raised = λ order honest. found _ _ _ (reads.ok order (over.honest honest)) (over.raised (reads.order order) honest);
-    tied = λ near order honest. over.tied near (reads.order order) honest;
-    book = λ order honest. over.book (reads.order order) honest;
-  }
-
-  pub blamed_behind : IsToBlame logs read → IsToBlame logs handed
-  blamed_behind (left, inl failed) = (left, inl (failed ∙ ap one_more_fault reads.faults))
-  blamed_behind (left, inr vain) = (
-    left,
-    inr (record {
-      honest = λ h. reads.honest (vain.honest h);
-      faults = vain.faults ∙ reads.faults;
-      not_past = λ order honest. found _ _ _ (reads.ok order (vain.honest honest)) (vain.not_past (reads.order order) honest);
-      raised = λ order honest. found _ _ _ (reads.ok order (vain.honest honest)) (vain.raised (reads.order order) honest);
-    }),
-  )
-
-  pub only_read : logs.says Rows unchanged handed read None → IsOnlyRead logs handed read
-  only_read says = record { rows = record { says = says; faults = reads.faults }; same = λ order honest. reads.ok order honest }
 
 -- the book that a manager starts with is what its log has, and what a crash leaves of that
 pub start_holds : {L : Type 0} (moment : L → Moment) (near : Bool) (m : Manager L) → IsDurable moment → (book_in m).up ≡ true

@@ -12,6 +12,7 @@ pub mod Release
 pub mod News
 pub mod Outcomes
 pub mod Owed
+pub mod Reading
 pub mod Refusing
 pub mod Resolving
 pub mod BookAndLog

@@ -11,11 +11,13 @@ mod ledger;
 mod manager;
 mod news;
 mod notes;
+mod read_log;
 mod slot;
 mod swap_fault;
 
 pub use manager::Manager;
 pub use manager::restart::Found;
 pub use manager::start::StartFault;
+pub use read_log::ReadLog;
 pub use slot::Slot;
 pub use swap_fault::SwapFault;

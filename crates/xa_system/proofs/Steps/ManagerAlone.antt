@@ -164,7 +164,8 @@ module _ {R L : Type 0} (see : Sees R L) where
       → LogCalled see.moment (let x : Result (Unit {0}) Refusal = Ok tt in x) parts.manager manager
       → GoesOn see (Steps.Settle g) reply parts (with_manager see parts manager)
   settle_did parts manager g reply is none book did tr stands few =
-      did_goes see tr (Steps.Settle g) reply Replies.Decided parts manager stands tt tt (ap reply_of is) refl none refl (own_decided tr g Outcomes.Commit) refl book
+      did_goes see tr (Steps.Settle g) reply Replies.Decided parts manager stands tt tt (ap reply_of is) refl none refl
+      (own_decided tr g Outcomes.Commit) refl book
       (log_done see.moment (Decided g Outcomes.Commit) tt parts.manager manager (λ k. refl)
       (ap (λ (k : Book). k.up) book ∙ up_in see tr parts (Steps.Settle g) tt refl refl stands none) did)
 

@@ -22,7 +22,8 @@ abbrev pub script_why : (there up bad : Bool) → Option Refusal
 script_why there up bad = refusal_by there ((Refusals.RmDown, not up) ∷ (Refusals.Script, bad) ∷ [])
 
 -- a script that is refused before it is looked at is refused
-pub script_hindered : (there up at bad : Bool) (n : Refusal) → Some n ≡ script_why there up (not at) → (at ≡ false → bad ≡ true) → script_why there up bad ≡ Some n
+pub script_hindered : (there up at bad : Bool) (n : Refusal) → Some n ≡ script_why there up (not at) → (at ≡ false → bad ≡ true)
+    → script_why there up bad ≡ Some n
 script_hindered true true false bad n e else_bad = ap (script_why true true) (else_bad refl) ∙ sym e
 script_hindered true true true bad n e else_bad = absurd cc
 script_hindered true false at bad n e else_bad = sym e

@@ -12,7 +12,7 @@ use crate::ledger::room::{reserve_branch, set_branch};
 use crate::notes::BranchNotes;
 use std::alloc::{AllocError, Global};
 use std::collections::BTreeMap;
-use xa_base::{Branch, Gtrid, How, LAST_NUMBER};
+use xa_base::{Branch, Gtrid, How};
 use xa_log::LogRows;
 
 /// The participants of a transaction that stand first.

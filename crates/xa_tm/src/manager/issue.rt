@@ -1,6 +1,6 @@
 //! A call is issued on a line.
 
-ghost use Rattle.std.specs.Prelude.{◌≡◌, Option, Some, IfErr, OnOk};
+ghost use Rattle.std.specs.Prelude.{◌≡◌, Some, IfErr, OnOk};
 ghost use Rattle.std.specs.Result.{result_err};
 ghost use Rattle.xa_base.specs.Call.{map_call};
 ghost use Rattle.xa_base.specs.declared.refusal.Refusal.TheVariants as Refusals;

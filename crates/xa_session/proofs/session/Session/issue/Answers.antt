@@ -53,7 +53,10 @@ invariant_of-self-2 g c =
     let r = c.args.rm in
     let may = may_issue_so s t r c.args.call.now (sym c.in_ok-check_issue.ensures) in
     let known = known_issue (book_in s.manager) t r (map_call name_of c.args.call.now) may.book in
-    record { sized = sized_after s (book_in c.note_issued.new.self) NoDoubt (Issued (line t r) known.0) (c.in_ok-note_issued.ensures.ok (line t r) known.0 known.1) }
+    record {
+      sized = sized_after s (book_in c.note_issued.new.self) NoDoubt (Issued (line t r) known.0)
+          (c.in_ok-note_issued.ensures.ok (line t r) known.0 known.1);
+    }
 
 pub returns-clause-issues : goal.returns-clause-issues
 returns-clause-issues g c =

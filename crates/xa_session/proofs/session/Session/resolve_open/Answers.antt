@@ -76,7 +76,11 @@ returns-clause-resolves g c =
       resolved = record {
         book = c.in_ok-calls.ensures.ok;
         follows =
-            record { leads = open_resolved_follows s _ r c.resolve_open_len-count.result none c.in_ok-calls.ensures.ok waits; counted = refl; states = λ b. refl };
+            record {
+              leads = open_resolved_follows s _ r c.resolve_open_len-count.result none c.in_ok-calls.ensures.ok waits;
+              counted = refl;
+              states = λ b. refl;
+            };
       };
       log = c.in_ok-calls.ensures.log;
     }

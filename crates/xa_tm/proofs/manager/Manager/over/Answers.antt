@@ -19,11 +19,11 @@ use Rattle.xa_tm.specs.Starting.{IsOld, ended_among, loaded, book_at_start}
 use Rattle.xa_tm.proofs.History.Starts.{in_incarnation, raised_over, start_old, start_sound, start_tied, started_over}
 use Rattle.xa_tm.proofs.History.LoadedRows.{loaded_own}
 use Rattle.xa_tm.proofs.Log.Pasts.{not_past, past_of}
-use Rattle.xa_tm.proofs.manager.Manager.new.Goals as goal
+use Rattle.xa_tm.proofs.manager.Manager.over.Goals as goal
 
 pub returns-then-can_start-clause-started : goal.returns-then-can_start-clause-started
 returns-then-can_start-clause-started g c =
-    let rows = c.in_ok-rows.rows in
+    let rows = c.args.read.rows in
     let some : length rows.decisions.items < 2 ^ 64 - 1 = omega arith in
     let few : length rows.heuristics.items < 2 ^ 64 - 1 = omega arith in
     let some_rows : length rows.decisions.items ≤ last_number = omega arith in
@@ -57,29 +57,29 @@ returns-then-can_start-clause-started g c =
 pub returns-then-can_start-clause-over : goal.returns-then-can_start-clause-over
 returns-then-can_start-clause-over g c =
     let moment = g.L.DecisionLog.moment in
-    let rows = c.in_ok-rows.rows in
+    let rows = c.args.read.rows in
     let i = c.in_ok-incarnation.incarnation in
-    let handed = (moment c.args.log).content in
-    let read = (moment c.rows.new.self).content in
+    let handed = (moment c.args.read.handed.value).content in
+    let read = (moment c.args.read.log).content in
     let new = (moment c.bump.new.self).content in
     let bumped = c.in_ok-incarnation.ensures.changes in
     let is = ap as_book c.in_incarnation-ledger.ensures ∙
     in_incarnation c.in_ok-ledger.ledger i c.args.threads c.args.rms (loaded rows.decisions.items rows.participants.items)
     (length rows.decisions.items) (ended_among rows.heuristics.items) (length rows.heuristics.items) c.in_ok-ledger.ensures in
-    let raised = λ (order : (moment c.args.log).is_in_order) (honest : (moment c.bump.new.self).is_honest).
+    let raised = λ (order : (moment c.args.read.handed.value).is_in_order) (honest : (moment c.bump.new.self).is_honest).
     raised_over c.args.threads c.args.rms i rows.decisions.items rows.participants.items rows.heuristics.items handed read new
-    (c.in_ok-rows.ensures.reads.ok order (bumped.honest honest)) (bumped.ok (c.in_ok-rows.ensures.reads.order order) honest) in
-    let book = λ (order : (moment c.args.log).is_in_order) (honest : (moment c.bump.new.self).is_honest).
+    (c.requires.reads.ok order (bumped.honest honest)) (bumped.ok (c.requires.reads.order order) honest) in
+    let book = λ (order : (moment c.args.read.handed.value).is_in_order) (honest : (moment c.bump.new.self).is_honest).
     subst (λ k. IsSomeAnd new (λ c'. k ≡ book_at_start c.args.threads c.args.rms c')) (sym is)
     (started_over c.args.threads c.args.rms i rows.decisions.items rows.participants.items rows.heuristics.items handed read new
-    (c.in_ok-rows.ensures.decisions order (bumped.honest honest)) (c.in_ok-rows.ensures.participants order (bumped.honest honest))
-    (c.in_ok-rows.ensures.heuristics order (bumped.honest honest)) (c.in_ok-rows.ensures.reads.ok order (bumped.honest honest))
-    (bumped.ok (c.in_ok-rows.ensures.reads.order order) honest) (c.in_ok-incarnation.ensures.answer (c.in_ok-rows.ensures.reads.order order) honest)
-    (λ content is. g.met.L.DecisionLog.own c.args.log content order is)) in
+    (c.requires.decisions order (bumped.honest honest)) (c.requires.participants order (bumped.honest honest))
+    (c.requires.heuristics order (bumped.honest honest)) (c.requires.reads.ok order (bumped.honest honest))
+    (bumped.ok (c.requires.reads.order order) honest) (c.in_ok-incarnation.ensures.answer (c.requires.reads.order order) honest)
+    (λ content is. g.met.L.DecisionLog.own c.args.read.handed.value content order is)) in
     record {
-      order = λ order. bumped.order (c.in_ok-rows.ensures.reads.order order);
-      honest = λ honest. c.in_ok-rows.ensures.reads.honest (bumped.honest honest);
-      faults = bumped.faults ∙ c.in_ok-rows.ensures.reads.faults;
+      order = λ order. bumped.order (c.requires.reads.order order);
+      honest = λ honest. c.requires.reads.honest (bumped.honest honest);
+      faults = bumped.faults ∙ c.requires.reads.faults;
       past = λ order honest. past_of c.args.threads c.args.rms _ handed new (raised order honest) (book order honest)
           (returns-then-can_start-clause-started g c).old;
       raised = raised;
@@ -89,43 +89,31 @@ returns-then-can_start-clause-over g c =
 
 -- ** the faults
 
-pub returns-in_err-rows-clause-log_fault : goal.returns-in_err-rows-clause-log_fault
-returns-in_err-rows-clause-log_fault g c = λ is. (c.rows.new.self, inl c.in_err-rows.ensures.reads.faults)
-
-pub returns-in_err-ledger-clause-memory_fault : goal.returns-in_err-ledger-clause-memory_fault
-returns-in_err-ledger-clause-memory_fault g c = λ is. (
-  c.rows.new.self,
-  record {
-    rows = record { says = c.in_ok-rows.ensures.cause; faults = c.in_ok-rows.ensures.reads.faults };
-    same = λ order honest. c.in_ok-rows.ensures.reads.ok order honest;
-  },
-)
-
 pub returns-in_err-incarnation-clause-log_fault : goal.returns-in_err-incarnation-clause-log_fault
 returns-in_err-incarnation-clause-log_fault g c =
-    λ is. (c.bump.new.self, inl (c.in_err-incarnation.ensures.changes.faults ∙ ap one_more_fault c.in_ok-rows.ensures.reads.faults))
+    λ is. (c.bump.new.self, inl (c.in_err-incarnation.ensures.changes.faults ∙ ap one_more_fault c.requires.reads.faults))
 
-pub returns-else-can_start-clause-log_fault : goal.returns-else-can_start-clause-log_fault
-returns-else-can_start-clause-log_fault g c = λ is.
-    let rows = c.in_ok-rows.rows in
+pub returns-clause-log_fault : goal.returns-clause-log_fault
+returns-clause-log_fault g c = λ is.
+    let rows = c.args.read.rows in
     let i = c.in_ok-incarnation.incarnation in
-    let handed = (g.L.DecisionLog.moment c.args.log).content in
-    let mid = (g.L.DecisionLog.moment c.rows.new.self).content in
+    let handed = (g.L.DecisionLog.moment c.args.read.handed.value).content in
+    let mid = (g.L.DecisionLog.moment c.args.read.log).content in
     let bumped = c.in_ok-incarnation.ensures.changes in (
       c.bump.new.self,
       inr (record {
-        honest = λ honest. c.in_ok-rows.ensures.reads.honest (bumped.honest honest);
-        faults = bumped.faults ∙ c.in_ok-rows.ensures.reads.faults;
+        honest = λ honest. c.requires.reads.honest (bumped.honest honest);
+        faults = bumped.faults ∙ c.requires.reads.faults;
         not_past = λ order honest.
             let still = bumped.honest honest in
             not_past i rows.decisions.items rows.heuristics.items handed mid
-            (c.in_ok-rows.ensures.decisions order still) (c.in_ok-rows.ensures.heuristics order still) (c.in_ok-rows.ensures.reads.ok order still)
-            (c.in_ok-incarnation.ensures.answer (c.in_ok-rows.ensures.reads.order order) honest)
-            (λ content is. g.met.L.DecisionLog.fits c.args.log content order is)
+            (c.requires.decisions order still) (c.requires.heuristics order still) (c.requires.reads.ok order still)
+            (c.in_ok-incarnation.ensures.answer (c.requires.reads.order order) honest)
+            (λ content is. g.met.L.DecisionLog.fits c.args.read.handed.value content order is)
             (sym c.can_start.ensures ∙ c.if-can_start.false);
         raised = λ order honest.
             raised_over c.args.threads c.args.rms i rows.decisions.items rows.participants.items rows.heuristics.items
             handed mid (g.L.DecisionLog.moment c.bump.new.self).content
-            (c.in_ok-rows.ensures.reads.ok order (bumped.honest honest)) (bumped.ok (c.in_ok-rows.ensures.reads.order order) honest);
+            (c.requires.reads.ok order (bumped.honest honest)) (bumped.ok (c.requires.reads.order order) honest);
       }),
     )
