@@ -1,5 +1,5 @@
 -- A run of one scenario: of processes of one plan there is the first one, and no other.
-use Rattle.std.proofs.Common.{◌≡◌, ◌∙◌, ◌≤◌, ◌+◌, ◌⊎◌, ℕ, Bool, List, [], ◌∷◌, ◌++◌, length, length-append, Option, Ok, IsOk, inl, inr, arith, append-nil, ap, refl, subst, sym}
+use Rattle.std.proofs.Common.{◌≡◌, ◌∙◌, ◌≤◌, ◌⊎◌, ℕ, Bool, List, [], ◌∷◌, ◌++◌, length, length-append, Option, Ok, IsOk, inl, inr, arith, append-nil, ap, refl, subst, sym}
 use Rattle.std.specs.Io.KnownBytes.{Keeps}
 use Rattle.std.specs.Map.{keys_of}
 use Rattle.xa_base.specs.Xid.{Xid}

@@ -1,4 +1,4 @@
-use Rattle.std.proofs.Common.{[], subst}
+use Rattle.std.proofs.Common.{subst}
 use Rattle.xa_scenario.specs.Processes.{HasPlayed}
 use Rattle.xa_scenario_file.specs.Scenarios.{plan_of}
 use Rattle.xa_scenario.proofs.ProcessLemmas.{first_stands, still_counted}

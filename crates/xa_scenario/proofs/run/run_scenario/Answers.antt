@@ -37,9 +37,11 @@ returns-in_err-scenario-clause-log g c =
     rw (p.1, p.2) (λ is. absurd (not_of_log c.in_err-scenario.field-0.0 c.args.text.now c.in_err-scenario.ensures.read (same_err _ _ is)))
 
 pub run_scenarios-requires : goal.run_scenarios-requires
-run_scenarios-requires g c =
-    subst (λ scenarios. AreOfOneSize (map plan_of scenarios)) (sym c.from_ref.ensures.value)
-    (of_one_size (plan_of c.in_ok-scenario.scenario) c.in_ok-scenario.ensures.sized)
+run_scenarios-requires g c = record {
+  alike =
+      subst (λ scenarios. AreOfOneSize (map plan_of scenarios)) (sym c.from_ref.ensures.value)
+      (of_one_size (plan_of c.in_ok-scenario.scenario) c.in_ok-scenario.ensures.sized);
+}
 
 pub returns-in-Ok-clause-ok : goal.returns-in-Ok-clause-ok
 returns-in-Ok-clause-ok g c =
