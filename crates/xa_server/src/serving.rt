@@ -1,8 +1,9 @@
 //! The loop over the lines of a driver.
 
-ghost use Rattle.std.specs.Prelude.{◌≡◌, ◌<◌, ◌&&◌, length, map, not, IfOk, OnErr, OnOk};
+ghost use Rattle.std.specs.Prelude.{◌≡◌, ◌==◌, ◌<◌, ◌&&◌, length, map, not, IfOk, OnErr, OnOk};
 ghost use Rattle.std.specs.Io.Buffered.{reader_remaining};
 ghost use Rattle.std.specs.Io.KnownBytes.{Keeps};
+ghost use Rattle.std.specs.List.{list_any};
 ghost use Rattle.xa_server.specs.Replies.{greeting_of};
 ghost use Rattle.xa_server.specs.Lines.{asked_in, requests_in};
 ghost use Rattle.xa_server.specs.NamedLines.{BreaksSessionUnder, ServesUnder, line_read};
@@ -61,14 +62,21 @@ fn ends_line(reply: &Response) -> bool
     )
 }
 
-/// Flushes what was written, unless a whole line was read ahead: then no input is waited for.
+/// Whether what was read ahead holds a whole line, so that no input is waited for.
+fn holds_line(ahead: &[u8]) -> bool
+    ensures { result ≡ list_any (λ byte. byte == 10) ahead.now }
+{
+    ahead.contains(&b'\n')
+}
+
+/// Flushes what was written, unless a whole line was read ahead.
 fn flush_before_waiting<R: Read, W: Write>(
     input: &BufReader<R>,
     output: &mut W,
 ) -> Result<(), ServeFault>
     ensures { Keeps (W.contents output.old) (W.contents output.new) }
 {
-    if input.buffer().contains(&b'\n') {
+    if holds_line(input.buffer()) {
         return Ok(());
     }
     match output.flush() {
