@@ -5,7 +5,6 @@ import static org.junit.Assert.assertFalse;
 import static org.junit.Assert.assertThrows;
 import static org.junit.Assert.assertTrue;
 
-import java.nio.file.Files;
 import java.util.ArrayList;
 import java.util.HashSet;
 import java.util.List;
@@ -291,14 +290,14 @@ public class TransactionsTest {
 
     @Test
     public void decidesTogetherWhatIsAskedForMeanwhile() throws Exception {
-        Files.writeString(world.folder.resolve("slow"), "");
+        world.put("slow", "");
         ExecutorService pool = Executors.newFixedThreadPool(4);
         try {
             assertEquals(0, refusedOf(pool));
             assertEquals(40, world.a.committed.size());
             assertTrue(world.requests().stream().anyMatch(it -> it.startsWith("decide ") && it.split(" ").length > 3));
             // None of them is decided with one that is refused. Each is then asked for alone.
-            Files.writeString(world.folder.resolve("refuse-at"), "decide ");
+            world.put("refuse-at", "decide ");
             int refused = refusedOf(pool);
             assertTrue("refused: " + refused, refused <= 1);
             assertEquals(80 - refused, world.a.committed.size());

@@ -3,6 +3,7 @@ package garterfossil;
 import java.io.IOException;
 import java.nio.file.Files;
 import java.nio.file.Path;
+import java.nio.file.StandardCopyOption;
 import java.time.Duration;
 import java.util.ArrayList;
 import java.util.List;
@@ -67,14 +68,20 @@ final class World extends ExternalResource {
             transaction = begin();
             transaction.enlist(a);
         }
-        Files.writeString(folder.resolve("refuse-at"), request);
+        put("refuse-at", request);
         transaction.enlist(b);
         return transaction;
     }
 
     /** The coordinator ends at this request. */
     void dieAt(String moment) throws IOException {
-        Files.writeString(folder.resolve("die-at"), moment);
+        put("die-at", moment);
+    }
+
+    /** Writes a file of the stand-in's folder, which never finds it empty. */
+    void put(String name, String text) throws IOException {
+        Path made = Files.writeString(folder.resolve(name + ".new"), text);
+        Files.move(made, folder.resolve(name), StandardCopyOption.ATOMIC_MOVE);
     }
 
     List<String> requests() throws IOException {
