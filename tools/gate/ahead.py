@@ -1,12 +1,13 @@
 """Edits that are tried while rt ci still proves other crates."""
 
+import contextlib
 import os
 import re
 import subprocess
 import threading
 from collections import deque
 
-from .machine import BYTES_A_JOB, free_bytes, processors
+from .machine import BYTES_A_JOB, BYTES_A_PROOF, free_bytes, processors
 
 # What rt ci prints of a crate that it has proved in this run.
 PROVED = re.compile(r"rt: (\w+) proved$")
@@ -18,8 +19,8 @@ class Ahead:
 
     # How often is looked whether there is room for one more, in seconds.
     LOOKS = 5
-    # One is begun where a proof may still take BYTES_A_PROOF beside it; all are ended where less than LEAST is left.
-    BYTES_A_PROOF, LEAST = 5_000_000_000, 2_000_000_000
+    # One is begun where there is room for it and for one proof more; all are ended where less than this is left.
+    LEAST = 2_000_000_000
 
     def __init__(self, tool, running):
         self.tool, self.running, self.crates, self.runs = tool, running, deque(), {}
@@ -44,15 +45,19 @@ class Ahead:
 
     def has_room(self):
         is_idle = os.getloadavg()[0] < processors() - 0.5
-        return is_idle and free_bytes() > self.BYTES_A_PROOF + BYTES_A_JOB
+        return is_idle and free_bytes() > BYTES_A_PROOF + BYTES_A_JOB
 
     def begin(self, crate):
         words = ["nice", "-n", "19", self.tool, "--proved", "--jobs", "1", crate]
         quiet = {"stdout": subprocess.DEVNULL, "stderr": subprocess.DEVNULL}
         try:
-            self.runs[crate] = self.running.start(words, **quiet)
+            run = self.runs[crate] = self.running.start(words, **quiet)
         except InterruptedError:
             self.ends.set()
+            return
+        # Linux may divide the processors among sessions first: then nice counts only within one.
+        with contextlib.suppress(OSError), open(f"/proc/{run.pid}/autogroup", "w", encoding="utf-8") as it:
+            it.write("19")
 
     def end_runs(self):
         for it in self.runs.values():

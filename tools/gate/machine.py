@@ -8,7 +8,8 @@ import subprocess
 import sys
 import time
 
-BYTES_A_JOB = 3 << 30
+# What a check with an edit takes at most, and a proof by rt ci.
+BYTES_A_JOB, BYTES_A_PROOF = 3 << 30, 5_000_000_000
 
 
 def processors():
