@@ -1,6 +1,6 @@
 -- Processes one after another.
-use Rattle.std.proofs.Common.{◌≡◌, ◌<◌, ◌≤◌, ◌+◌, ◌++◌, ◌∙◌, ℕ, zero, suc, arith, List, [], ◌∷◌, length, map, take, refl, sym, ap, subst}
-use Rattle.std.proofs.lemmas.List.{map-append}
+use Rattle.std.proofs.Common.{◌≡◌, ◌<◌, ◌≤◌, ◌+◌, ◌++◌, ◌∙◌, ℕ, arith, List, [], ◌∷◌, length, map, take, refl, sym, ap, subst}
+use Rattle.std.proofs.lemmas.List.{map_more}
 use Rattle.std.specs.Prelude.{IfOk, IfSome, IsOk, IsSomeAnd, OnErr, OnOk, Option, Some, None, Result, Ok, Err, slice_index_or}
 use Rattle.xa_base.specs.Xid.{Xid}
 use Rattle.xa_base.specs.declared.refusal.Refusal.{Refusal}
@@ -17,7 +17,7 @@ use Rattle.xa_system.specs.SystemView.{AddsSteps, HoldsItsTrace, MayRestart, Obs
 use Rattle.xa_system.specs.declared.remains.Remains.{Remains}
 use Rattle.xa_system.specs.declared.system.TheConstants.{EVENT_LIMIT}
 use Rattle.xa_tm.specs.Slots.{honest_in, last_out, log_held, slot_moment}
-use Rattle.uses.proofs.Results.{there_is}
+use Rattle.xa_sql_log.proofs.FoundDecisions.{some_is as there_is}
 use Rattle.uses.specs.Processes.{AreDone, AreProcesses, HaveRun.First, HaveRun.Next, IsEndOf, IsLastOf}
 use Rattle.xa_rm.specs.Look.{Look}
 
@@ -121,14 +121,7 @@ module _ {R L : Type 0} (look : R → Look) (moment : L → Moment) where
 
 -- ** any number of processes
 
-take_more : {A : Type 0} (xs : List A) (i : ℕ) (d : A) → i < length xs → take (suc i) xs ≡ take i xs ++ slice_index_or xs i d ∷ []
-take_more [] i d low = absurd (omega (arith, low))
-take_more (x ∷ xs) zero d low = refl
-take_more (x ∷ xs) (suc i) d low = ap (λ l. x ∷ l) (take_more xs i d (omega (arith, low)))
-
 -- the lists of the processes so far, and one more
 pub lists_more : {A B : Type 0} (f : A → B) (xs : List A) (i : ℕ) (x : A) → i < length xs → x ≡ slice_index_or xs i x
     → map f (take i xs) ++ f x ∷ [] ≡ map f (take (i + 1) xs)
-lists_more f xs i x low is =
-    let next : suc i ≡ i + 1 = omega arith in
-    sym (map-append f (take i xs) (x ∷ [])) ∙ ap (λ y. map f (take i xs ++ y ∷ [])) is ∙ ap (map f) (sym (take_more xs i x low) ∙ ap (λ n. take n xs) next)
+lists_more f xs i x low is = ap (λ y. map f (take i xs) ++ f y ∷ []) is ∙ sym (map_more f xs i x low)

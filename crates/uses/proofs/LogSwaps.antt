@@ -20,7 +20,7 @@ use Rattle.xa_system.specs.declared.system.TheConstants.{EVENT_LIMIT}
 use Rattle.xa_tm.specs.Slots.{LooksAt, TakesIn, content_in, faults_in, honest_in, last_out, leaves_in, log_held, order_in, slot_moment}
 use Rattle.xa_tm.specs.declared.swap_fault.SwapFault.{SwapFault}
 use Rattle.xa_tm.specs.declared.swap_fault.SwapFault.TheVariants as Faults
-use Rattle.uses.proofs.Results.{there_is}
+use Rattle.xa_sql_log.proofs.FoundDecisions.{some_is as there_is}
 use Rattle.uses.specs.Crashes.{IsLeftByCrash}
 use Rattle.xa_rm.specs.Look.{Look}
 

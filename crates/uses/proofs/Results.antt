@@ -1,5 +1,5 @@
 -- What facts of a result come to.
-use Rattle.std.specs.Prelude.{◌≡◌, IfErr, IfSome, IsSomeAnd, Err, None, Ok, Option, Result, Some, refl}
+use Rattle.std.specs.Prelude.{IfErr, IfSome, Err, None, Ok, Option, Result, Some}
 
 pub from_both_err : {A E : Type 0} (result : Result A E) (P Q To : E → Type 0) → ((e : E) → P e → Q e → To e) → IfErr result P → IfErr result Q
     → IfErr result To
@@ -9,8 +9,3 @@ from_both_err (Err e) P Q To both p q = both e p q
 pub for_some : {A : Type 0} (o : Option A) (P To : A → Type 0) → ((x : A) → P x → To x) → IfSome o P → IfSome o To
 for_some (Some x) P To so p = so x p
 for_some None P To so p = tt
-
--- what there is, of which this holds
-pub there_is : {A : Type 0} (o : Option A) (P : A → Type 0) → IsSomeAnd o P → (x : A) × (o ≡ Some x) × P x
-there_is (Some x) P holds = (x, refl, holds)
-there_is None P holds = absurd holds

@@ -5,8 +5,8 @@ use Rattle.xa_base.specs.declared.branch.Gtrid.{Gtrid}
 use Rattle.xa_base.specs.HeldBranch.{new_branch}
 use Rattle.xa_base.specs.Scan.{Scan.NotOpen}
 use Rattle.xa_server.proofs.LogLemmas.{replies_keep}
-use Rattle.xa_server.proofs.SessionChains.{none_there, raised_from}
-use Rattle.xa_server.proofs.VoteLemmas.{split_replies}
+use Rattle.xa_server.proofs.LogStarts.{none_there, raised_from}
+use Rattle.xa_server.proofs.TurnLemmas.{split_replies}
 use Rattle.xa_server.specs.Replies.{greeting_of}
 use Rattle.xa_server.specs.Serving.{HaveReplies, RepliesTo, Serves, replies_given, replies_text, requests_done, told_in}
 use Rattle.xa_server.specs.Sessions.{IsEmptyLog, StartsOver}
@@ -66,8 +66,8 @@ is_served moment threads rms handed old new text unread before written starts or
       read = serves.read;
       unread = unread;
       start = start;
-      decisions = old.decisions;
-      heuristics = old.heuristics;
+      decisions = (book_in old.session.manager).rows;
+      heuristics = (book_in old.session.manager).records;
       turns = serves.turns;
       seen = so.seen;
       threads_are = refl;

@@ -10,7 +10,7 @@ use Rattle.xa_base.specs.declared.branch.Gtrid.{Gtrid}
 use Rattle.xa_log.specs.Content.{Content, nothing, with_bump, with_commit, with_decision}
 use Rattle.xa_log.specs.Contract.{Moment}
 use Rattle.xa_log.specs.KeySet.{from_list}
-use Rattle.xa_scenario.specs.Runs.{Prints}
+use Rattle.xa_scenario.specs.Runs.{IsTextOf, Prints}
 use Rattle.xa_system.specs.LogInHistory.{StartsOver}
 use Rattle.uses.specs.Starts.{PrintsAfter}
 
@@ -32,16 +32,17 @@ pub prints_after : {L : Type 0} (moment : L → Moment) (log : L) (g : Gtrid) (p
     → ((l : L) → (moment l).is_honest) → (moment log).is_in_order → (moment log).content ≡ Some (one_row g participants)
     → Prints moment log text true (Some []) (Some out) → PrintsAfter g participants text out
 prints_after moment log g participants text out honest order holds prints =
-    let over : StartsOver prints.origin (with_decision g (from_list participants) (with_bump nothing)) =
-    subst (λ (c : Option Content). IsSomeAnd c (StartsOver prints.origin)) (holds ∙ ap Some (is_written g participants))
-    (prints.over.held order (honest prints.over.left)) in
+    let it = prints.1 in
+    let over : StartsOver it.origin (with_decision g (from_list participants) (with_bump nothing)) =
+    subst (λ (c : Option Content). IsSomeAnd c (StartsOver it.origin)) (holds ∙ ap Some (is_written g participants))
+    (it.over.held order (honest it.over.left)) in
     record {
-      plan = prints.plan;
-      origin = prints.origin;
-      reads = prints.reads;
+      plan = it.plan;
+      origin = it.origin;
+      reads = it.reads;
       incarnation = over.incarnation;
       row = sym (over.rows.rows g) ∙ row_there g participants;
-      run = prints.run;
+      run = subst (IsTextOf it.plan true it.origin) (sym prints.2) it.run;
     }
 
 pub prints_if_ok : {L V E : Type 0} (moment : L → Moment) (log : L) (g : Gtrid) (participants : List Branch) (text : List ℕ) (bytes : V

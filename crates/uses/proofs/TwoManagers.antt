@@ -20,6 +20,7 @@ use Rattle.xa_monitor.specs.Explained.{HasOnlyOlderRows}
 use Rattle.xa_monitor.specs.Seen.{Seen, Seen.Start}
 use Rattle.uses.proofs.Sessions.{begins_so, start_of}
 use Rattle.uses.specs.Managers.{AreServedApart, IsServedFrom, IsServedUnder, TellApart}
+use Rattle.xa_tm.specs.Calls.{book_in}
 
 -- what is left of a text that was known is known
 pub known_left : {L : Type 0} (text : List ℕ) (left : Option (List ℕ)) (moment : L → Moment) (name : List ℕ) (greeting : Response)
@@ -80,8 +81,8 @@ module _ {L : Type 0} (moment : L → Moment) where
           read = is.serves.read;
           unread = is.unread;
           start = start;
-          decisions = is.first.decisions;
-          heuristics = is.first.heuristics;
+          decisions = (book_in is.first.session.manager).rows;
+          heuristics = (book_in is.first.session.manager).records;
           turns = is.serves.turns;
           seen = so.seen;
           threads_are = refl;

@@ -20,14 +20,14 @@ use Rattle.xa_log.specs.Contract.{Honestly, Moment}
 use Rattle.xa_model.specs.Promises.Agreement.{IsUndone}
 use Rattle.xa_model.specs.Trace.{Branch, Line}
 use Rattle.xa_requests.specs.declared.response.Response.{Response}
-use Rattle.xa_session.proofs.Logging.{later_sessions_are_newer}
+use Rattle.xa_session.proofs.LogStarts.{later_sessions_are_newer}
 use Rattle.xa_session.specs.Logging.{HoldsItsBook, KeepsLog}
 use Rattle.xa_monitor.specs.Agreement.{MayAllStand, MayAllStand.AsTold}
 use Rattle.xa_monitor.specs.Seen.{Seen, Seen.Start}
 use Rattle.xa_monitor.specs.Sessions.{IsCommitting}
 use Rattle.xa_monitor.specs.Standings.{Comes}
 use Rattle.xa_tm.specs.Calls.{book_in, log_in}
-use Rattle.uses.proofs.Results.{there_is}
+use Rattle.xa_sql_log.proofs.FoundDecisions.{some_is as there_is}
 use Rattle.uses.specs.Sessions.{AreServedTo, AreServedTwice, EndDecided, EndedAlone, EndsCommitted, IsReplied, IsServedOver, IsServedTwice}
 use Rattle.uses.proofs.Sessions.{start_of, begins_so, rows_logged}
 

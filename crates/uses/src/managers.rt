@@ -7,8 +7,9 @@ use crate::serve::{SessionFault, whole};
 use std::alloc::Global;
 use xa_log::DecisionLog;
 use xa_names::ManagerName;
-use xa_server::{Server, managers_stay_apart, replies_are_tracked, served_databases_agree};
-use xa_session::starts_are_tracked;
+use xa_server::Server;
+use xa_server::laws::{managers_stay_apart, replies_are_tracked, served_databases_agree};
+use xa_session::laws::starts_are_tracked;
 
 /// Serves a driver that writes this text, by a manager of this name over this log, and gives what was written for it.
 fn served_under<L: DecisionLog + Drop>(

@@ -12,9 +12,8 @@ ghost use Rattle.xa_log.specs.Contract.{Honestly};
 use std::alloc::Global;
 use std::io::BufReader;
 use xa_log::{DecisionLog, MemLog};
-use xa_server::{
-    ServeFault, Server, served_databases_agree, served_sessions_agree, voted_commits_are_logged,
-};
+use xa_server::laws::{served_databases_agree, served_sessions_agree, voted_commits_are_logged};
+use xa_server::{ServeFault, Server};
 use xa_tm::StartFault;
 
 /// Why a driver isn't served.

@@ -5,6 +5,9 @@ use Rattle.std.specs.Option.{option_or}
 pub some_is : {A : Type 0} (x y : A) → Some x ≡ Some y → x ≡ y
 some_is x y e = cc
 
+pub err_is : {A E : Type 0} (m n : E) → (let x : Result A E = Err m in x) ≡ Err n → m ≡ n
+err_is m n e = cc
+
 pub or_none : {A : Type 0} (o : Option A) → option_or o None ≡ o
 or_none None = refl
 or_none (Some x) = refl

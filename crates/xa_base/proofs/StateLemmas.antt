@@ -41,3 +41,17 @@ broken_in_doubt RolledBack = refl
 broken_in_doubt Lost = refl
 broken_in_doubt ReadOnly = refl
 broken_in_doubt (Forgotten how) = refl
+
+-- a line that broke may break again
+pub broken_twice : (s : Standing) → broken (broken s) ≡ broken s
+broken_twice Unstarted = refl
+broken_twice Active = refl
+broken_twice Idle = refl
+broken_twice Prepared = refl
+broken_twice RollbackOnly = refl
+broken_twice (Completed how) = refl
+broken_twice Committed = refl
+broken_twice RolledBack = refl
+broken_twice Lost = refl
+broken_twice ReadOnly = refl
+broken_twice (Forgotten how) = refl

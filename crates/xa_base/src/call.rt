@@ -2,7 +2,7 @@
 ghost use Rattle.std.specs.Prelude.{◌≡◌, false, IfErr};
 ghost use Rattle.std.specs.Option.{option_copied};
 ghost use Rattle.std.specs.Result.{result_ok};
-ghost use Rattle.xa_base.specs.Call.{CallsHaveTheirParts, flags_of};
+ghost use Rattle.xa_base.specs.Call.{flags_of};
 ghost use Rattle.xa_base.specs.declared.code.Code.TheVariants.{Invalid};
 
 use crate::flags::WHOLE_SCAN;
@@ -290,8 +290,3 @@ pub(crate) fn flags_of<X>(call: &Call<X>) -> u32
         _ => TMNOFLAGS,
     }
 }
-
-/// The call of some parts is the one that has them, wherever there is one.
-pub fn calls_have_their_parts()
-    ensures { CallsHaveTheirParts }
-{}

@@ -1,6 +1,6 @@
 //! What to do about a fault, where it is plain what was meant.
 
-use crate::allowed::words_at;
+use crate::allowed::{call_names, words_at};
 use crate::finding::InWords;
 use crate::nearest::nearest;
 use std::alloc::Global;
@@ -59,12 +59,23 @@ fn of_key(
     Ok(None)
 }
 
+/// The name of a call that a word is nearest to, with or without its prefix.
+fn nearest_call(alloc: Global, word: &str) -> Result<Option<&'static str>, Memory> {
+    let names = call_names();
+    match nearest(alloc, word, &names)? {
+        Some(near) => Ok(Some(near)),
+        None => {
+            let prefixed = format!(in alloc; "xa_{word}")?;
+            nearest(alloc, prefixed.as_str(), &names)
+        }
+    }
+}
+
 /// What is said of a word that isn't one of those that a key has, or `is`.
 fn of_word(alloc: Global, key: &str, has: &str, word: &str) -> Result<Option<String>, Memory> {
-    let call = format!(in alloc; "xa_{word}")?;
-    let near = match nearest(alloc, word, words_at(key))? {
-        None if key == "xa" => nearest(alloc, call.as_str(), words_at(key))?,
-        near => near,
+    let near = match key {
+        "xa" => nearest_call(alloc, word)?,
+        _ => nearest(alloc, word, words_at(key))?,
     };
     if let Some(near) = near {
         return Ok(Some(format!(in alloc; "{key} {has} {word:?}; did you mean {near}?")?));

@@ -1,7 +1,8 @@
 //! What is allowed, in words.
 
 use std::fmt;
-use xa_base::CallKind;
+use xa_base::{CallKind, MAX_RMS, MAX_THREADS};
+use xa_files::CALL_KINDS;
 
 /// The words of entries.
 const ENTRIES: &[&str] = &[
@@ -26,19 +27,6 @@ const ENTRIES: &[&str] = &[
     "resolve-open",
 ];
 
-/// The names of calls.
-const CALLS: &[&str] = &[
-    "xa_open",
-    "xa_close",
-    "xa_start",
-    "xa_end",
-    "xa_prepare",
-    "xa_commit",
-    "xa_rollback",
-    "xa_forget",
-    "xa_recover",
-];
-
 /// The names of flags.
 const FLAGS: &[&str] = &[
     "TMNOFLAGS",
@@ -50,11 +38,15 @@ const FLAGS: &[&str] = &[
     "TMONEPHASE",
 ];
 
-/// The words that a key may hold, where it holds a word.
+/// The names of calls.
+pub fn call_names() -> [&'static str; 9] {
+    CALL_KINDS.map(|kind| kind.name())
+}
+
+/// The words that a key may hold, where it holds a word other than the name of a call.
 pub fn words_at(key: &str) -> &'static [&'static str] {
     match key {
         "do" => ENTRIES,
-        "xa" => CALLS,
         "flags" => FLAGS,
         "vote" => &[
             "ok", "ro", "100", "101", "102", "103", "104", "105", "106", "107",
@@ -72,7 +64,6 @@ pub fn words_at(key: &str) -> &'static [&'static str] {
 /// What a key may hold that holds no word.
 fn other_at(key: &str) -> &'static str {
     match key {
-        "threads" | "rms" => "an integer from 1 to 8",
         "step" | "job" => "an array of tables",
         "sweep" => "true or false",
         "thread" | "rm" | "of" => "an integer from 0 to 4294967295",
@@ -105,6 +96,12 @@ pub fn write_list<W: fmt::Write>(
     Ok(())
 }
 
+/// Writes the words that a text may be.
+fn write_words<W: fmt::Write>(f: &mut fmt::Formatter<W>, words: &[&str]) -> fmt::Result {
+    write_list(f, words, "or")?;
+    write!(f, ", as a text")
+}
+
 /// What a key may hold, in words.
 #[derive(Clone, Copy)]
 pub struct Allowed<'a>(pub &'a str);
@@ -112,10 +109,10 @@ pub struct Allowed<'a>(pub &'a str);
 impl fmt::Display for Allowed<'_> {
     fn fmt<W: fmt::Write>(&self, f: &mut fmt::Formatter<W>) -> fmt::Result {
         match self.0 {
-            "do" | "xa" | "how" | "outcome" | "part" => {
-                write_list(f, words_at(self.0), "or")?;
-                write!(f, ", as a text")
-            }
+            "xa" => write_words(f, &call_names()),
+            "do" | "how" | "outcome" | "part" => write_words(f, words_at(self.0)),
+            "threads" => write!(f, "an integer from 1 to {}", MAX_THREADS),
+            "rms" => write!(f, "an integer from 1 to {}", MAX_RMS),
             _ => write!(f, "{}", other_at(self.0)),
         }
     }
@@ -128,21 +125,6 @@ pub struct AllFlags;
 impl fmt::Display for AllFlags {
     fn fmt<W: fmt::Write>(&self, f: &mut fmt::Formatter<W>) -> fmt::Result {
         write_list(f, FLAGS, "and")
-    }
-}
-
-/// The name of a call.
-pub fn name_of_call(kind: CallKind) -> &'static str {
-    match kind {
-        CallKind::OpenRm => "xa_open",
-        CallKind::CloseRm => "xa_close",
-        CallKind::Start => "xa_start",
-        CallKind::End => "xa_end",
-        CallKind::Prepare => "xa_prepare",
-        CallKind::Commit => "xa_commit",
-        CallKind::Rollback => "xa_rollback",
-        CallKind::Forget => "xa_forget",
-        CallKind::Recover => "xa_recover",
     }
 }
 

@@ -7,7 +7,7 @@ ghost use Rattle.xa_diagnostics.specs.Documents.{file_kind_of, kind_in};
 
 use std::alloc::Global;
 use toml::{Table, Value};
-use xa_base::Memory;
+use xa_base::{MAX_RMS, MAX_THREADS, Memory};
 use xa_files::{RunFault, document_of, holds, is_name, text_at, value_at};
 
 /// What a file is read as.
@@ -120,7 +120,7 @@ fn faultless(alloc: Global, kind: FileKind, rms: i64) -> Result<Value, Memory> {
         }
         FileKind::Jobs => {
             let mut votes = Vec::new(alloc);
-            for _ in 0..rms.clamp(0, 8) {
+            for _ in 0..rms.clamp(0, i64::from(MAX_RMS)) {
                 votes.push(Value::string(alloc, "none")?)?;
             }
             put(alloc, &mut table, "votes", Value::Array(votes))?;
@@ -155,12 +155,15 @@ pub fn mend_table(
 
 /// Mends a key at the top.
 pub fn mend_key(alloc: Global, document: &mut Table, key: &str) -> Result<(), Memory> {
-    if matches!(key, "threads" | "rms") {
-        put(alloc, document, key, Value::Integer(8))
-    } else {
-        let _removed = document.remove(key);
-        Ok(())
-    }
+    let most = match key {
+        "threads" => MAX_THREADS,
+        "rms" => MAX_RMS,
+        _ => {
+            let _removed = document.remove(key);
+            return Ok(());
+        }
+    };
+    put(alloc, document, key, Value::Integer(i64::from(most)))
 }
 
 /// Removes a key from the table of a number.

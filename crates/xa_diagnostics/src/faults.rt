@@ -12,7 +12,7 @@ use toml::{Table, Value};
 use xa_base::Memory;
 use xa_files::{Finding, Misfit, RunFault, document_of, holds};
 use xa_jobs::jobs_in;
-use xa_scenario::scenario_in;
+use xa_scenario_file::scenario_in;
 
 /// The most faults that are looked for in one file.
 const MOST_FAULTS: usize = 100;

@@ -1,6 +1,6 @@
 //! What is wrong with a table, and what is allowed there, in words.
 
-use crate::allowed::{AllFlags, Allowed, flags_of_call, name_of_call, write_list};
+use crate::allowed::{AllFlags, Allowed, flags_of_call, write_list};
 use std::fmt;
 use toml::Value;
 use xa_base::CallKind;
@@ -55,7 +55,7 @@ fn write_flags<W: fmt::Write>(f: &mut fmt::Formatter<W>, finding: &Finding<'_>) 
             write!(f, "; it is {}", Allowed("flags"))
         }
         Finding::FlagsOfCall(kind) => {
-            write!(f, "{} takes {}", name_of_call(*kind), flags_of_call(*kind))
+            write!(f, "{} takes {}", kind.name(), flags_of_call(*kind))
         }
         Finding::FlagsOfRecovery => {
             write!(f, "a recover takes {}", flags_of_call(CallKind::Recover))
@@ -68,18 +68,10 @@ fn write_flags<W: fmt::Write>(f: &mut fmt::Formatter<W>, finding: &Finding<'_>) 
 fn write_call<W: fmt::Write>(f: &mut fmt::Formatter<W>, finding: &Finding<'_>) -> fmt::Result {
     match finding {
         Finding::NeedsBranch(kind) => {
-            write!(
-                f,
-                "{} is of a branch: it needs the key tx",
-                name_of_call(*kind)
-            )
+            write!(f, "{} is of a branch: it needs the key tx", kind.name())
         }
         Finding::NamesNoBranch(kind) => {
-            write!(
-                f,
-                "{} is of no branch: it has no key tx",
-                name_of_call(*kind)
-            )
+            write!(f, "{} is of no branch: it has no key tx", kind.name())
         }
         Finding::NeedsCount => {
             write!(
@@ -89,11 +81,7 @@ fn write_call<W: fmt::Write>(f: &mut fmt::Formatter<W>, finding: &Finding<'_>) -
             )
         }
         Finding::HasNoCount(kind) => {
-            write!(
-                f,
-                "{} has no key count: only xa_recover has",
-                name_of_call(*kind)
-            )
+            write!(f, "{} has no key count: only xa_recover has", kind.name())
         }
         _ => Ok(()),
     }

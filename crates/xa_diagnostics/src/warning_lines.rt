@@ -5,7 +5,7 @@ ghost use Rattle.std.specs.String.{string_bytes};
 ghost use Rattle.toml.specs.View.{table_view};
 ghost use Rattle.xa_diagnostics.specs.Warnings.{warning_line};
 ghost use Rattle.xa_files.specs.declared.fault.RunFault.{RunFault};
-ghost use Rattle.xa_scenario.specs.Scenarios.{scenario_in, scenario_of};
+ghost use Rattle.xa_scenario_file.specs.Scenarios.{scenario_in, scenario_of};
 
 use crate::document::items_at;
 use crate::places::{Wanted, line_of};
@@ -14,7 +14,7 @@ use std::alloc::Global;
 use toml::Table;
 use xa_base::{Call, Memory, Part, Side};
 use xa_files::{Misfit, RunFault, document_of};
-use xa_scenario::{BranchEntry, Entry, Scenario, scenario_in};
+use xa_scenario_file::{BranchEntry, Entry, Scenario, scenario_in};
 
 /// The most warnings of a file.
 const MOST_WARNINGS: usize = 10;
@@ -196,7 +196,7 @@ fn warnings_in(alloc: Global, path: &str, text: &[u8], document: &Table) -> Resu
 
 /// A line for each entry of the scenario in a file that a run will refuse whatever is done before it, at most ten. Of a file
 /// that is no scenario there is none.
-#[tactic(auto, unfolding(xa_scenario::specs::Scenarios::scenario_of))]
+#[tactic(auto, unfolding(xa_scenario_file::specs::Scenarios::scenario_of))]
 pub fn warnings(alloc: Global, path: &str, text: &[u8]) -> Result<String, Memory>
     ensures { (e : RunFault) → scenario_of text.now ≡ Err e
         → IfOk result (λ told. string_bytes told ≡ []) }

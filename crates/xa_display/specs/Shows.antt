@@ -12,9 +12,9 @@ use Rattle.xa_files.specs.declared.fault.RunFault.{RunFault}
 use Rattle.xa_files.specs.declared.fault.RunFault.TheVariants.{Memory}
 use Rattle.xa_log.specs.Contract.{Moment}
 use Rattle.xa_model.specs.Trace.{Origin}
-use Rattle.xa_scenario.specs.Files.{names_of}
+use Rattle.xa_scenario_file.specs.Files.{names_of}
 use Rattle.xa_scenario.specs.Runs.{IsReportOf, IsRunOf, StartsOverLog}
-use Rattle.xa_scenario.specs.Scenarios.{Plan, scenario_of}
+use Rattle.xa_scenario_file.specs.Scenarios.{Plan, scenario_of}
 use Rattle.xa_story.specs.Stories.{IsStory}
 
 -- the most events of a picture

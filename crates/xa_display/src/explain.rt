@@ -6,13 +6,14 @@ ghost use Rattle.xa_display.specs.Shows.{TellsRun};
 ghost use Rattle.xa_files.specs.Reading.{EndsWith, SaysOfReading};
 ghost use Rattle.xa_files.specs.declared.fault.RunFault.{RunFault};
 ghost use Rattle.xa_files.specs.declared.fault.RunFault.TheVariants.{Work};
-ghost use Rattle.xa_scenario.specs.Scenarios.{scenario_of};
+ghost use Rattle.xa_scenario_file.specs.Scenarios.{scenario_of};
 
 use std::alloc::Global;
 use std::io::Write;
 use xa_files::{RunFault, write_text};
 use xa_log::DecisionLog;
-use xa_scenario::{read_named_scenario, system_after};
+use xa_scenario::system_after;
+use xa_scenario_file::read_named_scenario;
 use xa_story::{Scene, lines_of, story_text};
 
 /// Runs a scenario file at new resource managers and over a decision log that is still empty, and prints its story: the

@@ -9,7 +9,7 @@ ghost use Rattle.xa_display.specs.declared.picture.ChartFault.TheVariants.{Run, 
 ghost use Rattle.xa_display.specs.declared.picture.ChartFault.TheVariants as ChartFaults;
 ghost use Rattle.xa_files.specs.declared.fault.RunFault.{RunFault};
 ghost use Rattle.xa_files.specs.declared.fault.RunFault.TheVariants as Faults;
-ghost use Rattle.xa_scenario.specs.Scenarios.{scenario_of};
+ghost use Rattle.xa_scenario_file.specs.Scenarios.{scenario_of};
 
 use std::alloc::Global;
 use std::io::Write;
@@ -17,7 +17,8 @@ use xa_base::{Event, Memory};
 use xa_chart::{Run, chart_text};
 use xa_files::{RunFault, write_text};
 use xa_log::DecisionLog;
-use xa_scenario::{NamedScenario, read_named_scenario, system_after};
+use xa_scenario::system_after;
+use xa_scenario_file::{NamedScenario, read_named_scenario};
 use xa_story::{Scene, lines_of};
 
 /// The most events of a picture.

@@ -1,6 +1,10 @@
+pub mod Choices
 pub mod DocumentLemmas
 pub mod FieldLemmas
+pub mod NumberLemmas
 pub mod TablesInTurnLemmas
 pub mod OutputLemmas
+pub mod Pieces
 pub mod ReadingLemmas
 pub mod TextFaults
+pub mod WordLemmas

@@ -2,9 +2,10 @@ pub mod Documents
 pub mod Fates
 pub mod Faults
 pub mod Fields
-pub mod Gtrids
+pub mod Numbers
 pub mod TablesInTurn
 pub mod Outputs
 pub mod Reading
+pub mod Replies
 pub mod Misfits
 pub mod Words

@@ -1,5 +1,5 @@
 //! What scenario files and jobs files have in common: the fields and words of their tables, the faults of a run, and
-//! what it writes. A listed log has the same words for fates and transactions.
+//! what it writes. A listed log has the same words for fates, and a driver's session for calls and replies.
 #![tactic(auto)]
 
 mod document;
@@ -7,9 +7,10 @@ mod fates;
 mod fault;
 mod fields;
 mod finding;
-mod gtrids;
 mod misfit;
+mod numbers;
 mod output;
+mod replies;
 mod words;
 
 pub use document::{document_of, size_at, tables_at};
@@ -20,7 +21,8 @@ pub use fields::{
     only_keys, text_at, unfit, value_at,
 };
 pub use finding::Finding;
-pub use gtrids::gtrid_text;
 pub use misfit::Misfit;
+pub use numbers::{index_of, integer_of};
 pub use output::{write_text, write_unflushed};
-pub use words::{call_named, flag_named, vote_named};
+pub use replies::{begun_text, push_xids, refused_text, restarted_text};
+pub use words::{CALL_KINDS, call_named, code_named, flag_named, outcome_named, vote_named};

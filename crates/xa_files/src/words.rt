@@ -1,47 +1,65 @@
-//! The words for calls, votes and flags.
+//! The words for calls, codes, outcomes, votes and flags.
 
 ghost use Rattle.std.specs.Prelude.{◌≡◌};
-ghost use Rattle.xa_files.specs.Words.{call_named, vote_named, flag_named};
+ghost use Rattle.xa_files.specs.Words.{call_named, code_named, flag_named, outcome_named, vote_named};
 
+use crate::numbers::integer_of;
 use xa_base::{
-    CallKind, RbCode, TMENDRSCAN, TMFAIL, TMJOIN, TMNOFLAGS, TMONEPHASE, TMSTARTRSCAN, TMSUCCESS,
-    Vote,
+    CallKind, Code, Outcome, TMENDRSCAN, TMFAIL, TMJOIN, TMNOFLAGS, TMONEPHASE, TMSTARTRSCAN,
+    TMSUCCESS, Vote,
 };
+
+/// The kinds of calls.
+pub const CALL_KINDS: [CallKind; 9] = [
+    CallKind::OpenRm,
+    CallKind::CloseRm,
+    CallKind::Start,
+    CallKind::End,
+    CallKind::Prepare,
+    CallKind::Commit,
+    CallKind::Rollback,
+    CallKind::Forget,
+    CallKind::Recover,
+];
 
 /// The kind of a call, by its `xa`: the name that it has in XA, chapter 5.
 pub fn call_named(word: &str) -> Option<CallKind>
     ensures { result ≡ call_named word.now }
 {
+    CALL_KINDS.iter().copied().find(|kind| kind.name() == word)
+}
+
+/// How a transaction ends.
+pub fn outcome_named(word: &str) -> Option<Outcome>
+    ensures { result ≡ outcome_named word.now }
+{
     match word {
-        "xa_open" => Some(CallKind::OpenRm),
-        "xa_close" => Some(CallKind::CloseRm),
-        "xa_start" => Some(CallKind::Start),
-        "xa_end" => Some(CallKind::End),
-        "xa_prepare" => Some(CallKind::Prepare),
-        "xa_commit" => Some(CallKind::Commit),
-        "xa_rollback" => Some(CallKind::Rollback),
-        "xa_forget" => Some(CallKind::Forget),
-        "xa_recover" => Some(CallKind::Recover),
+        "commit" => Some(Outcome::Commit),
+        "rollback" => Some(Outcome::Rollback),
         _ => None,
     }
 }
 
-/// A vote: `ok`, `ro`, or the number of a code that tells of a rollback (XA, section 4.5, Return Codes).
+/// The code of a number, as it is written in decimal (XA, section 4.5, Return Codes).
+#[tactic(auto, using(crate::proofs::WordLemmas::code_unread, crate::proofs::WordLemmas::code_unfit))]
+pub fn code_named(word: &str) -> Option<Code>
+    ensures { result ≡ code_named word.now }
+{
+    let number = integer_of(word)?;
+    Code::from_number(i32::try_from(number).ok()?)
+}
+
+/// A vote: `ok`, `ro`, or the number of a code that tells of a rollback.
 pub fn vote_named(word: &str) -> Option<Vote>
     ensures { result ≡ vote_named word.now }
 {
     match word {
         "ok" => Some(Vote::Yes),
         "ro" => Some(Vote::ReadOnly),
-        "100" => Some(Vote::No(RbCode::Rollback)),
-        "101" => Some(Vote::No(RbCode::CommFail)),
-        "102" => Some(Vote::No(RbCode::Deadlock)),
-        "103" => Some(Vote::No(RbCode::Integrity)),
-        "104" => Some(Vote::No(RbCode::Other)),
-        "105" => Some(Vote::No(RbCode::Proto)),
-        "106" => Some(Vote::No(RbCode::Timeout)),
-        "107" => Some(Vote::No(RbCode::Transient)),
-        _ => None,
+        _ => match code_named(word)? {
+            Code::RolledBack(code) => Some(Vote::No(code)),
+            _ => None,
+        },
     }
 }
 

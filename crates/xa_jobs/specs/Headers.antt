@@ -2,6 +2,7 @@
 use Rattle.std.specs.Prelude.{ℕ, Bool, false, if◌then◌else◌, List, [], ◌∷◌, codes, Option, Some, None, Result}
 use Rattle.std.specs.Option.{ok_or}
 use Rattle.toml.specs.Data.{Items, Members, get_member, as_bool}
+use Rattle.xa_base.specs.declared.limits.TheConstants.{MAX_RMS, MAX_THREADS}
 use Rattle.xa_files.specs.Documents.{size_at, tables_at}
 use Rattle.xa_files.specs.Fields.{◌>>=◌, has_only, holds}
 use Rattle.xa_files.specs.declared.fault.RunFault.{RunFault}
@@ -16,11 +17,11 @@ sweep_at document =
 abbrev pub header_keys : List (List ℕ)
 header_keys = codes "threads" ∷ codes "rms" ∷ codes "sweep" ∷ codes "job" ∷ []
 
--- the numbers of threads and of resource managers, 1 to 8 each, whether a recovery sweeps, and the tables of the jobs
+-- the numbers of threads and of resource managers, from 1 to the most of a system, whether a recovery sweeps, and the tables of the jobs
 unfoldable pub jobs_header_at : Members → Option (ℕ × ℕ × Bool × Items)
 jobs_header_at document = if has_only header_keys document then (do
-  threads ← size_at 8 (codes "threads") document
-  rms ← size_at 8 (codes "rms") document
+  threads ← size_at MAX_THREADS (codes "threads") document
+  rms ← size_at MAX_RMS (codes "rms") document
   sweep ← sweep_at document
   jobs ← tables_at (codes "job") document
   Some (threads, rms, sweep, jobs)) else None

@@ -7,10 +7,8 @@ ghost use Rattle.xa_files.specs.Misfits.{ReadsDocument};
 ghost use Rattle.xa_jobs.specs.Headers.{jobs_header_at, jobs_header_of, sweep_at};
 
 use toml::{Table, Value};
+use xa_base::{MAX_RMS, MAX_THREADS};
 use xa_files::{Finding, Misfit, only_keys, size_at, tables_at, value_at};
-
-/// The most threads, and the most resource managers.
-const MAX_SIZE: u32 = 8;
 
 /// Whether a recovery sweeps the jobs: not where the file doesn't say so.
 #[tactic(auto, unfolding(crate::specs::Headers::sweep_at))]
@@ -31,12 +29,13 @@ fn sweep_at(document: &Table) -> Result<bool, Finding<'_>>
 fn header_at(document: &Table) -> Result<(u32, u32, bool, &[Value]), Finding<'_>>
     ensures header { option_map (λ h. (h.0, h.1, h.2, items_view h.3.now)) (result_ok result)
         ≡ jobs_header_at (table_view document.now) }
-    ensures sizes { IfOk result (λ h. (0 < h.0) × (h.0 ≤ 8) × (0 < h.1) × (h.1 ≤ 8)) }
+    ensures sizes { IfOk result (λ h. (0 < h.0) × (h.0 ≤ MAX_THREADS)
+        × (0 < h.1) × (h.1 ≤ MAX_RMS)) }
 {
     let of = "the top of a jobs file";
     only_keys(document, of, &["threads", "rms", "sweep", "job"])?;
-    let threads = size_at(document, of, "threads", MAX_SIZE)?;
-    let rms = size_at(document, of, "rms", MAX_SIZE)?;
+    let threads = size_at(document, of, "threads", MAX_THREADS)?;
+    let rms = size_at(document, of, "rms", MAX_RMS)?;
     let sweep = sweep_at(document)?;
     let jobs = tables_at(document, "job")?;
     Ok((threads, rms, sweep, jobs))
@@ -46,7 +45,8 @@ fn header_at(document: &Table) -> Result<(u32, u32, bool, &[Value]), Finding<'_>
 pub(crate) fn header_of(document: &Table) -> Result<(u32, u32, bool, &[Value]), Misfit<'_>>
     ensures header { ReadsDocument (λ h. (h.0, h.1, h.2, items_view h.3.now)) result
         (jobs_header_of (table_view document.now)) }
-    ensures sizes { IfOk result (λ h. (0 < h.0) × (h.0 ≤ 8) × (0 < h.1) × (h.1 ≤ 8)) }
+    ensures sizes { IfOk result (λ h. (0 < h.0) × (h.0 ≤ MAX_THREADS)
+        × (0 < h.1) × (h.1 ≤ MAX_RMS)) }
 {
     match header_at(document) {
         Ok(header) => Ok(header),

@@ -1,6 +1,6 @@
 //! A jobs file as a whole.
 
-ghost use Rattle.std.specs.Prelude.{◌≡◌, ◌≤◌, ℕ, All, IfOk, option_map, vec_len};
+ghost use Rattle.std.specs.Prelude.{◌≡◌, ◌≤◌, All, IfOk, option_map, vec_len};
 ghost use Rattle.std.specs.Option.{ok_or};
 ghost use Rattle.std.specs.Result.{result_ok};
 ghost use Rattle.toml.specs.View.{items_view, table_view, view};
@@ -8,9 +8,7 @@ ghost use Rattle.xa_files.specs.Reading.{Gives};
 ghost use Rattle.xa_files.specs.Misfits.{ReadsDocument};
 ghost use Rattle.xa_jobs.specs.JobFiles.{vote_in, branch_vote_named, items_at, items_in_table, job_at, jobs_from, jobs_in, jobs_of};
 ghost use Rattle.xa_jobs.specs.JobFiles.{job_plan_of, job_row_in, rows_in, votes_in};
-ghost use Rattle.xa_files.specs.TablesInTurn.{EachIsRead, FaultsAreOfTexts, FirstIsFaulty};
 ghost use Rattle.xa_files.specs.declared.fault.RunFault.TheVariants.{Job};
-ghost use Rattle.xa_jobs.specs.JobTables.{job_asked_at};
 ghost use Rattle.xa_workers.specs.Jobs.{IsRunnable};
 
 use crate::header::header_of;
@@ -162,14 +160,3 @@ pub fn read_jobs(alloc: Global, text: &[u8]) -> Result<Jobs, RunFault>
     let jobs = jobs_in(alloc, &document)?;
     Ok(jobs)
 }
-
-/// The tables are read each by itself, and a fault is the first one.
-pub fn tables_are_read_in_turn()
-    ensures each_is_read { (rms : ℕ) → EachIsRead (job_asked_at rms) (jobs_from rms 1) }
-    ensures first_is_faulty { (rms : ℕ) → FirstIsFaulty (job_asked_at rms) (jobs_from rms 1) }
-{}
-
-/// A text has no other faults than these: it is no TOML, its header is faulty, or a job.
-pub fn faults_are_of_texts()
-    ensures { FaultsAreOfTexts Job jobs_of }
-{}

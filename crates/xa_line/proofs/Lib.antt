@@ -1,3 +1,4 @@
+pub mod ChangedLines
 pub mod Crossing
 pub mod FlowLaws
 pub mod GridLaws

@@ -1,3 +1,4 @@
+pub mod Ends
 pub mod Faults
 pub mod Lines
 pub mod Statements

@@ -4,13 +4,12 @@ use Rattle.std.specs.FinMap.{entries}
 use Rattle.std.specs.Fmt.{decimal}
 use Rattle.std.specs.Io.KnownBytes.{Appends}
 use Rattle.std.specs.List.{flat_map}
-use Rattle.xa_base.specs.Branch.{branch_cmp, xid_of_branch}
+use Rattle.xa_base.specs.Branch.{branch_cmp, gtrid_text, xid_of_branch}
 use Rattle.xa_base.specs.declared.branch.Branch.{Branch}
 use Rattle.xa_base.specs.declared.branch.Gtrid.{Gtrid}
 use Rattle.xa_base.specs.declared.code.How.{How}
 use Rattle.xa_base.specs.declared.state.Fate.TheVariants.{Heuristic}
 use Rattle.xa_files.specs.Fates.{fate_line}
-use Rattle.xa_files.specs.Gtrids.{gtrid_text}
 use Rattle.xa_files.specs.Outputs.{AppendsBeginning}
 use Rattle.xa_log.specs.Content.{Content}
 use Rattle.xa_log.specs.KeySet.{KeySet, items}

@@ -1,12 +1,14 @@
 //! What the rows of a log ask of an operator.
 
-ghost use Rattle.std.specs.Prelude.{◌≡◌, IfErr};
+ghost use Rattle.std.specs.Prelude.{◌≡◌, IfErr, IfOk};
+ghost use Rattle.std.specs.String.{string_bytes};
 ghost use Rattle.xa_files.specs.declared.fault.RunFault.TheVariants.{Memory};
+ghost use Rattle.xa_listing.specs.Ends.{against_commit, end_line, end_text, has_row, without_row};
 
 use crate::statements::{mariadb_commit, postgresql_commit};
 use std::alloc::Global;
 use xa_base::{Branch, Gtrid, How};
-use xa_files::{RunFault, gtrid_text};
+use xa_files::RunFault;
 use xa_log::LogRows;
 
 const NOTHING: &str = "Nothing waits: the log has no row and no record.\n";
@@ -22,7 +24,7 @@ const ENDED_BY: &str =
 fn decision_text(alloc: Global, g: Gtrid, count: usize) -> Result<String, RunFault>
     ensures fault { IfErr result (λ e. e ≡ Memory) }
 {
-    let name = gtrid_text(alloc, g)?;
+    let name = g.text(alloc)?;
     Ok(match count {
         0 => format!(in alloc; "{name} is decided to commit, and its row names no branch.\n")?,
         1 => format!(in alloc; "{name} is decided to commit, and its row waits for 1 branch:\n")?,
@@ -48,7 +50,9 @@ fn branch_text(alloc: Global, manager: &[u8], branch: &Branch) -> Result<String,
 }
 
 /// What a heuristic end is to a decision to commit.
-fn against_commit(how: How) -> &'static str {
+fn against_commit(how: How) -> &'static str
+    ensures { result.now ≡ against_commit how }
+{
     match how {
         How::Com => "committed, as was decided: nothing is left to do",
         How::Rb => "rolled back, against the decision to commit: do its work again there, or undo \
@@ -60,7 +64,9 @@ fn against_commit(how: How) -> &'static str {
 }
 
 /// What a heuristic end is to a transaction without a row: that was rolled back, or is committed and over.
-fn without_row(how: How) -> &'static str {
+fn without_row(how: How) -> &'static str
+    ensures { result.now ≡ without_row how }
+{
     match how {
         How::Com => "committed. Its transaction has no row: it was rolled back, or is committed \
             and over. If another branch of it is rolled back, undo the work of this one",
@@ -73,22 +79,38 @@ fn without_row(how: How) -> &'static str {
     }
 }
 
+/// Whether a transaction has a row among these.
+fn has_row(decisions: &[Gtrid], gtrid: Gtrid) -> bool
+    ensures { result ≡ has_row decisions.now gtrid }
+{
+    decisions.contains(&gtrid)
+}
+
+/// What a heuristic end is to its transaction, by whether that has a row.
+fn end_text(how: How, has_row: bool) -> &'static str
+    ensures { result.now ≡ end_text how has_row }
+{
+    if has_row {
+        against_commit(how)
+    } else {
+        without_row(how)
+    }
+}
+
 /// What there is to do about a branch that its resource manager has ended by itself.
 fn heuristic_text(
     alloc: Global,
     row: &(Branch, How),
     decisions: &[Gtrid],
 ) -> Result<String, RunFault>
+    ensures text { IfOk result (λ text. string_bytes text ≡ end_line row.now
+        (has_row decisions.now row.now.0.gtrid)) }
     ensures fault { IfErr result (λ e. e ≡ Memory) }
 {
     let (branch, how) = row;
     let rm = branch.rm;
     let name = branch.xid().text(alloc)?;
-    let what = if decisions.contains(&branch.gtrid) {
-        against_commit(*how)
-    } else {
-        without_row(*how)
-    };
+    let what = end_text(*how, has_row(decisions, branch.gtrid));
     Ok(format!(in alloc; "{name} was ended by resource manager {rm} itself: {what}\n")?)
 }
 

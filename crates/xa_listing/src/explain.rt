@@ -7,7 +7,7 @@ ghost use Rattle.xa_listing.specs.Faults.{CountsFault, IsListFault, TellsFault};
 ghost use Rattle.xa_log.specs.Content.{unchanged};
 ghost use Rattle.xa_log.specs.Contract.{Honestly, LeavesNoMore};
 ghost use Rattle.xa_log.specs.Contract.{IsShutOrSame as IsKept};
-ghost use Rattle.xa_log.specs.declared.fail_plan.LogCall.{LogCall};
+ghost use Rattle.xa_log.specs.declared.decision_log.LogCall.{LogCall};
 
 use crate::asks::asks_text;
 use crate::faults::run_fault;

@@ -8,7 +8,7 @@ ghost use Rattle.xa_listing.specs.Texts.{count_line, heuristic_line};
 
 use std::alloc::Global;
 use xa_base::{Branch, Fate, Gtrid, How};
-use xa_files::{RunFault, fate_line, gtrid_text};
+use xa_files::{RunFault, fate_line};
 use xa_log::LogRows;
 
 /// How many of the branches, from the first on, are of the transaction.
@@ -24,7 +24,7 @@ fn count_line(alloc: Global, g: Gtrid, count: usize) -> Result<String, RunFault>
     ensures text { IfOk result (λ text. string_bytes text ≡ count_line g count) }
     ensures fault { IfErr result (λ e. e ≡ Memory) }
 {
-    let name = gtrid_text(alloc, g)?;
+    let name = g.text(alloc)?;
     Ok(format!(in alloc; "{name} {count}\n")?)
 }
 

@@ -8,7 +8,7 @@ ghost use Rattle.xa_listing.specs.Texts.{BeginsLog, PrintsLog};
 ghost use Rattle.xa_log.specs.Content.{unchanged};
 ghost use Rattle.xa_log.specs.Contract.{Honestly, LeavesNoMore};
 ghost use Rattle.xa_log.specs.Contract.{IsShutOrSame as IsKept};
-ghost use Rattle.xa_log.specs.declared.fail_plan.LogCall.{LogCall};
+ghost use Rattle.xa_log.specs.declared.decision_log.LogCall.{LogCall};
 
 use crate::faults::run_fault;
 use crate::lines::rows_text;

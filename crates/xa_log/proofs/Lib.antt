@@ -5,6 +5,7 @@ pub mod InTurn
 pub mod KeySets
 pub mod OwnBranches
 pub mod Parts
+pub mod PlannedCalls
 pub mod Rising
 pub mod RowsInTurn
 pub mod TakenTogether

@@ -11,17 +11,11 @@ use Rattle.xa_base.specs.declared.branch.Gtrid.{Gtrid}
 use Rattle.xa_base.specs.Branch.{gtrid_cmp, branch_cmp}
 use Rattle.xa_base.proofs.BranchOrder.{gtrids_total, exact_gtrids}
 use Rattle.xa_log.specs.Content.{Content, logged_as, logged_each, with_commit, with_commits, with_decision, without_decision}
-use Rattle.xa_log.specs.Contract.{FitsRow, fault_of}
-use Rattle.xa_log.specs.Memory.{DoesAt, IsInOrder, MadeUpTo, RunsInMemory}
+use Rattle.xa_log.specs.Contract.{FitsRow}
+use Rattle.xa_log.specs.Memory.{IsInOrder, MadeUpTo}
 use Rattle.xa_log.specs.declared.decision.Decision.{Decision}
 use Rattle.xa_log.specs.declared.decision_log.Logged.{Logged}
 use Rattle.xa_log.specs.declared.decision_log.Logged.TheVariants.{New, Already}
-use Rattle.xa_log.specs.declared.fail_plan.LogCall.{LogCall}
-use Rattle.xa_log.specs.declared.fail_plan.Turn.{Turn}
-use Rattle.xa_log.specs.declared.fail_plan.Turn.TheVariants.{Runs, FailsAfter, FailsBefore}
-use Rattle.xa_log.specs.declared.log_fault.LogFault.{LogFault}
-use Rattle.xa_log.specs.declared.log_fault.LogFault.TheVariants.{Store}
-use Rattle.xa_log.specs.declared.mem_log.MemLog.{MemLog}
 use Rattle.xa_log.proofs.OwnBranches.{order_after_commit}
 use Rattle.xa_base.proofs.Orders.{equal_is}
 use Rattle.xa_log.proofs.Alike.{same_content}
@@ -137,23 +131,3 @@ pub order_after_commits : {A E : Type 0} (result : Result A E) (old new : Conten
     → OnOk result (new ≡ with_commits ds old) → OnErr result (new ≡ old) → IsInOrder old → IsInOrder new
 order_after_commits (Ok x) old new ds fits own ok err order = subst IsInOrder (sym ok) (commits_order ds old fits own order)
 order_after_commits (Err e) old new ds fits own ok err order = subst IsInOrder (sym err) order
-
--- ** a log that fails by a plan
-
-pub planned_before : {A : Type 0} (t : Turn) (call : LogCall) (change : Content → Content) (old new : MemLog) (r : Result A LogFault) → t ≡ FailsBefore
-    → r ≡ Err Store → new ≡ old → DoesAt t call change old new (fault_of r)
-planned_before t call change old new r is fails same = subst (λ k. DoesAt k call change old new (fault_of r)) (sym is) (ap fault_of fails, same)
-
-planned : {A : Type 0} (t : Turn) (call : LogCall) (change : Content → Content) (old new : MemLog) (answer r : Result A LogFault)
-    → (t ≡ FailsBefore → ⊥) → RunsInMemory call change old new (fault_of answer) → (t ≡ Runs → r ≡ answer) → (t ≡ FailsAfter → r ≡ Err Store)
-    → DoesAt t call change old new (fault_of r)
-planned Runs call change old new answer r apart ran runs fails = subst (λ x. RunsInMemory call change old new (fault_of x)) (sym (runs refl)) ran
-planned FailsAfter call change old new answer r apart ran runs fails = (ap fault_of (fails refl), (fault_of answer, ran))
-planned FailsBefore call change old new answer r apart ran runs fails = absurd (apart refl)
-
-pub planned_as : {A : Type 0} (t : Turn) (call : LogCall) (change : Content → Content) (old old′ new new′ : MemLog) (answer r : Result A LogFault)
-    → old′ ≡ old → new ≡ new′ → (t ≡ FailsBefore → ⊥) → RunsInMemory call change old′ new′ (fault_of answer) → (t ≡ Runs → r ≡ answer)
-    → (t ≡ FailsAfter → r ≡ Err Store) → DoesAt t call change old new (fault_of r)
-planned_as t call change old old′ new new′ answer r same_old same_new apart ran runs fails =
-    subst (λ o. DoesAt t call change o new (fault_of r)) same_old
-    (subst (λ n. DoesAt t call change old′ n (fault_of r)) (sym same_new) (planned t call change old′ new′ answer r apart ran runs fails))

@@ -6,8 +6,8 @@ use Rattle.xa_base.specs.declared.branch.Branch.{Branch}
 use Rattle.xa_log.specs.KeySet.{from_list, items}
 use Rattle.xa_log.specs.Content.{Content, all_listed, with_bump, with_commit, logged_as, participants_of, with_heuristic_record, without_decision}
 use Rattle.xa_log.specs.Contract.{FitsRow, Moment, one_more_fault}
-use Rattle.xa_log.specs.declared.fail_plan.LogCall.{LogCall}
-use Rattle.xa_log.specs.declared.fail_plan.LogCall.TheVariants as kind
+use Rattle.xa_log.specs.declared.decision_log.LogCall.{LogCall}
+use Rattle.xa_log.specs.declared.decision_log.LogCall.TheVariants as kind
 use Rattle.xa_log.specs.declared.log_fault.LogFault.{LogFault}
 use Rattle.xa_log.specs.declared.log_fault.LogFault.TheVariants.{Memory}
 use Rattle.xa_log.specs.declared.commands.Command.{Command}

@@ -6,8 +6,8 @@ use Rattle.xa_base.specs.declared.branch.Gtrid.{Gtrid}
 use Rattle.xa_log.specs.Content.{Content, last_number, unchanged}
 use Rattle.xa_log.specs.declared.log_fault.LogFault.{LogFault}
 use Rattle.xa_log.specs.declared.log_fault.LogFault.TheVariants.{Store, Memory, Spent}
-use Rattle.xa_log.specs.declared.fail_plan.LogCall.{LogCall}
-use Rattle.xa_log.specs.declared.fail_plan.LogCall.TheVariants.{Bump}
+use Rattle.xa_log.specs.declared.decision_log.LogCall.{LogCall}
+use Rattle.xa_log.specs.declared.decision_log.LogCall.TheVariants.{Bump}
 
 -- the log was there, and has the change
 abbrev pub Makes : (Content → Content) → Option Content → Option Content → Type 0

@@ -1,11 +1,11 @@
 -- What a plan of failures says of a log's calls.
 use Rattle.std.specs.Prelude.{ℕ, ◌+◌, ◌-◌, ◌^◌, ◌==◌, min, Bool, true, false, if◌then◌else◌}
-use Rattle.xa_log.specs.declared.fail_plan.FailPlan.{FailPlan}
-use Rattle.xa_log.specs.declared.fail_plan.FailPlan.TheVariants.{Once, Every}
-use Rattle.xa_log.specs.declared.fail_plan.LogCall.{LogCall}
-use Rattle.xa_log.specs.declared.fail_plan.LogCall.TheVariants.{Commit, Contains, Participants, Done, NoteHeuristic, HeuristicOf, Bump, Rows}
-use Rattle.xa_log.specs.declared.fail_plan.Turn.{Turn}
-use Rattle.xa_log.specs.declared.fail_plan.Turn.TheVariants.{Runs, FailsAfter, FailsBefore}
+use Rattle.xa_log.specs.declared.fail_log.fail_plan.FailPlan.{FailPlan}
+use Rattle.xa_log.specs.declared.fail_log.fail_plan.FailPlan.TheVariants.{Once, Every}
+use Rattle.xa_log.specs.declared.decision_log.LogCall.{LogCall}
+use Rattle.xa_log.specs.declared.decision_log.LogCall.TheVariants.{Commit, Contains, Participants, Done, NoteHeuristic, HeuristicOf, Bump, Rows}
+use Rattle.xa_log.specs.declared.fail_log.fail_plan.Turn.{Turn}
+use Rattle.xa_log.specs.declared.fail_log.fail_plan.Turn.TheVariants.{Runs, FailsAfter, FailsBefore}
 
 -- whether two calls are of one kind
 abbrev pub is_of_kind : LogCall → LogCall → Bool

@@ -10,16 +10,12 @@ use Rattle.xa_base.specs.declared.code.How.{How}
 use Rattle.xa_base.specs.Branch.{gtrid_cmp, branch_cmp}
 use Rattle.xa_log.specs.Content.{AreOwn, Content, logged_each, with_commits}
 use Rattle.xa_log.specs.Contract.{AllFit, Moment, one_more_fault}
-use Rattle.xa_log.specs.FailPlan.{calls_after, turn_of}
 use Rattle.xa_log.specs.declared.decision.Decision.{Decision}
 use Rattle.xa_log.specs.declared.decision_log.Logged.{Logged}
-use Rattle.xa_log.specs.declared.fail_log.FailLog.{FailLog}
-use Rattle.xa_log.specs.declared.fail_plan.LogCall.{LogCall}
-use Rattle.xa_log.specs.declared.fail_plan.LogCall.TheVariants.{Commit, Contains, Participants, Done, NoteHeuristic, HeuristicOf, Bump, Rows}
-use Rattle.xa_log.specs.declared.fail_plan.Turn.{Turn}
-use Rattle.xa_log.specs.declared.fail_plan.Turn.TheVariants.{Runs, FailsAfter, FailsBefore}
+use Rattle.xa_log.specs.declared.decision_log.LogCall.{LogCall}
+use Rattle.xa_log.specs.declared.decision_log.LogCall.TheVariants.{Commit, Contains, Participants, Done, NoteHeuristic, HeuristicOf, Bump, Rows}
 use Rattle.xa_log.specs.declared.log_fault.LogFault.{LogFault}
-use Rattle.xa_log.specs.declared.log_fault.LogFault.TheVariants.{Memory as Refused, Spent, Store}
+use Rattle.xa_log.specs.declared.log_fault.LogFault.TheVariants.{Memory as Refused, Spent}
 use Rattle.xa_log.specs.declared.mem_log.MemLog.{MemLog}
 
 -- a decision's row, as the log's content has it
@@ -74,17 +70,3 @@ MayFailBy Rows e = e ≡ Refused
 abbrev pub RunsInMemory : LogCall → (Content → Content) → MemLog → MemLog → Option LogFault → Type 0
 RunsInMemory call change old new None = (content_held new ≡ change (content_held old)) × (new.faults ≡ old.faults)
 RunsInMemory call change old new (Some e) = MayFailBy call e × (content_held new ≡ content_held old) × (new.faults ≡ one_more_fault old.faults)
-
--- ** a log that fails by a plan
-
--- what a call does at its turn. One that is to fail after its change is made runs, and answers a failure whether or not it made the change
-abbrev pub DoesAt : Turn → LogCall → (Content → Content) → MemLog → MemLog → Option LogFault → Type 0
-DoesAt Runs call change old new fault = RunsInMemory call change old new fault
-DoesAt FailsAfter call change old new fault = (fault ≡ Some Store) × ((own : Option LogFault) × RunsInMemory call change old new own)
-DoesAt FailsBefore call change old new fault = (fault ≡ Some Store) × (new ≡ old)
-
--- the plan says which turn a call has, and counts it
-pub record FollowsPlan (call : LogCall) (change : Content → Content) (old new : FailLog) (fault : Option LogFault) : Type 0 where
-  pub turn : DoesAt (turn_of old.plan call old.calls) call change old.log new.log fault
-  pub counted : new.calls ≡ calls_after old.plan call old.calls
-  pub plan : new.plan ≡ old.plan

@@ -12,9 +12,6 @@ use crate::log_rows::LogRows;
 use std::alloc::Global;
 use xa_base::{Branch, Gtrid, How};
 
-/// The greatest number that a row can have, 9,223,372,036,854,775,807, and so the last incarnation.
-pub const LAST_NUMBER: u64 = i64::MAX as u64;
-
 /// Whether a decision is a new row.
 #[derive(Clone, Copy, Debug, PartialEq, Eq)]
 pub enum Logged {
@@ -22,6 +19,21 @@ pub enum Logged {
     New,
     /// There was a row, which stays with its own participants.
     Already,
+}
+
+/// The kinds of a log's calls that can fail.
+#[derive(Clone, Copy, Debug, PartialEq, Eq)]
+pub enum LogCall {
+    /// `commit`, and `commit_all`, which counts as one.
+    Commit,
+    Contains,
+    Participants,
+    /// `done`, and `done_all`, which counts as one.
+    Done,
+    NoteHeuristic,
+    HeuristicOf,
+    Bump,
+    Rows,
 }
 
 /// What outlives the transaction manager: which transactions are decided to commit, with the branches whose xa_commit
@@ -45,7 +57,7 @@ pub enum Logged {
 /// Beside it stand `answer`, of the log before the call, and `cause`, what the log says may make a call fail and what it
 /// then holds.
 pub trait DecisionLog {
-    ghost use Rattle.xa_log.specs.declared.fail_plan.LogCall.{LogCall};
+    ghost use Rattle.xa_log.specs.declared.decision_log.LogCall.{LogCall};
     ghost use Rattle.xa_log.specs.declared.log_fault.LogFault.{LogFault};
 
     /// What the log is at this moment. Its content is nothing once a failure has shut it, after which every call fails; it

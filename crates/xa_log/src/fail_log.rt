@@ -1,15 +1,18 @@
 //! A decision log in memory that fails by a plan, for tests of what stands on a log.
 
 ghost use Rattle.std.specs.Prelude.{◌≡◌, Err};
-ghost use Rattle.xa_log.specs.declared.fail_plan.Turn.TheVariants.{FailsAfter, Runs};
+ghost use Rattle.xa_log.specs.declared.fail_log.fail_plan.Turn.TheVariants.{FailsAfter, Runs};
 ghost use Rattle.xa_log.specs.declared.log_fault.LogFault.TheVariants.{Store};
 
+mod fail_plan;
+
 use crate::decision::Decision;
-use crate::decision_log::{DecisionLog, Logged};
-use crate::fail_plan::{FailPlan, LogCall, Turn};
+use crate::decision_log::{DecisionLog, LogCall, Logged};
 use crate::log_fault::{LogFault, counted};
 use crate::log_rows::LogRows;
 use crate::mem_log::MemLog;
+pub use fail_plan::FailPlan;
+use fail_plan::Turn;
 use std::alloc::Global;
 use xa_base::{Branch, Gtrid, How};
 
@@ -73,7 +76,8 @@ impl FailLog {
 
 impl DecisionLog for FailLog {
     ghost use Rattle.std.specs.Prelude.{◌≡◌};
-    ghost use Rattle.xa_log.specs.Memory.{content_held, memory_moment, FollowsPlan};
+    ghost use Rattle.xa_log.specs.FailLog.{FollowsPlan};
+    ghost use Rattle.xa_log.specs.Memory.{content_held, memory_moment};
     ghost use Rattle.xa_log.specs.MemoryLaws.{fits_held, leaves_held, own_held};
 
     ghost moment = { λ it. memory_moment (content_held it.log) it.faults };

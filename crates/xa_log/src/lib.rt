@@ -3,8 +3,8 @@
 //! Only decisions to commit are kept: what has no row is rolled back (presumed rollback: XA, section 2.3).
 //!
 //! [`DecisionLog`] is what every log promises. [`MemLog`] keeps it in memory, and [`FailLog`] fails by a plan, for tests.
-//! The log in the tables of a database is `SqlLog` of the crate `xa_sql_log`. [`decisions_in_turn`] and [`rows_left_together`]
-//! do nothing: their clauses are laws.
+//! The log in the tables of a database is `SqlLog` of the crate `xa_sql_log`. The functions of [`laws`] do nothing: their
+//! contracts are theorems.
 //!
 //! "XA" in these pages is X/Open CAE Specification C193, "Distributed Transaction Processing: The XA Specification"
 //! (1991).
@@ -14,18 +14,17 @@ mod commands;
 mod decision;
 mod decision_log;
 mod fail_log;
-mod fail_plan;
+pub mod laws;
 mod log_fault;
 mod log_rows;
 mod mem_log;
-mod turns;
 
 pub use commands::{Command, Told, run_commands};
 pub use decision::Decision;
-pub use decision_log::{DecisionLog, LAST_NUMBER, Logged};
-pub use fail_log::FailLog;
-pub use fail_plan::{FailPlan, LogCall};
+pub use decision_log::{DecisionLog, LogCall, Logged};
+pub use fail_log::{FailLog, FailPlan};
 pub use log_fault::{LogFault, counted};
 pub use log_rows::LogRows;
 pub use mem_log::MemLog;
-pub use turns::{decisions_in_turn, rows_left_together};
+/// The last incarnation of a log, and the last sequence of one.
+pub use xa_base::LAST_NUMBER;

@@ -7,12 +7,12 @@ ghost use Rattle.xa_base.specs.Branch.{branch_cmp};
 mod groups;
 
 use crate::decision::Decision;
-use crate::decision_log::{DecisionLog, LAST_NUMBER, Logged};
+use crate::decision_log::{DecisionLog, Logged};
 use crate::log_fault::{LogFault, counted};
 use crate::log_rows::LogRows;
 use std::alloc::{AllocError, Global};
 use std::collections::{BTreeMap, BTreeSet};
-use xa_base::{Branch, Gtrid, How};
+use xa_base::{Branch, Gtrid, How, LAST_NUMBER};
 
 /// A decision log that lives in memory, and as long as its value: a crash of the transaction manager doesn't lose
 /// it.

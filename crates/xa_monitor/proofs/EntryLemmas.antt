@@ -1,17 +1,14 @@
 -- The map of the branches of which something was heard, entry by entry.
 use Rattle.std.proofs.Common.{◌≡◌, ◌≢◌, ℕ, Bool, true, false, ◌&&◌, cond, List, [], ◌∷◌, Option, Some, None, IsSome, Result, Ok, Err, OnOk, OnErr, is_some, is_eq, refl, sym, ap, ◌∙◌, subst, Less}
 use Rattle.std.specs.Prelude.{if◌then◌else◌, nat_lt, unwrap_or}
-use Rattle.std.specs.Ordering.{eq_by_cmp}
 use Rattle.std.specs.BTreeMap.{BTreeMap, IsOrdered, get, is_at}
 use Rattle.std.specs.List.{AllByRecursion}
 use Rattle.std.specs.List.Sorted.{IsStrictlySortedBy}
 use Rattle.std.specs.Map.{keys_of, lookup}
 use Rattle.std.specs.Map.Calls.{RetainsPairs}
-use Rattle.std.proofs.lemmas.Bool.{true≢false}
-use Rattle.std.proofs.lemmas.Cmp.{eq_by_cmp_equiv}
-use Rattle.xa_base.proofs.BranchKeys.{branch_eq-refl, branch_eq-true}
-use Rattle.xa_base.proofs.BranchOrder.{branches_total, exact_branches}
-use Rattle.xa_base.proofs.Orders.{equal_is}
+use Rattle.xa_base.proofs.BranchKeys.{branch_eq-true}
+use Rattle.xa_base.proofs.BranchOrder.{exact_branches}
+use Rattle.xa_base.proofs.Orders.{equal_is, branch_tie}
 use Rattle.xa_base.specs.Branch.{branch_cmp, branch_eq, branch_of_xid}
 use Rattle.xa_base.specs.Xid.{Xid}
 use Rattle.xa_model.specs.Facts.{fits}
@@ -26,15 +23,6 @@ use Rattle.xa_monitor.specs.declared.states.States.{States}
 -- a branch ties with itself alone
 pub tied_branch : (b q : Branch) → is_at (branch_cmp b) q ≡ true → b ≡ q
 tied_branch b q e = exact_branches b q (equal_is _ e)
-
-pub branch_tie : (b q : Branch) → is_at (branch_cmp b) q ≡ branch_eq b q
-branch_tie b q = by (is_at (branch_cmp b) q) (branch_eq b q) refl refl
-  where
-    by : (s t : Bool) → is_at (branch_cmp b) q ≡ s → branch_eq b q ≡ t → s ≡ t
-    by true true e f = refl
-    by false false e f = refl
-    by true false e f = absurd (true≢false (sym (branch_eq-refl b) ∙ ap (branch_eq b) (tied_branch b q e) ∙ f))
-    by false true e f = absurd (true≢false (sym ((eq_by_cmp_equiv branches_total).refl b) ∙ ap (eq_by_cmp branch_cmp b) (branch_eq-true b q f) ∙ e))
 
 -- ** one branch
 

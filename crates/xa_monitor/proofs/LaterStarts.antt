@@ -6,6 +6,7 @@ use Rattle.xa_base.specs.StateTable.{broken}
 use Rattle.xa_base.specs.Xid.{Xid}
 use Rattle.xa_base.specs.declared.state.Standing.{Standing}
 use Rattle.xa_base.specs.declared.state.Standing.TheVariants.{Active, Committed, Completed, Forgotten, Idle, Lost, Prepared, ReadOnly, RollbackOnly, RolledBack, Unstarted}
+use Rattle.xa_base.proofs.StateLemmas.{broken_twice}
 use Rattle.xa_model.proofs.Invariant.{HasBegun, Inv, IsOlder, Old}
 use Rattle.xa_model.proofs.Invariant.Now.{begun_or_older, older_closed}
 use Rattle.xa_model.specs.Facts.{incarnation, origin, standing, started, up}
@@ -19,12 +20,6 @@ use Rattle.xa_monitor.proofs.Books.{AsksIf, SameBooks}
 use Rattle.xa_monitor.proofs.RunSteps.{unstarted_still}
 
 -- ** standings
-
-broken_again : (s : Standing) → broken (broken s) ≡ broken s
-broken_again Active = refl
-broken_again Idle = refl
-broken_again RollbackOnly = refl
-broken_again s = refl
 
 pub prepared_whole : (s : Standing) → broken s ≡ Prepared → s ≡ Prepared
 prepared_whole Active e = absurd (cc)
@@ -109,5 +104,5 @@ broken_failed None tr b = refl
 broken_failed (Some f) tr b = by (up tr)
   where
     by : (t : Bool) → broken (if t then broken (standing tr b) else standing tr b) ≡ broken (standing tr b)
-    by true = broken_again (standing tr b)
+    by true = broken_twice (standing tr b)
     by false = refl

@@ -48,8 +48,9 @@ pub(crate) fn put(
     states: States,
 )
     requires { HasEntry branches.old b }
-    ensures { (q : _) → states_at incarnation branches.new q ≡
+    ensures at { (q : _) → states_at incarnation branches.new q ≡
         (if branch_eq b q then states else states_at incarnation branches.old q) }
+    ensures needed { HasEntry branches.new b → states ≢ states_before incarnation b }
 {
     if differs_from_before(incarnation, b, states) {
         let done: Result<_, _> = branches.insert(b, states);

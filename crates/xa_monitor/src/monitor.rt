@@ -1,12 +1,12 @@
 //! What is known of where each branch stands, by all that was answered.
 
-ghost use Rattle.std.specs.Prelude.{◌≡◌, ℕ, Some, None, Err, IfSome, OnOk, OnErr};
+ghost use Rattle.std.specs.Prelude.{◌≡◌, ℕ, Some, None, IfSome, OnOk, OnErr};
 ghost use Rattle.std.specs.Option.{option_copied};
 ghost use Rattle.xa_base.specs.Answer.{map_answer};
 ghost use Rattle.xa_base.specs.StateTable.{asks_of};
 ghost use Rattle.xa_base.specs.declared.answer.Answer.TheVariants.{Ret};
 ghost use Rattle.xa_model.specs.Replies.History.{name_of};
-ghost use Rattle.xa_model.specs.Trace.{Branch as Named, Call as KnownCall, Happening, Line, Origin, line};
+ghost use Rattle.xa_model.specs.Trace.{Answer as KnownAnswer, Branch as Named, Call as KnownCall, Happening, Line, Origin, line};
 ghost use Rattle.xa_monitor.specs.Entries.{HasNoRoom, HasRoomForAnswer, HasRoomIf, branch_in_call};
 ghost use Rattle.xa_monitor.specs.Explained.{HasOnlyOlderRows, IsExplained};
 ghost use Rattle.xa_monitor.specs.Seen.{KeepsRules, Seen};
@@ -20,19 +20,11 @@ use std::alloc::Global;
 use std::collections::BTreeMap;
 use xa_base::{Answer, Branch, Call, Code, Memory};
 
-/// Why an answer isn't heard.
-#[derive(Clone, Copy, Debug, PartialEq, Eq)]
-pub enum HearFault {
-    /// No state of this branch explains the answer.
-    Unexplained(Branch),
-    /// A request for memory was refused.
-    Memory,
-}
-
 /// Of each branch the states of XA's table that explain all that was answered (XA, chapter 6, State Tables).
 ///
-/// It is told each answer to a call that waited, and each line that was lost. An answer that no state explains is refused
-/// as it comes, so each branch is always in some state. What the manager does by itself moves no branch, and isn't told.
+/// It is told each answer to a call that waited, and each line that was lost. It says beforehand whether some state explains
+/// an answer; one that none explains isn't followed, so each branch is always in some state. What the manager does by
+/// itself moves no branch, and isn't told.
 ///
 /// Memory is kept for a branch while it may be in other states than before anything was heard of it. So one of this
 /// incarnation that is gone takes none.
@@ -44,7 +36,6 @@ pub struct Monitor {
 
 impl Monitor {
     ghost use Rattle.xa_monitor.specs.Monitor.{AllExplain, CanExplain, HearsAnswer, IsUnexplained, LeadsExactly, Loses, Monitors, SaysTheSame, known, known_if, states_of};
-    ghost use Rattle.xa_monitor.specs.declared.monitor.HearFault.TheVariants.{Unexplained};
 
     /// Nothing was heard yet in this incarnation of the manager: a branch of an older one is in `States::found()`, any
     /// other in `States::unstarted()`. No memory is taken.
@@ -124,32 +115,6 @@ impl Monitor {
         self.narrow(call, answer);
     }
 
-    /// The same all at once: a resource manager answered the call so, to any thread.
-    ///
-    /// - `ok`: the monitor has followed the answer;
-    /// - `unexplained`: no standing of the branch explains it, by all that was seen;
-    /// - `same`: what isn't heard has changed no states.
-    pub fn hear(&mut self, rm: u32, call: &Call, answer: &Answer) -> Result<(), HearFault>
-        ensures ok { OnOk result ((t : ℕ) (c : KnownCall) → known call.now ≡ Some c →
-            HearsAnswer (line t rm) c (map_answer name_of answer.now) self.old self.new) }
-        ensures unexplained { (b : Named) → result ≡ Err (Unexplained b) →
-            (o : Origin) (seen : Seen) (t : ℕ) (c : KnownCall) →
-            known call.now ≡ Some c → Monitors o seen self.old →
-            IsUnexplained o (Seen.Answered seen (line t rm) c (map_answer name_of answer.now)) b }
-        ensures same { OnErr result (SaysTheSame self.old self.new) }
-    {
-        if let Some(b) = self.unexplained(rm, call, answer) {
-            return Err(HearFault::Unexplained(b));
-        }
-        match self.make_room(call, answer) {
-            Ok(()) => {
-                self.follow(call, answer);
-                Ok(())
-            }
-            Err(Memory) => Err(HearFault::Memory),
-        }
-    }
-
     /// The line of a thread to a resource manager was lost, with the call that waited first on it, if one did: it may have
     /// been done, with any answer. What was started on the line and isn't prepared is gone.
     ///
@@ -167,12 +132,16 @@ impl Monitor {
     /// What a monitor that followed what was seen says of it. This function does nothing: its contract is a theorem.
     ///
     /// - `explained`: if the manager kept its own rules, what was seen has a right history;
-    /// - `did`: what the manager did needs no telling.
+    /// - `did`: what the manager did needs no telling;
+    /// - `unexplained`: an answer that no state of a branch explains, no standing of it explains, by all that was seen.
     pub fn what_was_seen_is_explained(&self)
         ensures explained { (o : Origin) (seen : Seen) → HasOnlyOlderRows o → KeepsRules o seen →
             Monitors o seen self.now → IsExplained o seen }
         ensures did { (o : Origin) (seen : Seen) (e : Happening) → Monitors o seen self.now →
             Monitors o (Seen.Did seen e) self.now }
+        ensures unexplained { (o : Origin) (seen : Seen) (l : Line) (c : KnownCall)
+            (a : KnownAnswer) (b : Named) → (CanExplain (states_of self.now) l c a b → ⊥) → Monitors o seen self.now →
+            IsUnexplained o (Seen.Answered seen l c a) b }
     {}
 
     /// The branch of the call, if none of its states explains the code.

@@ -1,4 +1,4 @@
-mod KeptNamesLemmas
+pub mod KeptNamesLemmas
 pub mod LineLemmas
 pub mod NameLemmas
 mod WrittenLemmas

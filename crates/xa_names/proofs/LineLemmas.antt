@@ -7,17 +7,13 @@ use Rattle.std.specs.Result.{result_ok}
 use Rattle.xa_base.specs.Xid.{Xid, IsXid, text_of, xid_of}
 use Rattle.xa_base.specs.XidText.{Spells}
 use Rattle.xa_base.specs.declared.fault.XidFault.{XidFault}
-use Rattle.xa_names.proofs.NameLemmas.{stays}
+use Rattle.xa_names.proofs.NameLemmas.{none_left, stays}
 use Rattle.xa_names.specs.Laws.{LinesStay}
 use Rattle.xa_names.specs.Lines.{line_renamed, word_renamed}
 use Rattle.xa_names.specs.Names.{renamed}
 use Rattle.xa_requests.specs.Names.{xid_named}
 use Rattle.xa_requests.specs.Spellings.{XidsHaveOneSpelling}
 use Rattle.xa_requests.specs.Words.{Word, words_of}
-
-none_left : {A : Type 0} (o : Option A) → ((y : A) → o ≡ Some y → ⊥) → o ≡ None
-none_left None never = refl
-none_left (Some y) never = absurd (never y refl)
 
 -- what is parsed is what the word names
 pub parsed : XidsHaveOneSpelling → (word : List ℕ) (r : Result Xid XidFault) → ((x : Xid) → Spells word x → r ≡ xid_of x.format x.gtrid x.bqual)

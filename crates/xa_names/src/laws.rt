@@ -1,8 +1,8 @@
-//! Laws on names. Their functions do nothing.
+//! Laws on names. These functions do nothing: each contract is a theorem.
 
 ghost use Rattle.xa_names.specs.Laws.{BranchesAreRead, BranchesHaveNames, LinesStay, NamesAreApart, OthersAreForeign, OwnHaveName, RenamesBack, StaysWithoutName, WrittenCalls};
 
-use xa_requests::words_have_one_spelling;
+use xa_requests::laws::words_have_one_spelling;
 
 /// Under any name an identifier stands for the one that stands for it.
 pub fn renaming_goes_back()

@@ -9,7 +9,7 @@ ghost use Rattle.xa_requests.specs.Words.{words_of};
 use crate::ManagerName;
 use std::alloc::{AllocError, Global};
 use xa_base::{Memory, Xid};
-use xa_requests::words_have_one_spelling;
+use xa_requests::laws::words_have_one_spelling;
 
 /// The line, cut at each space.
 fn words_of(alloc: Global, line: &str) -> Result<Vec<&str>, AllocError>

@@ -7,7 +7,7 @@ ghost use Rattle.xa_names.specs.Names.{IsName, is_bare_of, is_manager_name, is_m
 
 use arrayvec::ArrayVec;
 use std::marker::Model;
-use xa_base::Xid;
+use xa_base::{OWN_FORMAT, Xid};
 
 /// The most bytes that a name has.
 pub(crate) const NAME_LEN: usize = 16;
@@ -16,9 +16,6 @@ pub(crate) const NAME_LEN: usize = 16;
 const OWN_GTRID_LEN: usize = 16;
 
 const OWN_BQUAL_LEN: usize = 8;
-
-/// The format of this manager's identifiers.
-const OWN_FORMAT: i32 = 7;
 
 /// The name of a manager: 1 to 16 letters, digits, `_` and `-`. A manager may have none, and its name is then empty.
 ///

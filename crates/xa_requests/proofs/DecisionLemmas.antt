@@ -7,7 +7,7 @@ use Rattle.std.proofs.lemmas.Option.{slice_get-map, slice_get-get_or}
 use Rattle.xa_base.specs.declared.branch.Gtrid.{Gtrid}
 use Rattle.xa_base.specs.declared.step.Outcome.{Outcome}
 use Rattle.xa_requests.specs.Decisions.{decide_request, some_gtrids}
-use Rattle.xa_requests.specs.Verbs.{outcome_named}
+use Rattle.xa_files.specs.Words.{outcome_named}
 use Rattle.xa_requests.specs.declared.request.Request.TheVariants as requests
 use Rattle.xa_requests.proofs.EachLemmas.{texts}
 

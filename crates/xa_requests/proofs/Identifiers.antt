@@ -13,16 +13,16 @@ use Rattle.xa_base.specs.declared.branch.Gtrid.{Gtrid}
 use Rattle.xa_base.specs.declared.call.Call.{Call}
 use Rattle.xa_base.specs.declared.call.CallKind.{CallKind}
 use Rattle.xa_base.specs.declared.call.CallKind.TheVariants as kinds
-use Rattle.xa_files.specs.Words.{call_named}
+use Rattle.xa_files.specs.Numbers.{index_of, integer_of}
+use Rattle.xa_files.specs.Words.{call_named, code_named, outcome_named}
 use Rattle.xa_requests.specs.Answers.{Answered, answer_behind, answer_request, bare_answer, branch_answer, page_answered, recover_answer}
 use Rattle.xa_requests.specs.Calls.{bare_call, branch_call, call_behind, call_in, flags_in, issue_request, recover_call}
 use Rattle.xa_requests.specs.Decisions.{begin_request, decide_request, only_gtrid, some_gtrids}
 use Rattle.xa_requests.specs.Identifiers.{HasXids, ListsXids, RequestsHaveXids}
 use Rattle.xa_requests.specs.Names.{branch_named, each_named, gtrid_named, xid_named}
-use Rattle.xa_requests.specs.Numbers.{index_of, integer_of}
 use Rattle.xa_requests.specs.Recoveries.{bare_request, crash_request, line_in_words, only_index}
 use Rattle.xa_requests.specs.Requests.{request_in, request_with}
-use Rattle.xa_requests.specs.Verbs.{code_named, outcome_named, verb_named}
+use Rattle.xa_requests.specs.Verbs.{verb_named}
 use Rattle.xa_requests.specs.Words.{Word, words_of}
 use Rattle.xa_requests.specs.declared.request.Request.{Request}
 use Rattle.xa_requests.specs.declared.request.Request.TheVariants as requests

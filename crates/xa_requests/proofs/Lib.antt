@@ -1,9 +1,6 @@
-mod Choices
 mod DecisionLemmas
 mod EachLemmas
 pub mod Identifiers
-mod NumberLemmas
-mod Pieces
 mod ReadBackLemmas
 pub mod SpaceLemmas
 mod SpellingLemmas

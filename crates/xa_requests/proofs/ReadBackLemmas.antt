@@ -18,13 +18,13 @@ use Rattle.xa_base.specs.declared.call.CallKind.{CallKind}
 use Rattle.xa_base.specs.declared.call.CallKind.TheVariants as kinds
 use Rattle.xa_requests.specs.Calls.{branch_call, call_in, flags_in, issue_request, recover_call}
 use Rattle.xa_requests.specs.Names.{branch_named, gtrid_named, xid_named}
-use Rattle.xa_requests.specs.Numbers.{index_of}
+use Rattle.xa_files.specs.Numbers.{index_of}
 use Rattle.xa_requests.specs.ReadBack.{CallsAreReadBack}
 use Rattle.xa_requests.specs.Requests.{request_in}
 use Rattle.xa_requests.specs.Responses.{call_text, recover_text}
 use Rattle.xa_requests.specs.Words.{words_of}
 use Rattle.xa_requests.specs.declared.request.Request.TheVariants as requests
-use Rattle.xa_requests.proofs.NumberLemmas.{index_of-text, signed_of-text, within_fits}
+use Rattle.xa_files.proofs.NumberLemmas.{index_of-text, signed_of-text, within_fits}
 use Rattle.xa_requests.proofs.SpaceLemmas.{decimal_text, four_words, issue_words, last_word, signed_text, spaceless, three_words, two_words, xid_text}
 use Rattle.xa_requests.proofs.XidLemmas.{named_if_spelled}
 

@@ -1,23 +1,23 @@
 -- The words of identifiers.
-use Rattle.std.proofs.Common.{◌≡◌, ◌∙◌, ℕ, ◌^◌, ◌==◌, ◌&&◌, Bool, true, false, List, [], ◌∷◌, ◌++◌, get_or, Option, Some, None, Result, Ok, Err, IfOk, ℤ, pos, negsuc, refl, sym, ap, subst, arith, w32, FitsSigned, if◌then◌else◌}
+use Rattle.std.proofs.Common.{◌≡◌, ◌∙◌, ℕ, ◌^◌, ◌==◌, ◌&&◌, Bool, true, false, List, [], ◌∷◌, ◌++◌, get_or, Option, Some, None, Result, Ok, Err, IfOk, ℤ, refl, sym, ap, subst, arith, if◌then◌else◌}
 use Rattle.std.specs.Fmt.{signed_decimal}
 use Rattle.std.specs.List.{All, join_with_byte, slice_split}
 use Rattle.std.specs.Prelude.{option_and_then}
 use Rattle.std.specs.Result.{result_ok}
-use Rattle.std.proofs.lemmas.Bool.{and_parts, and_from, ltb-true, lt-ltb, ne_eqb, true_from_ne_false}
+use Rattle.std.proofs.lemmas.Bool.{and_parts, and_from, ne_eqb}
 use Rattle.std.proofs.lemmas.List.Elements.{All-from_get_or}
 use Rattle.std.proofs.lemmas.List.Splits.{slice_split_at, slice_split_none, join_with_byte-slice_split}
 use Rattle.hex.specs.Hex.{IsBytes, encode_lower, decode_of}
 use Rattle.hex.proofs.HexLemmas.{decode_of-encode_lower}
-use Rattle.xa_base.proofs.HexText.{encode-bytes_of, even_lower, not_hex}
+use Rattle.xa_base.proofs.HexText.{encode-bytes_of, even_lower, hex-encode}
 use Rattle.xa_base.proofs.TextLemmas.{no_colon-hex, no_colon-signed, one_xid, text_parts, xid_of_spells}
 use Rattle.xa_base.specs.Xid.{Xid, IsInRange, IsXid, text_of, xid_of}
 use Rattle.xa_base.specs.XidText.{HasNoColon, Spells, bytes_of, is_hex}
 use Rattle.xa_base.specs.declared.fault.XidFault.{XidFault}
 use Rattle.xa_requests.specs.Names.{xid_named, xid_of_texts}
-use Rattle.xa_requests.specs.Numbers.{is_within, signed_of}
-use Rattle.xa_requests.proofs.Choices.{none_left}
-use Rattle.xa_requests.proofs.NumberLemmas.{signed_of-some, signed_of-text}
+use Rattle.xa_files.specs.Numbers.{signed_of}
+use Rattle.xa_files.proofs.Choices.{none_left}
+use Rattle.xa_files.proofs.NumberLemmas.{fits_of, signed_of-some, signed_of-text, within_of}
 
 -- ** what spells an identifier is named by its texts
 
@@ -35,24 +35,13 @@ texts_of x fits text e =
     ∙ ap (λ ts. f ∷ ts) (slice_split_at (λ c. c == 58) g 58 b (plain g (no_colon-hex x.gtrid fits.gtrid)) refl)
     ∙ ap (λ ts. f ∷ g ∷ ts) (slice_split_none (λ c. c == 58) b (plain b (no_colon-hex x.bqual fits.bqual)))
 
-pub hex_of : (bytes : List ℕ) → IsBytes bytes → is_hex (encode_lower bytes) ≡ true
-hex_of bytes h = true_from_ne_false (is_hex (encode_lower bytes)) (λ no. not_hex (encode_lower bytes) no bytes h refl)
-
 pub bytes_back : (bytes : List ℕ) → IsBytes bytes → bytes_of (encode_lower bytes) ≡ bytes
 bytes_back bytes h =
-    let parts = even_lower (encode_lower bytes) (hex_of bytes h) in
+    let parts = even_lower (encode_lower bytes) (hex-encode bytes h) in
     let back = encode-bytes_of (encode_lower bytes) parts.0 parts.1 in
     let same : Ok (bytes_of (encode_lower bytes)) ≡ Ok bytes =
     sym (decode_of-encode_lower (bytes_of (encode_lower bytes)) back.1) ∙ ap decode_of back.0 ∙ decode_of-encode_lower bytes h in
     cc same
-
-within_of : (z : ℤ) → FitsSigned w32 z → is_within (2 ^ 31) z ≡ true
-within_of (pos n) h = lt-ltb n (2 ^ 31) h.sfits
-within_of (negsuc n) h = lt-ltb n (2 ^ 31) h.sfits
-
-fits_of : (z : ℤ) → is_within (2 ^ 31) z ≡ true → FitsSigned w32 z
-fits_of (pos n) h = let small = ltb-true n (2 ^ 31) h in record { sfits = omega arith }
-fits_of (negsuc n) h = let small = ltb-true n (2 ^ 31) h in record { sfits = omega arith }
 
 named_texts : (x : Xid) → IsInRange x
     → xid_of_texts (signed_decimal x.format ∷ encode_lower x.gtrid ∷ encode_lower x.bqual ∷ []) ≡ result_ok (xid_of x.format x.gtrid x.bqual)
@@ -61,7 +50,7 @@ named_texts x fits =
     let number : signed_of (2 ^ 31) (signed_decimal x.format) ≡ Some x.format =
     signed_of-text (2 ^ 31) (signed_decimal x.format) x.format (omega arith) (within_of x.format fits.format) refl in
     let hexes : (is_hex (encode_lower x.gtrid) && is_hex (encode_lower x.bqual)) ≡ true =
-    and_from (is_hex (encode_lower x.gtrid)) (is_hex (encode_lower x.bqual)) (hex_of x.gtrid fits.gtrid) (hex_of x.bqual fits.bqual) in
+    and_from (is_hex (encode_lower x.gtrid)) (is_hex (encode_lower x.bqual)) (hex-encode x.gtrid fits.gtrid) (hex-encode x.bqual fits.bqual) in
     ap (λ (o : Option ℤ). option_and_then (λ n. if is_hex (encode_lower x.gtrid) && is_hex (encode_lower x.bqual)
     then result_ok (xid_of n (bytes_of (encode_lower x.gtrid)) (bytes_of (encode_lower x.bqual))) else None) o) number
     ∙ ap (λ (t : Bool). if t then result_ok (xid_of x.format (bytes_of (encode_lower x.gtrid)) (bytes_of (encode_lower x.bqual))) else None) hexes

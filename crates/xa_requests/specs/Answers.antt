@@ -6,10 +6,9 @@ use Rattle.xa_base.specs.declared.answer.Answer.TheVariants.{Ret, Page}
 use Rattle.xa_base.specs.declared.call.CallKind.{CallKind}
 use Rattle.xa_base.specs.declared.call.CallKind.TheVariants as kinds
 use Rattle.xa_files.specs.Fields.{◌>>=◌}
-use Rattle.xa_files.specs.Words.{call_named}
+use Rattle.xa_files.specs.Numbers.{index_of}
+use Rattle.xa_files.specs.Words.{call_named, code_named}
 use Rattle.xa_requests.specs.Names.{branch_named, xids_named}
-use Rattle.xa_requests.specs.Numbers.{index_of}
-use Rattle.xa_requests.specs.Verbs.{code_named}
 use Rattle.xa_requests.specs.Words.{Word}
 use Rattle.xa_requests.specs.declared.request.CallName.{CallName}
 use Rattle.xa_requests.specs.declared.request.Request.{Request}

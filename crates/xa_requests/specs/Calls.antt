@@ -8,9 +8,9 @@ use Rattle.xa_base.specs.declared.call.CallKind.{CallKind}
 use Rattle.xa_base.specs.declared.call.CallKind.TheVariants as kinds
 use Rattle.xa_base.specs.declared.flags.TheConstants.{TMENDRSCAN, TMNOFLAGS, TMSTARTRSCAN}
 use Rattle.xa_files.specs.Fields.{◌>>=◌}
+use Rattle.xa_files.specs.Numbers.{index_of, integer_of}
 use Rattle.xa_files.specs.Words.{call_named, flag_named}
 use Rattle.xa_requests.specs.Names.{branch_named}
-use Rattle.xa_requests.specs.Numbers.{index_of, integer_of}
 use Rattle.xa_requests.specs.Words.{Word}
 use Rattle.xa_requests.specs.declared.request.Request.{Request}
 use Rattle.xa_requests.specs.declared.request.Request.TheVariants as requests

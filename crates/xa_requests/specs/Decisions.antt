@@ -2,9 +2,9 @@
 use Rattle.std.specs.Prelude.{◌-◌, List, [], ◌∷◌, length, slice_get, take, Option, Some, None}
 use Rattle.xa_base.specs.declared.branch.Gtrid.{Gtrid}
 use Rattle.xa_files.specs.Fields.{◌>>=◌}
+use Rattle.xa_files.specs.Numbers.{index_of}
+use Rattle.xa_files.specs.Words.{outcome_named}
 use Rattle.xa_requests.specs.Names.{gtrid_named, gtrids_named}
-use Rattle.xa_requests.specs.Numbers.{index_of}
-use Rattle.xa_requests.specs.Verbs.{outcome_named}
 use Rattle.xa_requests.specs.Words.{Word}
 use Rattle.xa_requests.specs.declared.request.Request.{Request}
 use Rattle.xa_requests.specs.declared.request.Request.TheVariants as requests

@@ -3,7 +3,6 @@ pub mod Calls
 pub mod Decisions
 pub mod Identifiers
 pub mod Names
-pub mod Numbers
 pub mod ReadBack
 pub mod Recoveries
 pub mod Requests

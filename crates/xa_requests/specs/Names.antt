@@ -8,7 +8,7 @@ use Rattle.xa_base.specs.Xid.{Xid, xid_of}
 use Rattle.xa_base.specs.XidText.{bytes_of, is_hex}
 use Rattle.xa_base.specs.declared.branch.Gtrid.{Gtrid}
 use Rattle.xa_files.specs.Fields.{◌>>=◌}
-use Rattle.xa_requests.specs.Numbers.{signed_of}
+use Rattle.xa_files.specs.Numbers.{signed_of}
 use Rattle.xa_requests.specs.Words.{Word}
 
 -- the transaction of two numbers of eight bytes each

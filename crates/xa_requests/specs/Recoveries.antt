@@ -2,7 +2,7 @@
 use Rattle.std.specs.Prelude.{ℕ, if◌then◌else◌, List, [], ◌∷◌, codes, Option, Some, None}
 use Rattle.std.specs.Str.{bytes_eq}
 use Rattle.xa_files.specs.Fields.{◌>>=◌}
-use Rattle.xa_requests.specs.Numbers.{index_of}
+use Rattle.xa_files.specs.Numbers.{index_of}
 use Rattle.xa_requests.specs.Words.{Word}
 use Rattle.xa_requests.specs.declared.request.Request.{Request}
 use Rattle.xa_requests.specs.declared.request.Request.TheVariants as requests

@@ -1,36 +1,21 @@
 -- The text of replies.
 use Rattle.std.specs.Prelude.{ℕ, ℤ, Bool, if◌then◌else◌, List, [], ◌++◌, length, codes}
 use Rattle.std.specs.Fmt.{decimal, signed_decimal}
-use Rattle.std.specs.List.{flat_map}
-use Rattle.xa_base.specs.Refusal.{refusal_name, refusal_number}
+use Rattle.xa_base.specs.Call.{kind_name}
 use Rattle.xa_base.specs.Xid.{Xid, text_of}
-use Rattle.xa_base.specs.declared.branch.Gtrid.{Gtrid}
 use Rattle.xa_base.specs.declared.call.Call.{Call}
 use Rattle.xa_base.specs.declared.call.Call.TheVariants.{OpenRm, CloseRm, Start, End, Prepare, Commit, Rollback, Forget, Recover}
 use Rattle.xa_base.specs.declared.call.CallKind.{CallKind}
 use Rattle.xa_base.specs.declared.call.CallKind.TheVariants as kinds
-use Rattle.xa_base.specs.declared.refusal.Refusal.{Refusal}
-use Rattle.xa_files.specs.Gtrids.{gtrid_text}
+use Rattle.xa_files.specs.Replies.{begun_text, listed_xids, refused_text, restarted_text}
 use Rattle.xa_requests.specs.declared.response.RequestFault.{RequestFault}
 use Rattle.xa_requests.specs.declared.response.RequestFault.TheVariants as faults
 use Rattle.xa_requests.specs.declared.response.Response.{Response}
 use Rattle.xa_requests.specs.declared.response.Response.TheVariants as responses
 
--- the name of a call
-abbrev pub kind_text : CallKind → List ℕ
-kind_text kinds.OpenRm = codes "xa_open"
-kind_text kinds.CloseRm = codes "xa_close"
-kind_text kinds.Start = codes "xa_start"
-kind_text kinds.End = codes "xa_end"
-kind_text kinds.Prepare = codes "xa_prepare"
-kind_text kinds.Commit = codes "xa_commit"
-kind_text kinds.Rollback = codes "xa_rollback"
-kind_text kinds.Forget = codes "xa_forget"
-kind_text kinds.Recover = codes "xa_recover"
-
 -- a call on a branch, with its flag
 abbrev pub branch_text : CallKind → Xid → (flag : List ℕ) → List ℕ
-branch_text kind xid flag = kind_text kind ++ codes " " ++ text_of xid ++ flag
+branch_text kind xid flag = kind_name kind ++ codes " " ++ text_of xid ++ flag
 
 -- the flags of an xa_recover
 abbrev pub scan_text : (start_scan end_scan : Bool) → List ℕ
@@ -38,12 +23,12 @@ scan_text start_scan end_scan = (if start_scan then codes " TMSTARTRSCAN" else [
 
 -- an xa_recover, with its count and its flags
 abbrev pub recover_text : (count : ℤ) (start_scan end_scan : Bool) → List ℕ
-recover_text count start_scan end_scan = codes "xa_recover " ++ signed_decimal count ++ scan_text start_scan end_scan
+recover_text count start_scan end_scan = kind_name kinds.Recover ++ codes " " ++ signed_decimal count ++ scan_text start_scan end_scan
 
 -- a call, as a driver is to do it: its name, its branch or its count, and its flags
 abbrev pub call_text : Call Xid → List ℕ
-call_text OpenRm = codes "xa_open"
-call_text CloseRm = codes "xa_close"
+call_text OpenRm = kind_name kinds.OpenRm
+call_text CloseRm = kind_name kinds.CloseRm
 call_text (Start xid join) = branch_text kinds.Start xid (if join then codes " TMJOIN" else [])
 call_text (End xid fail) = branch_text kinds.End xid (if fail then codes " TMFAIL" else codes " TMSUCCESS")
 call_text (Prepare xid) = branch_text kinds.Prepare xid []
@@ -52,33 +37,17 @@ call_text (Rollback xid) = branch_text kinds.Rollback xid []
 call_text (Forget xid) = branch_text kinds.Forget xid []
 call_text (Recover count start_scan end_scan) = recover_text count start_scan end_scan
 
--- an identifier behind a space
-abbrev pub listed_xid : Xid → List ℕ
-listed_xid x = codes " " ++ text_of x
-
 -- how many branches are owed, and their identifiers
 abbrev pub owed_text : List Xid → List ℕ
-owed_text xids = codes "owed " ++ decimal (length xids) ++ flat_map listed_xid xids
-
--- the incarnation of a session, and how many rows of either kind it found
-abbrev pub restarted_text : (incarnation decisions heuristics : ℕ) → List ℕ
-restarted_text incarnation decisions heuristics =
-    codes "restarted " ++ decimal incarnation ++ codes " " ++ decimal decisions ++ codes " " ++ decimal heuristics
-
-abbrev pub begun_text : Gtrid → List ℕ
-begun_text gtrid = codes "begun " ++ gtrid_text gtrid
+owed_text xids = codes "owed " ++ decimal (length xids) ++ listed_xids xids
 
 -- the name of a call, and the number that it was answered by
 abbrev pub heard_text : CallKind → ℤ → List ℕ
-heard_text kind number = codes "heard " ++ kind_text kind ++ codes " " ++ signed_decimal number
+heard_text kind number = codes "heard " ++ kind_name kind ++ codes " " ++ signed_decimal number
 
 -- whether the manager is up, and how much has happened
 abbrev pub status_text : (up : Bool) (happened : ℕ) → List ℕ
 status_text up happened = codes "status " ++ (if up then codes "up" else codes "down") ++ codes " " ++ decimal happened
-
--- a refusal, by its number and its name
-abbrev pub refused_text : Refusal → List ℕ
-refused_text refusal = codes "refused " ++ decimal (refusal_number refusal) ++ codes " " ++ refusal_name refusal
 
 abbrev pub error_text : RequestFault → List ℕ
 error_text faults.NoRequest = codes "error not a request"

@@ -2,17 +2,15 @@
 use Rattle.std.specs.Prelude.{◌≡◌, ◌↔◌, ℕ, ◌<◌, ◌^◌, ℤ, Some, FitsSigned}
 use Rattle.std.specs.Fmt.{decimal, signed_decimal}
 use Rattle.std.specs.Int.{w64}
-use Rattle.xa_base.specs.Code.{code_number}
+use Rattle.xa_base.specs.Branch.{gtrid_text}
+use Rattle.xa_base.specs.Call.{kind_name}
 use Rattle.xa_base.specs.Xid.{Xid, IsXid, text_of}
 use Rattle.xa_base.specs.declared.branch.Gtrid.{Gtrid}
 use Rattle.xa_base.specs.declared.call.CallKind.{CallKind}
 use Rattle.xa_base.specs.declared.code.Code.{Code}
-use Rattle.xa_files.specs.Gtrids.{gtrid_text}
-use Rattle.xa_files.specs.Words.{call_named}
+use Rattle.xa_files.specs.Numbers.{index_of, integer_of}
+use Rattle.xa_files.specs.Words.{call_named, code_named, code_text}
 use Rattle.xa_requests.specs.Names.{gtrid_named, xid_named}
-use Rattle.xa_requests.specs.Numbers.{index_of, integer_of}
-use Rattle.xa_requests.specs.Responses.{kind_text}
-use Rattle.xa_requests.specs.Verbs.{code_named}
 use Rattle.xa_requests.specs.Words.{Word}
 
 -- a number of 32 bits, its decimal text
@@ -34,8 +32,8 @@ XidsHaveOneSpelling = (word : Word) (x : Xid) → (xid_named word ≡ Some x) �
 
 -- the kind of a call, its name
 abbrev pub KindsHaveOneSpelling : Type 0
-KindsHaveOneSpelling = (word : Word) (kind : CallKind) → (call_named word ≡ Some kind) ↔ (word ≡ kind_text kind)
+KindsHaveOneSpelling = (word : Word) (kind : CallKind) → (call_named word ≡ Some kind) ↔ (word ≡ kind_name kind)
 
 -- a code, its number
 abbrev pub CodesHaveOneSpelling : Type 0
-CodesHaveOneSpelling = (word : Word) (code : Code) → (code_named word ≡ Some code) ↔ (word ≡ signed_decimal (code_number code))
+CodesHaveOneSpelling = (word : Word) (code : Code) → (code_named word ≡ Some code) ↔ (word ≡ code_text code)

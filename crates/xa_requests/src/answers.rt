@@ -4,12 +4,10 @@ ghost use Rattle.std.specs.Prelude.{◌≡◌, map, IfOk};
 ghost use Rattle.xa_requests.specs.Answers.{answer_behind, answer_request, bare_answer, branch_answer, page_answered, recover_answer};
 
 use crate::names::{branch_named, xids_named};
-use crate::numbers::index_of;
 use crate::request::{CallName, Request};
-use crate::verbs::code_named;
 use std::alloc::{AllocError, Global};
 use xa_base::{Answer, CallKind};
-use xa_files::call_named;
+use xa_files::{call_named, code_named, index_of};
 
 /// An answer to a call on no branch: a code.
 #[tactic(auto, unfolding(crate::specs::Answers::bare_answer))]

@@ -4,10 +4,9 @@ ghost use Rattle.std.specs.Prelude.{◌≡◌, map};
 ghost use Rattle.xa_requests.specs.Calls.{bare_call, branch_call, call_behind, call_in, flags_in, issue_request, recover_call, scan_flags};
 
 use crate::names::branch_named;
-use crate::numbers::{index_of, integer_of};
 use crate::request::Request;
 use xa_base::{Call, CallKind, TMENDRSCAN, TMNOFLAGS, TMSTARTRSCAN};
-use xa_files::{call_named, flag_named};
+use xa_files::{call_named, flag_named, index_of, integer_of};
 
 /// The flags of a whole scan, if these are they.
 fn scan_flags(start: &str, end: &str) -> Option<u32>

@@ -4,11 +4,10 @@ ghost use Rattle.std.specs.Prelude.{◌≡◌, map, IfOk};
 ghost use Rattle.xa_requests.specs.Decisions.{abandon_request, begin_request, claim_request, decide_request, done_request, only_gtrid, settle_request, some_gtrids};
 
 use crate::names::{gtrid_named, gtrids_named};
-use crate::numbers::index_of;
 use crate::request::{Gtrids, Request};
-use crate::verbs::outcome_named;
 use std::alloc::{AllocError, Global};
 use xa_base::Gtrid;
+use xa_files::{index_of, outcome_named};
 
 /// What `begin` asks for.
 pub(crate) fn begin_request(words: &[&str]) -> Option<Request>

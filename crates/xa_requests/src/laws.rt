@@ -1,4 +1,4 @@
-//! Laws on what is read and what is written. Their functions do nothing.
+//! Laws on what is read and what is written. These functions do nothing: each contract is a theorem.
 
 ghost use Rattle.xa_requests.specs.Identifiers.{RequestsHaveXids};
 ghost use Rattle.xa_requests.specs.ReadBack.{CallsAreReadBack};

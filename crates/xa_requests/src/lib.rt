@@ -1,6 +1,5 @@
 //! The lines between a driver of real databases and the coordinator: what each line of the driver asks for, and the line
-//! that it is replied. [`calls_are_read_back`], [`requests_have_xids`] and [`words_have_one_spelling`] do nothing: their
-//! contracts are laws on the two.
+//! that it is replied. The functions of [`laws`] do nothing: their contracts are theorems on the two.
 //!
 //! "XA" in these pages is X/Open CAE Specification C193, "Distributed Transaction Processing: The XA Specification"
 //! (1991).
@@ -9,9 +8,8 @@
 mod answers;
 mod calls;
 mod decisions;
-mod laws;
+pub mod laws;
 mod names;
-mod numbers;
 mod reading;
 mod recoveries;
 mod request;
@@ -20,7 +18,6 @@ mod verbs;
 mod words;
 mod writing;
 
-pub use laws::{calls_are_read_back, requests_have_xids, words_have_one_spelling};
 pub use reading::read_request;
 pub use request::{CallName, Gtrids, Request};
 pub use response::{RequestFault, Response};

@@ -3,8 +3,8 @@
 ghost use Rattle.std.specs.Prelude.{◌≡◌, map};
 ghost use Rattle.xa_requests.specs.Recoveries.{bare_request, crash_request, line_in_words, only_index, owed_request, resolve_open_request, resolve_request, waiting_request};
 
-use crate::numbers::index_of;
 use crate::request::Request;
+use xa_files::index_of;
 
 /// The number that is the only word.
 fn only_index(words: &[&str]) -> Option<u32>

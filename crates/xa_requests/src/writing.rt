@@ -1,31 +1,13 @@
 //! The text of replies.
 
-ghost use Rattle.std.specs.Prelude.{◌≡◌, ◌++◌, [], if◌then◌else◌, IfOk, OnOk};
-ghost use Rattle.std.specs.List.{flat_map};
+ghost use Rattle.std.specs.Prelude.{◌≡◌, ◌++◌, [], if◌then◌else◌, IfOk};
 ghost use Rattle.std.specs.String.{string_bytes};
-ghost use Rattle.xa_requests.specs.Responses.{begun_text, branch_text, call_text, error_text, heard_text, kind_text, listed_xid, owed_text, recover_text, refused_text, response_text, restarted_text, scan_text, status_text};
+ghost use Rattle.xa_requests.specs.Responses.{branch_text, call_text, error_text, heard_text, owed_text, recover_text, response_text, scan_text, status_text};
 
 use crate::response::{RequestFault, Response};
 use std::alloc::Global;
-use xa_base::{Call, CallKind, Gtrid, Memory, Refusal, Xid};
-use xa_files::gtrid_text;
-
-/// The name of a call (XA, chapter 5).
-fn kind_text(kind: CallKind) -> &'static str
-    ensures { result.now ≡ kind_text kind }
-{
-    match kind {
-        CallKind::OpenRm => "xa_open",
-        CallKind::CloseRm => "xa_close",
-        CallKind::Start => "xa_start",
-        CallKind::End => "xa_end",
-        CallKind::Prepare => "xa_prepare",
-        CallKind::Commit => "xa_commit",
-        CallKind::Rollback => "xa_rollback",
-        CallKind::Forget => "xa_forget",
-        CallKind::Recover => "xa_recover",
-    }
-}
+use xa_base::{Call, CallKind, Memory, Xid};
+use xa_files::{begun_text, push_xids, refused_text, restarted_text};
 
 /// A flag, if it is set.
 fn flag_if(is_set: bool, flag: &'static str) -> &'static str
@@ -35,11 +17,11 @@ fn flag_if(is_set: bool, flag: &'static str) -> &'static str
 }
 
 /// A call on a branch: its name, the branch's identifier, and the flag if it has one, behind a space.
-#[tactic(auto, using(crate::proofs::Pieces::four_pieces))]
+#[tactic(auto, using(xa_files::proofs::Pieces::four_pieces))]
 fn branch_text(alloc: Global, kind: CallKind, xid: &Xid, flag: &str) -> Result<String, Memory>
     ensures { IfOk result (λ text. string_bytes text ≡ branch_text kind xid.now flag.now) }
 {
-    let name = kind_text(kind);
+    let name = kind.name();
     let xid = xid.text(alloc)?;
     Ok(format!(in alloc; "{name} {xid}{flag}")?)
 }
@@ -57,6 +39,7 @@ fn scan_text(start_scan: bool, end_scan: bool) -> &'static str
 }
 
 /// An xa_recover: its name, its count and its flags.
+#[tactic(auto, using(xa_files::proofs::Pieces::four_pieces))]
 fn recover_text(
     alloc: Global,
     count: i64,
@@ -65,8 +48,9 @@ fn recover_text(
 ) -> Result<String, Memory>
     ensures { IfOk result (λ text. string_bytes text ≡ recover_text count start_scan end_scan) }
 {
+    let name = CallKind::Recover.name();
     let flags = scan_text(start_scan, end_scan);
-    Ok(format!(in alloc; "xa_recover {count}{flags}")?)
+    Ok(format!(in alloc; "{name} {count}{flags}")?)
 }
 
 /// A call in words: its name, the branch's identifier or the count, and its flags.
@@ -74,8 +58,8 @@ pub fn call_text(alloc: Global, call: &Call) -> Result<String, Memory>
     ensures { IfOk result (λ text. string_bytes text ≡ call_text call.now) }
 {
     match call {
-        Call::OpenRm => Ok(String::from_str(alloc, "xa_open")?),
-        Call::CloseRm => Ok(String::from_str(alloc, "xa_close")?),
+        Call::OpenRm => Ok(String::from_str(alloc, CallKind::OpenRm.name())?),
+        Call::CloseRm => Ok(String::from_str(alloc, CallKind::CloseRm.name())?),
         Call::Start { xid, join } => {
             branch_text(alloc, CallKind::Start, xid, flag_if(*join, " TMJOIN"))
         }
@@ -98,19 +82,6 @@ pub fn call_text(alloc: Global, call: &Call) -> Result<String, Memory>
     }
 }
 
-/// Adds each identifier behind a space.
-fn push_xids(text: &mut String, alloc: Global, xids: &[Xid]) -> Result<(), Memory>
-    ensures { OnOk result (string_bytes text.new ≡ string_bytes text.old
-        ++ flat_map listed_xid xids.now) }
-{
-    for xid in xids {
-        let name = xid.text(alloc)?;
-        let listed = format!(in alloc; " {name}")?;
-        text.push_str(listed.as_str())?;
-    }
-    Ok(())
-}
-
 /// How many branches there are, and their identifiers.
 fn owed_text(alloc: Global, xids: &[Xid]) -> Result<String, Memory>
     ensures { IfOk result (λ text. string_bytes text ≡ owed_text xids.now) }
@@ -121,56 +92,22 @@ fn owed_text(alloc: Global, xids: &[Xid]) -> Result<String, Memory>
     Ok(text)
 }
 
-/// That the session is up, its incarnation, and how many rows of either kind it found.
-#[tactic(auto, using(crate::proofs::Pieces::six_pieces))]
-fn restarted_text(
-    alloc: Global,
-    incarnation: u64,
-    decisions: usize,
-    heuristics: usize,
-) -> Result<String, Memory>
-    ensures { IfOk result (λ text. string_bytes text
-        ≡ restarted_text incarnation decisions heuristics) }
-{
-    Ok(format!(in alloc; "restarted {incarnation} {decisions} {heuristics}")?)
-}
-
-/// A transaction that was begun.
-fn begun_text(alloc: Global, gtrid: Gtrid) -> Result<String, Memory>
-    ensures { IfOk result (λ text. string_bytes text ≡ begun_text gtrid) }
-{
-    match gtrid_text(alloc, gtrid) {
-        Ok(gtrid) => Ok(format!(in alloc; "begun {gtrid}")?),
-        Err(_) => Err(Memory),
-    }
-}
-
 /// A call that was answered, by its name, and the number of the answer.
-#[tactic(auto, using(crate::proofs::Pieces::four_pieces))]
+#[tactic(auto, using(xa_files::proofs::Pieces::four_pieces))]
 fn heard_text(alloc: Global, kind: CallKind, number: i128) -> Result<String, Memory>
     ensures { IfOk result (λ text. string_bytes text ≡ heard_text kind number) }
 {
-    let name = kind_text(kind);
+    let name = kind.name();
     Ok(format!(in alloc; "heard {name} {number}")?)
 }
 
 /// How the session stands.
-#[tactic(auto, using(crate::proofs::Pieces::four_pieces))]
+#[tactic(auto, using(xa_files::proofs::Pieces::four_pieces))]
 fn status_text(alloc: Global, up: bool, happened: usize) -> Result<String, Memory>
     ensures { IfOk result (λ text. string_bytes text ≡ status_text up happened) }
 {
     let standing = if up { "up" } else { "down" };
     Ok(format!(in alloc; "status {standing} {happened}")?)
-}
-
-/// A refusal, by its number and its name.
-#[tactic(auto, using(crate::proofs::Pieces::four_pieces))]
-fn refused_text(alloc: Global, refusal: Refusal) -> Result<String, Memory>
-    ensures { IfOk result (λ text. string_bytes text ≡ refused_text refusal) }
-{
-    let number = refusal.number();
-    let name = refusal.name();
-    Ok(format!(in alloc; "refused {number} {name}")?)
 }
 
 /// A fault in words.

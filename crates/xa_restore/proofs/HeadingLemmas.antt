@@ -1,10 +1,16 @@
 -- The names that the first lines give.
-use Rattle.std.proofs.Common.{◌≡◌, ℕ, ◌+◌, ◌-◌, ◌<◌, List, [], ◌∷◌, ◌++◌, length, map, take, drop, get_or, true, ap, refl, sym, ◌∙◌, add-zero, arith}
+use Rattle.std.proofs.Common.{◌≡◌, ℕ, ◌+◌, ◌-◌, ◌<◌, ◌≤◌, zero, suc, List, [], ◌∷◌, ◌++◌, length, map, take, drop, get_or}
+use Rattle.std.proofs.Common.{Bool, true, false, ap, refl, subst, sym, ◌∙◌, add-zero, arith}
+use Rattle.std.specs.Bool.{MatchBool}
 use Rattle.std.specs.Borrow.{Bor}
+use Rattle.std.specs.Prelude.{codes, slice_get, IsSomeAnd, None}
+use Rattle.std.specs.Str.Pattern.{FindsTextPrefix, HasPrefixMatch}
 use Rattle.std.proofs.lemmas.Bool.{true≢false}
 use Rattle.std.proofs.lemmas.List.{length-map, map-append, take-append-drop, take_all, take_more}
 use Rattle.xa_names.specs.Names.{is_manager_name}
-use Rattle.xa_restore.specs.Headings.{IsHeadingOf, name_line, name_lines, rm_line, rm_lines, rm_lines_from}
+use Rattle.xa_restore.specs.Headings.{IsFaultBehind, IsHeadingOf, IsWrongLine, name_line, name_lines, rm_line, rm_lines, rm_lines_from}
+use Rattle.xa_restore.specs.declared.faults.LineFault.TheVariants as Faults
+use Rattle.xa_restore.specs.declared.faults.RestoreFault.TheVariants.{Line}
 
 -- what lines say
 abbrev pub texts : List (Bor (List ℕ)) → List (List ℕ)
@@ -70,3 +76,28 @@ module _ (lines : List (Bor (List ℕ))) (name : List ℕ) (rms : List (List ℕ
     rest = texts (drop k lines);
     begins = split_off k lines (rm_lines rms) is ∙ ap (λ n. name_lines n ++ rm_lines rms ++ texts (drop k lines)) (sym none);
   }
+
+-- ** the line that a fault lies in
+
+-- what a line is, at its place
+here : (P : List ℕ → Type 0) (lines : List (Bor (List ℕ))) (at : ℕ) (d : Bor (List ℕ)) → at < length lines → P (get_or lines at d).now
+    → IsSomeAnd (slice_get (texts lines) at) P
+here P [] at d short p = absurd (omega arith)
+here P (line ∷ lines) zero d short p = p
+here P (line ∷ lines) (suc at) d short p = here P lines at d (omega arith) p
+
+begins : (r : Bool) (line : List ℕ) → MatchBool r (HasPrefixMatch (FindsTextPrefix (codes "rm ")) line) (FindsTextPrefix (codes "rm ") line None)
+    → r ≡ true → IsWrongLine Faults.Rm line
+begins true line (k, finds, more) is = (drop k line, finds.1)
+begins false line finds is = absurd (true≢false (sym is))
+
+pub rm_fault : (lines : List (Bor (List ℕ))) (at first : ℕ) (d : Bor (List ℕ)) (r : Bool) → at < length lines
+    → MatchBool r (HasPrefixMatch (FindsTextPrefix (codes "rm ")) (get_or lines at d).now) (FindsTextPrefix (codes "rm ") (get_or lines at d).now None)
+    → r ≡ true → IsFaultBehind first (texts lines) (Line (at + first) Faults.Rm)
+rm_fault lines at first d r short cases is =
+    let same : at ≡ (at + first) - first = omega arith in
+    let low : first ≤ at + first = omega arith in (
+      low,
+      subst (λ n. IsSomeAnd (slice_get (texts lines) n) (IsWrongLine Faults.Rm)) same
+          (here (IsWrongLine Faults.Rm) lines at d short (begins r _ cases is)),
+    )

@@ -1,23 +1,14 @@
 -- The lines of a log behind its names: the first, those of the decisions, and the last.
-use Rattle.std.proofs.Common.{◌≡◌, ℕ, ◌+◌, ◌-◌, ◌<◌, List, [], ◌∷◌, ◌++◌, length, map, take, drop, get_or, suc, Bool, true, false, not, ap, refl, subst, sym, ◌∙◌, arith}
+use Rattle.std.proofs.Common.{◌≡◌, ℕ, ◌+◌, ◌-◌, ◌<◌, List, [], ◌∷◌, ◌++◌, length, map, take, drop, get_or, suc, ap, refl, subst, sym, ◌∙◌, arith}
 use Rattle.std.specs.Borrow.{Bor}
-use Rattle.std.specs.Prelude.{codes}
-use Rattle.std.proofs.lemmas.Bool.{true≢false}
+use Rattle.std.specs.Option.{option_map}
+use Rattle.std.specs.Prelude.{codes, Option, Some, None, slice_get}
 use Rattle.std.proofs.lemmas.List.{map-append, take_all, take_more}
-use Rattle.std.proofs.lemmas.Slice.Eq.{bytes_eq-Decides}
-use Rattle.std.specs.Str.{bytes_eq}
 use Rattle.xa_log.specs.declared.decision.Decision.{Decision}
 use Rattle.xa_names.specs.Lines.{line_renamed}
-use Rattle.xa_restore.specs.LogLines.{AreLogLinesOf, decision_row_line, incarnation_line}
+use Rattle.xa_base.specs.declared.branch.Gtrid.{Gtrid}
+use Rattle.xa_restore.specs.LogLines.{AreLogLinesOf, Rise, RiseBehind, StandsBehind, decision_row_line, incarnation_line, last_behind}
 use Rattle.xa_restore.proofs.HeadingLemmas.{texts}
-
-not_true : (b : Bool) → false ≡ not b → b ≡ true
-not_true true e = refl
-not_true false e = absurd (true≢false (sym e))
-
--- texts of which `!=` is false are the same
-pub same_text : (xs ys : List ℕ) → false ≡ not (bytes_eq xs ys) → xs ≡ ys
-same_text xs ys e = (bytes_eq-Decides xs ys).0 (not_true (bytes_eq xs ys) e)
 
 map_texts : (f : List ℕ → List ℕ) (lines : List (Bor (List ℕ))) → map f (texts lines) ≡ map (λ line. f line.now) lines
 map_texts f [] = refl
@@ -56,3 +47,27 @@ lines_are (line ∷ lines) d e name n decisions some first last meant =
       whole = whole_is line lines d e name n decisions more first (subst LastIs last_place last);
       meant = map_texts (line_renamed name) (take (length lines - 1) lines) ∙ subst HaveMeant rows_count meant;
     }
+
+-- ** decisions whose transactions rise
+
+last_more : (last : Option Gtrid) (d : Decision) (ds : List Decision)
+    → option_map (λ e. e.gtrid) (slice_get (d ∷ ds) (length ds)) ≡ last_behind last (d ∷ ds)
+last_more last d [] = refl
+last_more last d (e ∷ ds) = last_more (Some d.gtrid) e ds
+
+pub last_is : (ds : List Decision) → option_map (λ d. d.gtrid) (slice_get ds (length ds - 1)) ≡ last_behind None ds
+last_is [] = refl
+last_is (d ∷ ds) =
+    let place : length ds ≡ length (d ∷ ds) - 1 = omega arith in
+    subst (λ i. option_map (λ e. e.gtrid) (slice_get (d ∷ ds) i) ≡ last_behind None (d ∷ ds)) place (last_more None d ds)
+
+rise_on : (last : Option Gtrid) (ds : List Decision) (d : Decision) → RiseBehind last ds → StandsBehind (last_behind last ds) d.gtrid
+    → RiseBehind last (ds ++ d ∷ [])
+rise_on last [] d up behind = (behind, tt)
+rise_on last (e ∷ ds) d up behind = (up.0, rise_on (Some e.gtrid) ds d up.1 behind)
+
+-- one more, behind the last
+pub rise_more : (ds more : List Decision) (d : Decision) (last : Option Gtrid) → Rise ds → last ≡ last_behind None ds → StandsBehind last d.gtrid
+    → more ≡ ds ++ d ∷ [] → Rise more
+rise_more ds more d last up last_is behind is =
+    subst Rise (sym is) (rise_on None ds d up (subst (λ l. StandsBehind l d.gtrid) last_is behind))

@@ -1,8 +1,12 @@
 -- The names that the lines of a log begin with.
-use Rattle.std.specs.Prelude.{◌≡◌, ◌&&◌, ℕ, ◌+◌, Bool, nat_le, List, [], ◌∷◌, ◌++◌, codes, length}
+use Rattle.std.specs.Prelude.{◌≡◌, ◌&&◌, ◌≤◌, ℕ, ◌+◌, ◌-◌, Bool, true, nat_le, List, [], ◌∷◌, ◌++◌, codes, length, slice_get, IsSomeAnd}
 use Rattle.std.specs.Fmt.{decimal}
 use Rattle.std.specs.List.{list_all}
-use Rattle.xa_names.specs.Names.{is_manager_name_byte}
+use Rattle.xa_names.specs.Names.{is_manager_name, is_manager_name_byte}
+use Rattle.xa_restore.specs.declared.faults.LineFault.{LineFault}
+use Rattle.xa_restore.specs.declared.faults.LineFault.TheVariants as lines
+use Rattle.xa_restore.specs.declared.faults.RestoreFault.{RestoreFault}
+use Rattle.xa_restore.specs.declared.faults.RestoreFault.TheVariants.{Line, Memory}
 use Rattle.xa_restore.specs.declared.heading.TheConstants.{RM_NAME_LEN}
 
 -- a text that may be the name of a resource manager
@@ -32,3 +36,14 @@ name_lines name = name_line name ∷ []
 pub record IsHeadingOf (name : List ℕ) (rms : List (List ℕ)) (lines : List (List ℕ)) : Type 0 where
   pub rest : List (List ℕ)
   pub begins : lines ≡ name_lines name ++ rm_lines rms ++ rest
+
+-- a line that has this fault: it gives the manager what is no name, or begins like that of a resource manager's name
+abbrev pub IsWrongLine : LineFault → List ℕ → Type 0
+IsWrongLine lines.Name line = (word : List ℕ) × (line ≡ name_line word) × ¬ (is_manager_name word ≡ true)
+IsWrongLine lines.Rm line = (rest : List ℕ) × (line ≡ codes "rm " ++ rest)
+IsWrongLine fault line = ⊥
+
+-- the fault of lines, of which the first has this number, lies in the line whose number it tells
+abbrev pub IsFaultBehind : (first : ℕ) → List (List ℕ) → RestoreFault → Type 0
+IsFaultBehind first lines (Line number fault) = (first ≤ number) × IsSomeAnd (slice_get lines (number - first)) (IsWrongLine fault)
+IsFaultBehind first lines Memory = Unit

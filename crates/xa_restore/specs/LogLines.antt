@@ -1,11 +1,12 @@
 -- The lines of a log.
-use Rattle.std.specs.Prelude.{◌≡◌, ℕ, List, [], ◌∷◌, ◌++◌, codes, length, map}
+use Rattle.std.specs.Prelude.{◌≡◌, ℕ, List, [], ◌∷◌, ◌++◌, codes, length, map, Option, Some, None}
 use Rattle.std.specs.Fmt.{decimal}
 use Rattle.std.specs.List.{AllByRecursion, flat_map}
-use Rattle.xa_base.specs.Branch.{xid_of_branch}
+use Rattle.std.specs.declared.cmp.Ordering.TheVariants.{Less}
+use Rattle.xa_base.specs.Branch.{gtrid_cmp, gtrid_text, xid_of_branch}
 use Rattle.xa_base.specs.Xid.{text_of}
 use Rattle.xa_base.specs.declared.branch.Branch.{Branch}
-use Rattle.xa_files.specs.Gtrids.{gtrid_text}
+use Rattle.xa_base.specs.declared.branch.Gtrid.{Gtrid}
 use Rattle.xa_log.specs.declared.decision.Decision.{Decision}
 use Rattle.xa_names.specs.Lines.{line_renamed}
 
@@ -27,6 +28,25 @@ decision_row_line d = gtrid_text d.gtrid ++ codes " " ++ decimal (length d.parti
 -- the participants are branches of the transaction
 abbrev pub OwnsBranches : Decision → Type 0
 OwnsBranches d = AllByRecursion (λ b. b.gtrid ≡ d.gtrid) d.participants.items
+
+-- a transaction stands behind that of the line before it, if there is one
+abbrev pub StandsBehind : Option Gtrid → Gtrid → Type 0
+StandsBehind None g = Unit
+StandsBehind (Some last) g = gtrid_cmp last g ≡ Less
+
+-- so do those of all these decisions, in turn
+abbrev pub RiseBehind : Option Gtrid → List Decision → Type 0
+RiseBehind last [] = Unit
+RiseBehind last (d ∷ ds) = StandsBehind last d.gtrid × RiseBehind (Some d.gtrid) ds
+
+-- the transactions rise, so that none has two decisions
+abbrev pub Rise : List Decision → Type 0
+Rise = RiseBehind None
+
+-- the transaction of the last decision, or else the one that comes before all of them
+abbrev pub last_behind : Option Gtrid → List Decision → Option Gtrid
+last_behind last [] = last
+last_behind last (d ∷ ds) = last_behind (Some d.gtrid) ds
 
 -- These are the lines of a log of this incarnation with these decisions, whose manager has this name: the incarnation; a line for each
 -- decision, as this manager means it; and `end`, so that lines that were cut off are those of no log.

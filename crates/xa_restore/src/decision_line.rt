@@ -2,15 +2,14 @@
 
 ghost use Rattle.std.specs.Prelude.{◌≡◌, ◌++◌, ◌↔◌, IfOk, IfSome, IsTrue, OnOk};
 ghost use Rattle.std.specs.List.{AllByRecursion};
-ghost use Rattle.xa_files.specs.Gtrids.{gtrid_text};
 ghost use Rattle.std.specs.String.{string_bytes};
 ghost use Rattle.xa_log.specs.Contract.{FitsRow};
 ghost use Rattle.xa_restore.specs.LogLines.{OwnsBranches, branch_word, branch_words, decision_row_line};
 
 use crate::spelling::is_written;
 use std::alloc::Global;
-use xa_base::{Branch, Gtrid, Memory, Xid};
-use xa_log::{Decision, LAST_NUMBER};
+use xa_base::{Branch, Gtrid, LAST_NUMBER, Memory, OWN_FORMAT, Xid};
+use xa_log::Decision;
 
 /// The identifier of a branch, behind a space.
 fn branch_word(alloc: Global, branch: &Branch) -> Result<String, Memory>
@@ -36,20 +35,10 @@ fn push_branches(line: &mut String, alloc: Global, branches: &[Branch]) -> Resul
 fn decision_line(alloc: Global, decision: &Decision) -> Result<String, Memory>
     ensures { IfOk result (λ line. string_bytes line ≡ decision_row_line decision.now) }
 {
-    let name = gtrid_text(alloc, decision.gtrid)?;
+    let name = decision.gtrid.text(alloc)?;
     let mut line = format!(in alloc; "{name} {}", decision.participants.len())?;
     push_branches(&mut line, alloc, &decision.participants)?;
     Ok(line)
-}
-
-/// A transaction in words: 32 hexadecimal digits.
-fn gtrid_text(alloc: Global, gtrid: Gtrid) -> Result<String, Memory>
-    ensures { IfOk result (λ text. string_bytes text ≡ gtrid_text gtrid) }
-{
-    match xa_files::gtrid_text(alloc, gtrid) {
-        Ok(text) => Ok(text),
-        Err(_) => Err(Memory),
-    }
 }
 
 /// The branch that a word names by its identifier.
@@ -59,7 +48,7 @@ fn branch_named(word: &str) -> Option<Branch> {
 
 /// The transaction that a word names by its digits: that of the branch whose identifier has these.
 fn gtrid_named(alloc: Global, word: &str) -> Result<Option<Gtrid>, Memory> {
-    let text = format!(in alloc; "7:{word}:0000000000000000")?;
+    let text = format!(in alloc; "{}:{word}:0000000000000000", OWN_FORMAT)?;
     Ok(branch_named(text.as_str()).map(|branch| branch.gtrid))
 }
 

@@ -1,5 +1,8 @@
 //! Why lines make no log.
 
+ghost use Rattle.std.specs.Prelude.{◌≡◌};
+ghost use Rattle.xa_restore.specs.declared.faults.RestoreFault.TheVariants as Faults;
+
 use std::alloc::{AllocError, AllocFailed};
 use thiserror::Error;
 use xa_base::Memory;
@@ -42,7 +45,6 @@ pub enum RestoreFault {
 }
 
 impl RestoreFault {
-    ghost use Rattle.std.specs.Prelude.{◌≡◌};
     ghost use Rattle.xa_restore.specs.Faults.{fault_behind};
 
     /// The same fault of lines behind so many others.
@@ -59,18 +61,24 @@ impl RestoreFault {
 }
 
 impl From<Memory> for RestoreFault {
+    ghost from_gives = { λ _ fault. fault ≡ Faults.Memory };
+
     fn from(_error: Memory) -> RestoreFault {
         RestoreFault::Memory
     }
 }
 
 impl From<AllocError> for RestoreFault {
+    ghost from_gives = { λ _ fault. fault ≡ Faults.Memory };
+
     fn from(_error: AllocError) -> RestoreFault {
         RestoreFault::Memory
     }
 }
 
 impl<T: Drop> From<AllocFailed<T>> for RestoreFault {
+    ghost from_gives = { λ _ fault. fault ≡ Faults.Memory };
+
     fn from(_error: AllocFailed<T>) -> RestoreFault {
         RestoreFault::Memory
     }

@@ -1,8 +1,8 @@
 //! The names that the lines of a log begin with.
 
-ghost use Rattle.std.specs.Prelude.{◌≡◌, ◌≤◌, true, length, map, IfOk, IfSome, take};
+ghost use Rattle.std.specs.Prelude.{◌≡◌, ◌≤◌, true, length, map, IfErr, IfOk, IfSome, take};
 ghost use Rattle.xa_names.specs.Names.{is_manager_name};
-ghost use Rattle.xa_restore.specs.Headings.{IsHeadingOf, is_rm_name, name_line, rm_line, rm_lines};
+ghost use Rattle.xa_restore.specs.Headings.{IsFaultBehind, IsHeadingOf, IsWrongLine, is_rm_name, name_line, rm_line, rm_lines};
 
 use crate::faults::{LineFault, RestoreFault};
 use crate::spelling::is_written;
@@ -31,6 +31,7 @@ pub struct Heading<'a> {
 fn read_name(line: &str) -> Result<Option<ManagerName>, LineFault>
     ensures line { IfOk result (λ name. IfSome name (λ name. line.now ≡ name_line name)) }
     ensures named { IfOk result (λ name. IfSome name (λ name. is_manager_name name ≡ true)) }
+    ensures fault { IfErr result (λ fault. IsWrongLine fault line.now) }
 {
     let Some(word) = line.strip_prefix("name ") else {
         return Ok(None);
@@ -66,8 +67,9 @@ fn read_rms<'a>(
     first: usize,
 ) -> Result<Vec<&'a str>, RestoreFault>
     requires { first ≤ 2 }
-    ensures { IfOk result (λ rms. map (λ line. line.now) (take (length rms.items) lines.now)
+    ensures lines { IfOk result (λ rms. map (λ line. line.now) (take (length rms.items) lines.now)
         ≡ rm_lines (map (λ rm. rm.now) rms.items)) }
+    ensures fault { IfErr result (IsFaultBehind first (map (λ line. line.now) lines.now)) }
 {
     let mut rms: Vec<&'a str> = Vec::new(alloc);
     for (at, line) in lines.iter().enumerate() {
@@ -86,8 +88,9 @@ fn read_rms<'a>(
 /// and `rm 0 bank`, a line for each resource manager that has one, from number 0. Behind them stand the other lines of the
 /// log, which [`read_log`](crate::read_log) reads.
 pub fn read_heading<'a>(alloc: Global, lines: &[&'a str]) -> Result<Heading<'a>, RestoreFault>
-    ensures { IfOk result (λ h. IsHeadingOf h.name (map (λ rm. rm.now) h.rms.items)
+    ensures lines { IfOk result (λ h. IsHeadingOf h.name (map (λ rm. rm.now) h.rms.items)
         (map (λ line. line.now) lines.now)) }
+    ensures fault { IfErr result (IsFaultBehind 1 (map (λ line. line.now) lines.now)) }
 {
     let [first, rest @ ..] = lines else {
         return Ok(Heading {

@@ -1,10 +1,10 @@
 //! The lines of a log.
 
-ghost use Rattle.std.specs.Prelude.{◌≡◌, ◌≤◌, map, IfNone, IfOk, IfSome};
+ghost use Rattle.std.specs.Prelude.{◌≡◌, ◌≤◌, ℕ, map, IfNone, IfOk, IfSome, None};
 ghost use Rattle.std.specs.List.{AllByRecursion};
 ghost use Rattle.xa_log.specs.Contract.{FitsRow};
 ghost use Rattle.xa_names.specs.Lines.{line_renamed};
-ghost use Rattle.xa_restore.specs.LogLines.{AreLogLinesOf, OwnsBranches, decision_row_line, incarnation_line};
+ghost use Rattle.xa_restore.specs.LogLines.{AreLogLinesOf, OwnsBranches, Rise, StandsBehind, decision_row_line, incarnation_line, last_behind};
 
 use crate::decision_line::read_decision;
 use crate::faults::{LineFault, RestoreFault};
@@ -30,6 +30,8 @@ pub struct LogLines {
 fn read_incarnation(alloc: Global, line: &str) -> Result<Option<u64>, Memory>
     ensures line { IfOk result (λ n. IfSome n (λ n. line.now ≡ incarnation_line n)) }
     ensures most { IfOk result (λ n. IfSome n (λ n. n ≤ MOST_STARTS)) }
+    ensures found { (n : ℕ) → n ≤ MOST_STARTS → line.now ≡ incarnation_line n →
+        IfOk result (λ found. found ≡ Some n) }
 {
     let Some(word) = line.strip_prefix("incarnation ") else {
         return Ok(None);
@@ -50,7 +52,8 @@ fn read_incarnation(alloc: Global, line: &str) -> Result<Option<u64>, Memory>
 
 /// What is wrong with a decision behind the last one, in a log of this incarnation.
 fn fault_of(gtrid: Gtrid, last: Option<Gtrid>, incarnation: u64) -> Option<LineFault>
-    ensures { IfNone result (gtrid.incarnation ≤ incarnation) }
+    ensures started { IfNone result (gtrid.incarnation ≤ incarnation) }
+    ensures behind { IfNone result (StandsBehind last gtrid) }
 {
     if gtrid.incarnation > incarnation {
         return Some(LineFault::Later);
@@ -58,6 +61,16 @@ fn fault_of(gtrid: Gtrid, last: Option<Gtrid>, incarnation: u64) -> Option<LineF
     match last {
         Some(last) if gtrid <= last => Some(LineFault::Order),
         _ => None,
+    }
+}
+
+/// The transaction of the last of these.
+fn last_gtrid(decisions: &[Decision]) -> Option<Gtrid>
+    ensures { result ≡ last_behind None decisions.now }
+{
+    match decisions.last() {
+        Some(last) => Some(last.gtrid),
+        None => None,
     }
 }
 
@@ -75,6 +88,7 @@ fn read_decisions(
         AllByRecursion (λ d. FitsRow d.gtrid) decisions.items) }
     ensures started { IfOk result (λ decisions.
         AllByRecursion (λ d. d.gtrid.incarnation ≤ incarnation) decisions.items) }
+    ensures rise { IfOk result (λ decisions. Rise decisions.items) }
 {
     let mut decisions: Vec<Decision> = Vec::with_capacity(alloc, lines.len())?;
     for (at, line) in lines.iter().enumerate() {
@@ -82,7 +96,7 @@ fn read_decisions(
         let Some(decision) = read_decision(alloc, meant.as_str())? else {
             return Err(RestoreFault::Line(at + 2, LineFault::Decision));
         };
-        let last = decisions.last().map(|last| last.gtrid);
+        let last = last_gtrid(&decisions);
         if let Some(fault) = fault_of(decision.gtrid, last, incarnation) {
             return Err(RestoreFault::Line(at + 2, fault));
         }
@@ -104,6 +118,7 @@ pub fn read_log(alloc: Global, name: &ManagerName, lines: &[&str]) -> Result<Log
     ensures fits { IfOk result (λ log. AllByRecursion (λ d. FitsRow d.gtrid) log.decisions.items) }
     ensures started { IfOk result (λ log.
         AllByRecursion (λ d. d.gtrid.incarnation ≤ log.incarnation) log.decisions.items) }
+    ensures rise { IfOk result (λ log. Rise log.decisions.items) }
     ensures most { IfOk result (λ log. log.incarnation ≤ MOST_STARTS) }
 {
     let [first, rows @ .., last] = lines else {

@@ -16,10 +16,7 @@ use crate::table_entry::TableEntry;
 use std::alloc::Global;
 use std::collections::{BTreeSet, HashMap};
 use std::ops::Bound;
-use xa_base::{Call, Code, Memory, Xid};
-
-/// The greatest number that a row of a log can have.
-const LAST_NUMBER: u64 = i64::MAX as u64;
+use xa_base::{Call, Code, LAST_NUMBER, Memory, Xid};
 
 /// Whether an identifier names a branch of this manager that is of another resource manager, or of no earlier
 /// incarnation, or whose numbers no row of a log can hold. It is then the identifier of that branch.

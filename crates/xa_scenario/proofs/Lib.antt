@@ -1,14 +1,9 @@
-pub mod BranchLemmas
-pub mod EntryLemmas
-pub mod FileLemmas
-pub mod FlagLemmas
 pub mod KeepingLemmas
 pub mod LineLemmas
-pub mod ListedLemmas
+pub mod OneProcess
 pub mod PlayLemmas
 pub mod PrintLemmas
 pub mod ProcessLemmas
 pub mod ReportLemmas
 pub mod RunLemmas
 pub mod StartLemmas
-pub mod TextFaults

@@ -21,12 +21,3 @@ line_more text more events i event within is so_far same =
     ap (λ t. t ++ more) so_far ∙ ap (λ m. before ++ m) (same ∙ ap (λ n. trace_line n event) number)
     ∙ sym (lines_push 1 (take i events) event) ∙ ap (λ y. trace_lines 1 (take i events ++ y ∷ [])) is
     ∙ ap (trace_lines 1) (sym (take_more events i event within))
-
--- the pieces of a line, as a write of it gives them
-pub four_pieces : (a b d e : List ℕ) → a ++ (b ++ (d ++ e)) ≡ a ++ b ++ d ++ e
-four_pieces a b d e = sym (append_assoc a b (d ++ e)) ∙ sym (append_assoc (a ++ b) d e)
-
-pub six_pieces : (a b d e f h : List ℕ) → a ++ (b ++ (d ++ (e ++ (f ++ h)))) ≡ a ++ b ++ d ++ e ++ f ++ h
-six_pieces a b d e f h =
-    sym (append_assoc a b (d ++ (e ++ (f ++ h)))) ∙ sym (append_assoc (a ++ b) d (e ++ (f ++ h)))
-    ∙ sym (append_assoc (a ++ b ++ d) e (f ++ h)) ∙ sym (append_assoc (a ++ b ++ d ++ e) f h)

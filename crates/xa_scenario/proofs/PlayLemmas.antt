@@ -8,7 +8,7 @@ use Rattle.xa_base.specs.declared.branch.Gtrid.{Gtrid}
 use Rattle.xa_base.specs.declared.reply.Event.{Event}
 use Rattle.xa_base.specs.declared.reply.Reply.{Reply}
 use Rattle.xa_base.specs.declared.step.Step.TheVariants as steps
-use Rattle.xa_scenario.specs.declared.entry.Entry.{Entry}
+use Rattle.xa_scenario_file.specs.declared.entry.Entry.{Entry}
 use Rattle.xa_scenario.specs.Plays.{AreAnswered, IsAnswered, IsDrain, IsPlay, MakesEvents, PerformsSteps, events_after, begins_one, gtrid_answered, gtrid_begun, gtrids_begun, moves, trace_after}
 
 -- From this trace on, events that P asks for at the end make the whole one that P asks for from the start.

@@ -2,7 +2,6 @@
 use Rattle.std.proofs.Common.{◌≡◌, ◌∙◌, ℕ, ◌+◌, List, [], ◌∷◌, ◌++◌, length, Option, Some, None, ap, refl, subst, sym}
 use Rattle.std.specs.Option.{ok_or}
 use Rattle.std.specs.Prelude.{Ok}
-use Rattle.xa_base.specs.Xid.{Xid}
 use Rattle.xa_base.specs.declared.branch.Gtrid.{Gtrid}
 use Rattle.xa_files.specs.declared.fault.RunFault.TheVariants.{Log}
 use Rattle.xa_log.specs.Content.{Content}
@@ -14,10 +13,11 @@ use Rattle.xa_model.specs.Replies.History.{history}
 use Rattle.xa_model.specs.Trace.{Origin, Trace}
 use Rattle.xa_model.proofs.ProcessLemmas.Joining.{gone_right, joined_faces, of_processes_right, resumes_both}
 use Rattle.xa_scenario.specs.LogKeeping.{CannotGoOn, HasGoneOn, HasStarted}
-use Rattle.xa_scenario.specs.Processes.{AreProcesses, AreProcesses.First, AreProcesses.Next, HasPlayed, IsLast, IsProcess, Plays, Process, heading, process_of}
+use Rattle.xa_scenario.specs.Processes.{AddsStarted, AreProcesses, AreProcesses.First, AreProcesses.Next, HasPlayed, IsLast, IsProcess, Plays, Process, heading, process_of}
 use Rattle.xa_scenario.specs.Replies.{trace_lines}
 use Rattle.xa_scenario.specs.Runs.{IsStartOf}
-use Rattle.xa_scenario.specs.Scenarios.{Plan}
+use Rattle.xa_scenario_file.specs.Scenarios.{Plan}
+use Rattle.xa_scenario.specs.declared.processes.Process.{Process as Played}
 use Rattle.xa_scenario.proofs.StartLemmas.{in_slot, out_of_slot}
 use Rattle.xa_system.specs.LogInHistory.{StartsOver}
 use Rattle.xa_system.specs.NextProcess.{FindsNewer, Leaves}
@@ -81,15 +81,15 @@ module _ {R L : Type 0} (look : R → Look) (moment : L → Moment) where
   see = record { look = look; moment = moment; place = slot_moment moment }
 
   -- a process as it started: its log is left so by the start
-  record IsProcessFrom (found left : L) (gtrids : List Gtrid) (names : List Xid) (plan : Plan) (p : Process L) : Type 0 where
-    is : IsProcess moment found gtrids names plan p
+  record IsProcessFrom (found left : L) (gtrids : List Gtrid) (plan : Plan) (p : Process L) : Type 0 where
+    is : IsProcess moment found gtrids plan p
     same : is.over.left ≡ left
 
-  is_process : (found : L) (plan : Plan) (old_gtrids gtrids : List Gtrid) (old_names names : List Xid) (begun s : SystemView R L)
+  is_process : (found : L) (plan : Plan) (old_gtrids : List Gtrid) (begun : SystemView R L) (p : Played R L)
       (started : HasStarted see found begun) → begun.events ≡ [] → (origin_in look begun).threads ≡ plan.threads → (origin_in look begun).rms ≡ plan.rms
-      → HasPlayed see plan old_gtrids gtrids old_names names begun s
-      → IsProcessFrom found started.over.left old_gtrids old_names plan (process_of see found gtrids names s)
-  is_process found plan old_gtrids gtrids old_names names begun s started empty threads rms played = record {
+      → HasPlayed see plan old_gtrids p.gtrids.items begun p.system
+      → IsProcessFrom found started.over.left old_gtrids plan (process_of see found p)
+  is_process found plan old_gtrids begun p started empty threads rms played = record {
     is = record {
       over = record {
         left = started.over.left;
@@ -98,12 +98,11 @@ module _ {R L : Type 0} (look : R → Look) (moment : L → Moment) where
       };
       threads = ap (λ (o : Origin). o.threads) played.start ∙ threads;
       rms = ap (λ (o : Origin). o.rms) played.start ∙ rms;
-      played = subst (λ trace. Plays plan old_gtrids gtrids trace s.events) empty played.played;
+      played = subst (λ trace. Plays plan old_gtrids p.gtrids.items trace p.system.events) empty played.played;
       allowed = played.holds.allowed;
-      listed = played.listed;
-      order = λ left at order. out_in_order moment s.log left at
+      order = λ left at order. out_in_order moment p.system.log left at
           (played.holds.log.order (subst (λ l. (moment l).is_in_order) (sym (played.log.handed ∙ started.handed)) order));
-      honest = λ left at h. out_of_slot moment begun.log started.over.left started.is_left (played.log.honest (in_slot moment s.log left at h));
+      honest = λ left at h. out_of_slot moment begun.log started.over.left started.is_left (played.log.honest (in_slot moment p.system.log left at h));
     };
     same = refl;
   }
@@ -132,54 +131,59 @@ module _ {R L : Type 0} (look : R → Look) (moment : L → Moment) where
           (left first (in_slot moment old.log found at (started.over.honest (out_of_slot moment new.log started.over.left started.is_left h))) near content is)
 
   -- the first one
-  pub first_stands : (log : L) (plan : Plan) (gtrids : List Gtrid) (names : List Xid) (begun s : SystemView R L) → HasStarted see log begun
-      → begun.events ≡ [] → IsStartOf plan (origin_in look begun) → RightOrigin (origin_in look begun) → HasPlayed see plan [] gtrids [] names begun s
-      → IsLast see log plan.rms (plan ∷ []) gtrids names s (trace_lines 1 s.events)
-  first_stands log plan gtrids names begun s started empty start right played =
-      let from = is_process log plan [] gtrids [] names begun s started empty start.threads start.rms played in
+  pub first_stands : (log : L) (plan : Plan) (begun : SystemView R L) (p : Played R L) → HasStarted see log begun → p.names.items ≡ []
+      → begun.events ≡ [] → IsStartOf plan (origin_in look begun) → RightOrigin (origin_in look begun)
+      → HasPlayed see plan [] p.gtrids.items begun p.system → IsLast see log (plan ∷ []) p (trace_lines 1 p.system.events)
+  first_stands log plan begun p started none empty start right played =
+      let from = is_process log plan [] begun p started empty start.threads start.rms played in
       record {
-        whole = history (origin_in look s) s.events;
-        are = First plan (process_of see log gtrids names s) (record {
+        whole = history (origin_in look p.system) p.system.events;
+        are = First plan (process_of see log p) (record {
           is = from.is;
+          names = none;
           start = subst (IsStartOf plan) (sym played.start) start;
           right = subst RightOrigin (sym played.start) right;
           headline = played.headline (subst RightOrigin (sym played.start) right);
         });
-        count = played.holds.count ∙ ap (λ (o : Origin). o.rms) played.start ∙ start.rms;
         order = λ order. subst (λ l. (moment l).is_in_order) (sym (played.log.handed ∙ started.handed)) order;
         near = λ order h.
             played.log.near (subst (λ l. (moment l).is_in_order) (sym started.handed) order) h (started.near order (played.log.honest h));
       }
 
+  -- as many resource managers as there were
+  pub still_counted : (plan : Plan) (old_gtrids gtrids : List Gtrid) (begun s : SystemView R L) (count : ℕ)
+      → HasPlayed see plan old_gtrids gtrids begun s → length begun.start ≡ count → length s.rms ≡ count
+  still_counted plan old_gtrids gtrids begun s count played is = played.holds.count ∙ ap (λ (o : Origin). o.rms) played.start ∙ is
+
   -- one more
-  pub next_stands : (log : L) (rms number : ℕ) (plans : List Plan) (plan : Plan) (old_gtrids gtrids : List Gtrid) (old_names names : List Xid)
-      (traces : List ℕ) (old begun s : SystemView R L) → number ≡ length plans + 1 → IsLast see log rms plans old_gtrids old_names old traces
-      → HasGoneOn see old begun → begun.events ≡ [] → begun.lines.threads ≡ plan.threads → length begun.start ≡ length old.rms → plan.rms ≡ rms
-      → HasPlayed see plan old_gtrids gtrids old_names names begun s
-      → IsLast see log rms (plans ++ plan ∷ []) gtrids names s (traces ++ (heading number ++ trace_lines 1 s.events))
-  next_stands log rms number plans plan old_gtrids gtrids old_names names traces old begun s counted last gone empty threads more size played =
-      let from = is_process gone.found plan old_gtrids gtrids old_names names begun s gone.started empty threads (more ∙ last.count ∙ sym size) played in
-      let before = process_of see log old_gtrids old_names old in
-      let p = process_of see log gtrids names s in
+  pub next_stands : (log : L) (number : ℕ) (plans : List Plan) (plan : Plan) (traces : List ℕ) (old : Played R L) (begun : SystemView R L) (p : Played R L)
+      → number ≡ length plans + 1 → IsLast see log plans old traces → AddsStarted (trace_in look old.system) old.names.items p.names.items
+      → HasGoneOn see old.system begun → begun.events ≡ [] → begun.lines.threads ≡ plan.threads → length begun.start ≡ plan.rms
+      → HasPlayed see plan old.gtrids.items p.gtrids.items begun p.system
+      → IsLast see log (plans ++ plan ∷ []) p (traces ++ (heading (Some number) ++ trace_lines 1 p.system.events))
+  next_stands log number plans plan traces old begun p counted last listed gone empty threads rms played =
+      let from = is_process gone.found plan old.gtrids.items begun p gone.started empty threads rms played in
+      let before = process_of see log old in
+      let next = process_of see log p in
       let slot : (moment from.is.over.left).is_honest → (slot_moment moment begun.log).is_honest =
       λ h. in_slot moment begun.log gone.started.over.left gone.started.is_left (subst (λ l. (moment l).is_honest) from.same h) in
-      let resumes : (moment log).is_in_order → (moment from.is.over.left).is_honest → Resumes last.whole p.origin = λ order h.
-      passes_on moment log plans last.whole before traces last.are order gone.found gone.left (from.is.over.honest h) p.origin
-      (subst (Resumes (trace_in look old)) (sym played.start)
-      (gone.resumes (last.order order) (last.near order (in_slot moment old.log gone.found gone.left (from.is.over.honest h))) (slot h))) in
+      let resumes : (moment log).is_in_order → (moment from.is.over.left).is_honest → Resumes last.whole next.origin = λ order h.
+      passes_on moment log plans last.whole before traces last.are order gone.found gone.left (from.is.over.honest h) next.origin
+      (subst (Resumes (trace_in look old.system)) (sym played.start)
+      (gone.resumes (last.order order) (last.near order (in_slot moment old.system.log gone.found gone.left (from.is.over.honest h))) (slot h))) in
       record {
-        whole = joined last.whole p.origin p.events;
-        are = subst (λ n. AreProcesses moment log (plans ++ plan ∷ []) (joined last.whole p.origin p.events) p
-            (traces ++ (heading n ++ trace_lines 1 s.events))) (sym counted)
-            (Next plans last.whole before traces plan p last.are (record {
+        whole = joined last.whole next.origin next.events;
+        are = subst (λ n. AreProcesses moment log (plans ++ plan ∷ []) (joined last.whole next.origin next.events) next
+            (traces ++ (heading (Some n) ++ trace_lines 1 next.events))) (sym counted)
+            (Next plans last.whole before traces plan next last.are (record {
               found = gone.found;
               left = gone.left;
               is = from.is;
+              listed = listed;
               resumes = resumes;
               headline = λ order h. played.resumed last.whole
                   (all_right moment log plans last.whole before traces last.are order gone.found gone.left (from.is.over.honest h)) (resumes order h);
             }));
-        count = played.holds.count ∙ ap (λ (o : Origin). o.rms) played.start ∙ more ∙ last.count;
         order = λ order. subst (λ l. (moment l).is_in_order) (sym (played.log.handed ∙ gone.started.handed)) (gone.order (last.order order));
         near = λ order h. played.log.near (subst (λ l. (moment l).is_in_order) (sym gone.started.handed) (gone.order (last.order order))) h
             (gone.started.near (gone.order (last.order order)) (played.log.honest h));

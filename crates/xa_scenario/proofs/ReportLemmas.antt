@@ -1,5 +1,5 @@
 -- The branches that were started, and what became of them.
-use Rattle.std.proofs.Common.{◌≡◌, ◌∙◌, ◌<◌, arith, List, [], ◌∷◌, ◌++◌, map, length, get_or, true, ap, refl, sym}
+use Rattle.std.proofs.Common.{◌≡◌, ◌∙◌, ◌<◌, ℕ, arith, List, [], ◌∷◌, ◌++◌, map, length, get_or, true, ap, refl, sym}
 use Rattle.std.specs.Prelude.{◌↔◌, Contains}
 use Rattle.std.specs.List.Sorted.{IsStrictlySortedBy}
 use Rattle.std.specs.Map.{keys_of}
@@ -13,7 +13,9 @@ use Rattle.xa_base.specs.declared.state.Fate.{Fate}
 use Rattle.xa_base.specs.declared.state.Fate.TheVariants.{Unstarted}
 use Rattle.xa_model.specs.Facts.{fate, started}
 use Rattle.xa_model.specs.Trace.{Origin, Trace}
-use Rattle.xa_scenario.specs.Processes.{AddsStarted, AreFates, IsFateOf}
+use Rattle.xa_files.specs.Fates.{fate_lines}
+use Rattle.xa_scenario.specs.Processes.{AddsFates, AddsStarted, AreFates, IsFateOf}
+use Rattle.xa_scenario.specs.Runs.{IsReportOf}
 use Rattle.xa_system.specs.Report.{IsReported}
 
 abbrev first_of : Xid × Fate → Xid
@@ -49,4 +51,17 @@ pub one_fate_more : (o : Origin) (events : List Event) (names : List Xid) (fates
 one_fate_more o events names fates x f so_far one = record {
   listed = map_push first_of fates (x, f) ∙ ap (λ ns. ns ++ x ∷ []) so_far.listed;
   each = All-push (IsFateOf o events) fates (x, f) so_far.each one;
+}
+
+-- the texts of both
+pub adds_fates : (o : Origin) (events : List Event) (names : List Xid) (text mid whole : List ℕ) (earlier told own reported : List (Xid × Fate))
+    → AreFates o events names earlier → IsReportOf o events own → told ≡ earlier → reported ≡ own
+    → mid ≡ text ++ fate_lines told → whole ≡ mid ++ fate_lines reported → AddsFates o events names text whole
+adds_fates o events names text mid whole earlier told own reported fates report same_earlier same_own first second = record {
+  earlier = earlier;
+  own = own;
+  told = fates;
+  report = report;
+  spelled = second ∙ ap (λ t. t ++ fate_lines reported) (first ∙ ap (λ lines. text ++ fate_lines lines) same_earlier)
+      ∙ ap (λ lines. text ++ fate_lines earlier ++ fate_lines lines) same_own;
 }

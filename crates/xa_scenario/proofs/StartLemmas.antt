@@ -5,11 +5,12 @@ use Rattle.std.specs.Option.{option_map_or}
 use Rattle.xa_base.specs.HeldBranch.{new_branch}
 use Rattle.xa_base.specs.Scan.{Scan.NotOpen}
 use Rattle.xa_base.specs.Xid.{Xid}
+use Rattle.xa_base.specs.declared.limits.TheConstants.{MAX_RMS, MAX_THREADS}
 use Rattle.xa_log.specs.Contract.{Moment}
 use Rattle.xa_model.specs.Trace.{Name.Foreign}
 use Rattle.xa_scenario.specs.LogKeeping.{HasStarted}
 use Rattle.xa_scenario.specs.Runs.{IsNewRm}
-use Rattle.xa_scenario.specs.Scenarios.{IsSize}
+use Rattle.xa_scenario_file.specs.Scenarios.{IsSize}
 use Rattle.xa_system.specs.LogInHistory.{StartsOver}
 use Rattle.xa_system.specs.SystemView.{HasWrongSize, MayRestart, Observes, SystemView, origin_in}
 use Rattle.xa_system.specs.RmInHistory.{scan_by}
@@ -71,7 +72,7 @@ module _ {R L : Type 0} (see : Observes R L) (log : L) (s : SystemView R L) (as_
   has_started some = started_with (log_held s.log) refl some
 
 -- a size that is right isn't wrong
-pub not_wrong : (threads rms : ℕ) → IsSize threads → IsSize rms → ¬ (HasWrongSize threads rms)
+pub not_wrong : (threads rms : ℕ) → IsSize MAX_THREADS threads → IsSize MAX_RMS rms → ¬ (HasWrongSize threads rms)
 not_wrong threads rms first second (inl none) = absurd (omega (arith, first.0, none))
 not_wrong threads rms first second (inr (inl many)) = absurd (omega (arith, first.1, many))
 not_wrong threads rms first second (inr (inr (inl none))) = absurd (omega (arith, second.0, none))

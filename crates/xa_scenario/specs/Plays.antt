@@ -12,13 +12,13 @@ use Rattle.xa_base.specs.declared.reply.Reply.{Reply}
 use Rattle.xa_base.specs.declared.reply.Reply.TheVariants as replies
 use Rattle.xa_base.specs.declared.step.Step.{Step}
 use Rattle.xa_base.specs.declared.step.Step.TheVariants as steps
-use Rattle.xa_scenario.specs.declared.entry.BranchEntry.{BranchEntry}
-use Rattle.xa_scenario.specs.declared.entry.Ending.{Ending}
-use Rattle.xa_scenario.specs.declared.entry.Ending.TheVariants as endings
-use Rattle.xa_scenario.specs.declared.entry.Entry.{Entry}
-use Rattle.xa_scenario.specs.declared.entry.Entry.TheVariants as entries
-use Rattle.xa_scenario.specs.declared.entry.Script.{Script}
-use Rattle.xa_scenario.specs.declared.entry.Script.TheVariants as scripts
+use Rattle.xa_scenario_file.specs.declared.entry.BranchEntry.{BranchEntry}
+use Rattle.xa_scenario_file.specs.declared.entry.Ending.{Ending}
+use Rattle.xa_scenario_file.specs.declared.entry.Ending.TheVariants as endings
+use Rattle.xa_scenario_file.specs.declared.entry.Entry.{Entry}
+use Rattle.xa_scenario_file.specs.declared.entry.Entry.TheVariants as entries
+use Rattle.xa_scenario_file.specs.declared.entry.Script.{Script}
+use Rattle.xa_scenario_file.specs.declared.entry.Script.TheVariants as scripts
 use Rattle.xa_system.specs.declared.system.TheConstants.{EVENT_LIMIT}
 
 -- ** steps with their replies, in turn

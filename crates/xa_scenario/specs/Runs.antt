@@ -19,7 +19,7 @@ use Rattle.xa_files.specs.declared.fault.RunFault.{RunFault}
 use Rattle.xa_files.specs.declared.fault.RunFault.TheVariants.{Log, Memory}
 use Rattle.xa_scenario.specs.Plays.{IsPlay, PerformsSteps}
 use Rattle.xa_scenario.specs.Replies.{trace_lines}
-use Rattle.xa_scenario.specs.Scenarios.{Plan, scenario_of}
+use Rattle.xa_scenario_file.specs.Scenarios.{Plan, scenario_of}
 use Rattle.xa_system.specs.LogInHistory.{StartsOver}
 use Rattle.xa_system.specs.Report.{IsReported}
 use Rattle.xa_rm.specs.Look.{Look}
@@ -62,48 +62,34 @@ pub record IsReportOf (o : Origin) (events : List Event) (fates : List (Xid × F
 
 -- ** what is printed
 
--- the trace, where it is asked for, and then the fates
-abbrev pub run_text : Bool → List Event → List (Xid × Fate) → List ℕ
-run_text with_trace events fates = (if with_trace then trace_lines 1 events else []) ++ fate_lines fates
+-- a text, where it is asked for
+abbrev pub shown : (with_trace : Bool) → List ℕ → List ℕ
+shown with_trace text = if with_trace then text else []
 
--- the text of these events from this start, with its report
-pub record IsTextOf (with_trace : Bool) (o : Origin) (events : List Event) (text : List ℕ) : Type 0 where
+-- the text of a run of the scenario from this start: its trace, where that is asked for, and then its report
+pub record IsTextOf (plan : Plan) (with_trace : Bool) (o : Origin) (text : List ℕ) : Type 0 where
+  pub events : List Event
   pub fates : List (Xid × Fate)
+  pub run : IsRunOf plan o events
   pub report : IsReportOf o events fates
-  pub spelled : text ≡ run_text with_trace events fates
-
--- What was written is the text of a run of the scenario from this start.
-pub record PrintsRun (plan : Plan) (with_trace : Bool) (o : Origin) (old new : Option (List ℕ)) : Type 0 where
-  pub events : List Event
-  pub text : List ℕ
-  pub run : IsRunOf plan o events
-  pub told : IsTextOf with_trace o events text
-  pub writes : Appends old new text
-
--- What was written is a beginning of the text of a run of the scenario from this start.
-pub record BeginsRun (plan : Plan) (with_trace : Bool) (o : Origin) (old new : Option (List ℕ)) : Type 0 where
-  pub events : List Event
-  pub text : List ℕ
-  pub run : IsRunOf plan o events
-  pub told : IsTextOf with_trace o events text
-  pub begins : AppendsBeginning old new text
+  pub spelled : text ≡ shown with_trace (trace_lines 1 events) ++ fate_lines fates
 
 module _ {L : Type 0} (moment : L → Moment) (log : L) where
-  -- The text is a scenario, and what was written is the text of a run of it over this log.
-  pub record Prints (text : List ℕ) (with_trace : Bool) (old new : Option (List ℕ)) : Type 0 where
+  -- The text is a scenario, and this is what a run of it over this log prints.
+  pub record IsPrinted (text : List ℕ) (with_trace : Bool) (printed : List ℕ) : Type 0 where
     pub plan : Plan
     pub origin : Origin
     pub reads : scenario_of text ≡ Ok plan
     pub over : StartsOverLog moment log origin
-    pub run : PrintsRun plan with_trace origin old new
+    pub run : IsTextOf plan with_trace origin printed
 
-  -- The text is a scenario, and what was written is a beginning of that.
-  pub record Begins (text : List ℕ) (with_trace : Bool) (old new : Option (List ℕ)) : Type 0 where
-    pub plan : Plan
-    pub origin : Origin
-    pub reads : scenario_of text ≡ Ok plan
-    pub over : StartsOverLog moment log origin
-    pub run : BeginsRun plan with_trace origin old new
+  -- that was written
+  abbrev pub Prints : (text : List ℕ) (with_trace : Bool) (old new : Option (List ℕ)) → Type 0
+  Prints text with_trace old new = (printed : List ℕ) × IsPrinted text with_trace printed × Appends old new printed
+
+  -- a beginning of it was written
+  abbrev pub Begins : (text : List ℕ) (with_trace : Bool) (old new : Option (List ℕ)) → Type 0
+  Begins text with_trace old new = (printed : List ℕ) × IsPrinted text with_trace printed × AppendsBeginning old new printed
 
 -- ** checks
 

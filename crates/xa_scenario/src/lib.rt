@@ -1,38 +1,21 @@
-//! Scenario files: what they ask of the resource managers of distributed transactions, how they are read, and what is
-//! printed of a run of one.
+//! Scenario files that are run: what a run does, and what is printed of it. `xa_scenario_file` reads them, and its names stand here too.
 //!
 //! "XA" in these pages is X/Open CAE Specification C193, "Distributed Transaction Processing: The XA Specification"
 //! (1991).
 #![tactic(auto)]
 
 mod after_run;
-mod begins;
-mod branches;
-mod calls;
-mod crashes;
-mod document;
-mod endings;
-mod entry;
-mod files;
-mod flags;
-mod moves;
 mod names;
 mod play;
-mod print;
 mod processes;
-mod recoveries;
 mod replies;
 mod run;
-mod scripts;
-mod tables;
-mod words;
+mod start;
 
 pub use after_run::system_after;
-pub use document::{
-    NamedScenario, Scenario, faults_are_of_texts, read_named_scenario, read_scenario, scenario_in,
-    tables_are_read_in_turn,
-};
-pub use entry::{BranchEntry, Ending, Entry, Script};
-pub use files::{FileFault, read_scenarios};
 pub use processes::run_scenarios;
-pub use run::{check_scenario, print_check, run_scenario};
+pub use run::{check_scenario, run_scenario};
+pub use xa_scenario_file::{
+    BranchEntry, Ending, Entry, FileFault, NamedScenario, Scenario, Script, read_named_scenario,
+    read_scenario, read_scenarios, scenario_in,
+};

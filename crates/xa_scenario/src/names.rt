@@ -4,8 +4,8 @@ ghost use Rattle.std.specs.Prelude.{◌≡◌};
 ghost use Rattle.xa_base.specs.Call.{map_call};
 ghost use Rattle.xa_scenario.specs.Plays.{begins_one, ending_step, gtrid_at, gtrid_answered, issue_of, script_step, step_of_entry, xid_at};
 
-use crate::entry::{BranchEntry, Ending, Entry, Script};
 use xa_base::{Branch, Call, Gtrid, Reply, Step, Xid};
+use xa_scenario_file::{BranchEntry, Ending, Entry, Script};
 
 /// No transaction has these numbers.
 const NO_GTRID: Gtrid = Gtrid {

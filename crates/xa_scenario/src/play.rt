@@ -6,12 +6,12 @@ ghost use Rattle.xa_scenario.specs.Plays.{HaveSteps, IsAnswered, IsDrain, IsPlay
 ghost use Rattle.xa_scenario.specs.LogKeeping.{KeepsLog};
 ghost use Rattle.xa_system.specs.SystemView.{observes, origin_in};
 
-use crate::entry::Entry;
 use crate::names::{begins, gtrid_in, issue_of, step_of};
 use std::alloc::AllocError;
 use xa_base::{Gtrid, Reply, Step};
 use xa_log::DecisionLog;
 use xa_rm::ResourceManager;
+use xa_scenario_file::Entry;
 use xa_system::System;
 
 /// Does a step.

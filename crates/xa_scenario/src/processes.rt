@@ -1,52 +1,48 @@
 //! Several scenarios, each a process of the manager over what the one before it has left.
 
-ghost use Rattle.std.specs.Prelude.{◌≡◌, ◌≢◌, ◌⊎◌, ◌↔◌, ◌+◌, ◌++◌, ◌∷◌, [], ℕ, All, List, length, map, vec_len, Err, IfErr, IfOk, OnOk};
+ghost use Rattle.std.specs.Prelude.{◌≡◌, ◌≢◌, ◌⊎◌, ◌↔◌, ◌+◌, ◌++◌, ◌∷◌, [], ℕ, All, List, length, map, vec_len, Err, IfErr, IfOk, Ok, OnOk, Some};
 ghost use Rattle.std.specs.Io.KnownBytes.{Keeps};
 ghost use Rattle.std.specs.Option.{ok_or};
 ghost use Rattle.std.specs.String.{string_bytes};
-ghost use Rattle.xa_base.specs.Xid.{Xid as KnownXid};
-ghost use Rattle.xa_base.specs.declared.state.Fate.{Fate};
-ghost use Rattle.xa_files.specs.Fates.{fate_lines};
 ghost use Rattle.xa_files.specs.declared.fault.RunFault.TheVariants.{Log, Memory, Output};
-ghost use Rattle.xa_scenario.specs.Files.{AreOfOneSize};
+ghost use Rattle.xa_scenario_file.specs.Files.{AreOfOneSize};
 ghost use Rattle.xa_scenario.specs.LogKeeping.{CannotGoOn, HasGoneOn};
-ghost use Rattle.xa_scenario.specs.Processes.{AddsStarted, AreFates, HasPlayed, IsLast, LogStops, PrintsProcesses};
-ghost use Rattle.xa_scenario.specs.Processes.{StopsAnywhere, StopsBetween, heading, shown};
+ghost use Rattle.xa_scenario.specs.Processes.{AddsFates, AddsStarted, AreFates, HasPlayed, IsLast, LogStops, PrintsProcesses};
+ghost use Rattle.xa_scenario.specs.Processes.{StopsAnywhere, StopsBetween, heading};
 ghost use Rattle.xa_scenario.specs.Replies.{trace_lines};
-ghost use Rattle.xa_scenario.specs.Runs.{IsNewRm, IsStartFault};
-ghost use Rattle.xa_scenario.specs.Scenarios.{IsSized, Plan, plan_of};
+ghost use Rattle.xa_scenario.specs.Runs.{IsNewRm, IsStartFault, shown};
+ghost use Rattle.xa_scenario_file.specs.Scenarios.{IsSized, Plan, plan_of};
+ghost use Rattle.xa_tm.specs.Slots.{log_held};
 ghost use Rattle.xa_tm.specs.StartFaults.{IsToBlame};
 ghost use Rattle.xa_system.specs.SystemView.{HasWrongSize, observes, origin_in, trace_in};
 
-use crate::document::Scenario;
 use crate::play::play;
 use crate::replies::trace_lines;
-use crate::run::{rms_of, system_of};
+use crate::start::{rms_of, system_of};
 use std::alloc::Global;
 use std::io::Write;
 use xa_base::{Event, Fate, Gtrid, Xid};
 use xa_files::{RunFault, push_fates, write_text};
 use xa_log::DecisionLog;
 use xa_rm::{MemRm, ResourceManager};
+use xa_scenario_file::Scenario;
 use xa_system::{ResumeFault, System};
 
-/// The trace of a process, where it is asked for.
-fn trace_text(alloc: Global, with_trace: bool, events: &[Event]) -> Result<String, RunFault>
+/// A trace behind the heading of the process of a number.
+#[tactic(auto, using(xa_files::proofs::Pieces::four_pieces))]
+fn headed(alloc: Global, number: usize, events: &[Event]) -> Result<String, RunFault>
     ensures text { IfOk result (λ text. string_bytes text
-        ≡ shown with_trace (trace_lines 1 events.now)) }
+        ≡ heading (Some number) ++ trace_lines 1 events.now) }
     ensures fault { IfErr result (λ e. e ≡ Memory) }
 {
-    if with_trace {
-        trace_lines(alloc, events)
-    } else {
-        Ok(String::new(alloc))
-    }
+    let lines = trace_lines(alloc, events)?;
+    Ok(format!(in alloc; "process {number}\n{lines}")?)
 }
 
-/// The same behind the heading of the process of a number.
-fn next_text(
+/// The trace of a process, where it is asked for, behind its number, if it is not the first.
+fn trace_text(
     alloc: Global,
-    number: usize,
+    number: Option<usize>,
     with_trace: bool,
     events: &[Event],
 ) -> Result<String, RunFault>
@@ -54,22 +50,13 @@ fn next_text(
         ≡ shown with_trace (heading number ++ trace_lines 1 events.now)) }
     ensures fault { IfErr result (λ e. e ≡ Memory) }
 {
-    if with_trace {
-        headed(alloc, number, events)
-    } else {
-        Ok(String::new(alloc))
+    if !with_trace {
+        return Ok(String::new(alloc));
     }
-}
-
-/// A trace behind the heading of the process of a number.
-#[tactic(auto, using(crate::proofs::LineLemmas::four_pieces))]
-fn headed(alloc: Global, number: usize, events: &[Event]) -> Result<String, RunFault>
-    ensures text { IfOk result (λ text. string_bytes text
-        ≡ heading number ++ trace_lines 1 events.now) }
-    ensures fault { IfErr result (λ e. e ≡ Memory) }
-{
-    let lines = trace_lines(alloc, events)?;
-    Ok(format!(in alloc; "process {number}\n{lines}")?)
+    match number {
+        Some(number) => headed(alloc, number, events),
+        None => trace_lines(alloc, events),
+    }
 }
 
 /// Adds the identifiers of a report.
@@ -165,10 +152,10 @@ fn next_system<R: ResourceManager + Drop, L: DecisionLog + Drop>(
 }
 
 /// A process that has played its scenario: its system, what the names of all files so far stand for, the branches
-/// whose xa_start was accepted so far, and the text of its trace, which isn't written yet.
+/// whose xa_start was accepted in earlier processes, and the text of its trace, which isn't written yet.
 #[derive(Drop)]
-struct Process<R: ResourceManager + Drop, L: DecisionLog + Drop> {
-    system: System<R, L>,
+pub struct Process<R: ResourceManager + Drop, L: DecisionLog + Drop> {
+    pub system: System<R, L>,
     gtrids: Vec<Gtrid>,
     names: Vec<Xid>,
     text: String,
@@ -176,23 +163,21 @@ struct Process<R: ResourceManager + Drop, L: DecisionLog + Drop> {
 
 /// Plays a scenario at a system that has just started.
 fn play_process<R: ResourceManager + Drop, L: DecisionLog + Drop>(
-    alloc: Global,
     system: &mut System<R, L>,
     gtrids: &mut Vec<Gtrid>,
-    names: &mut Vec<Xid>,
     scenario: &Scenario,
 ) -> Result<(), RunFault>
     ensures played { OnOk result (HasPlayed (observes R.look L.moment) (plan_of scenario.now)
-        gtrids.old.items gtrids.new.items names.old.items names.new.items system.old system.new) }
+        gtrids.old.items gtrids.new.items system.old system.new) }
     ensures fault { IfErr result (λ e. e ≡ Memory) }
 {
     play(system, gtrids, &scenario.entries)?;
     system.agree();
-    add_started(alloc, system, names)
+    Ok(())
 }
 
 /// The first process.
-fn first_process<R: ResourceManager + Drop, L: DecisionLog + Drop>(
+pub fn first_process<R: ResourceManager + Drop, L: DecisionLog + Drop>(
     alloc: Global,
     scenario: &Scenario,
     rms: Vec<R>,
@@ -202,19 +187,19 @@ fn first_process<R: ResourceManager + Drop, L: DecisionLog + Drop>(
     requires sized { IsSized (plan_of scenario.now) }
     requires count { vec_len rms ≡ scenario.now.rms }
     requires new { All (IsNewRm R.look) rms.items }
-    ensures last { IfOk result (λ p. IsLast (observes R.look L.moment) log scenario.now.rms
-        (plan_of scenario.now ∷ []) p.gtrids.items p.names.items p.system
-        (trace_lines 1 p.system.events)) }
+    ensures last { IfOk result (λ p. IsLast (observes R.look L.moment) log
+        (plan_of scenario.now ∷ []) p (trace_lines 1 p.system.events)) }
+    ensures count { IfOk result (λ p. length p.system.rms ≡ scenario.now.rms) }
     ensures text { IfOk result (λ p. string_bytes p.text
         ≡ shown with_trace (trace_lines 1 p.system.events)) }
     ensures log { result ≡ Err Log → IsToBlame L.DecisionLog log }
     ensures fault { IfErr result IsStartFault }
 {
     let mut gtrids = Vec::new(alloc);
-    let mut names = Vec::new(alloc);
+    let names = Vec::new(alloc);
     let mut system = system_of(alloc, scenario, rms, log)?;
-    play_process(alloc, &mut system, &mut gtrids, &mut names, scenario)?;
-    let text = trace_text(alloc, with_trace, system.trace())?;
+    play_process(&mut system, &mut gtrids, scenario)?;
+    let text = trace_text(alloc, None, with_trace, system.trace())?;
     Ok(Process {
         system,
         gtrids,
@@ -234,22 +219,22 @@ fn next_process<R: ResourceManager + Drop, L: DecisionLog + Drop>(
     requires sized { IsSized (plan_of scenario.now) }
     requires count { length before.system.rms ≡ scenario.now.rms }
     ensures last { IfOk result (λ p. (log : L) (plans : List Plan) (traces : List ℕ) →
-        number ≡ length plans + 1 → IsLast (observes R.look L.moment) log scenario.now.rms plans
-        before.gtrids.items before.names.items before.system traces →
-        IsLast (observes R.look L.moment) log scenario.now.rms (plans ++ plan_of scenario.now ∷ [])
-        p.gtrids.items p.names.items p.system (traces
-        ++ (heading number ++ trace_lines 1 p.system.events))) }
+        number ≡ length plans + 1 → IsLast (observes R.look L.moment) log plans before traces →
+        IsLast (observes R.look L.moment) log (plans ++ plan_of scenario.now ∷ []) p
+        (traces ++ (heading (Some number) ++ trace_lines 1 p.system.events))) }
+    ensures count { IfOk result (λ p. length p.system.rms ≡ scenario.now.rms) }
     ensures text { IfOk result (λ p. string_bytes p.text
-        ≡ shown with_trace (heading number ++ trace_lines 1 p.system.events)) }
+        ≡ shown with_trace (heading (Some number) ++ trace_lines 1 p.system.events)) }
     ensures log { result ≡ Err Log → CannotGoOn R.look L.DecisionLog before.system }
     ensures fault { IfErr result IsStartFault }
 {
     let mut gtrids = before.gtrids;
     let mut names = before.names;
+    add_started(alloc, &before.system, &mut names)?;
     before.system.agree();
     let mut system = next_system(alloc, scenario.threads, before.system)?;
-    play_process(alloc, &mut system, &mut gtrids, &mut names, scenario)?;
-    let text = next_text(alloc, number, with_trace, system.trace())?;
+    play_process(&mut system, &mut gtrids, scenario)?;
+    let text = trace_text(alloc, Some(number), with_trace, system.trace())?;
     Ok(Process {
         system,
         gtrids,
@@ -258,45 +243,52 @@ fn next_process<R: ResourceManager + Drop, L: DecisionLog + Drop>(
     })
 }
 
-/// The text of the trace of the last process, with what became of the branches of all.
+/// The text of the trace of the last process, with what became of the branches of all, and the log that it leaves.
 fn last_text<R: ResourceManager + Drop, L: DecisionLog + Drop>(
     alloc: Global,
     last: Process<R, L>,
-) -> Result<String, RunFault>
-    ensures text { IfOk result (λ text. (fates : List (KnownXid × Fate)) × AreFates
-        (origin_in R.look last.system) last.system.events last.names.items fates
-        × (string_bytes text ≡ string_bytes last.text ++ fate_lines fates)) }
+) -> Result<(String, Option<L>), RunFault>
+    ensures text { IfOk result (λ told. AddsFates (origin_in R.look last.system)
+        last.system.events last.names.items (string_bytes last.text) (string_bytes told.0)) }
+    ensures log { IfOk result (λ told. told.1 ≡ log_held last.system.log) }
     ensures fault { IfErr result (λ e. e ≡ Memory) }
 {
     let mut text = last.text;
     let names = last.names;
-    let fates = fates_of(alloc, &last.system, names)?;
-    push_fates(&mut text, alloc, &fates)?;
-    Ok(text)
+    let system = last.system;
+    let earlier = fates_of(alloc, &system, names)?;
+    push_fates(&mut text, alloc, &earlier)?;
+    let own = system.report(alloc)?;
+    push_fates(&mut text, alloc, &own)?;
+    let Ok(remains) = system.into_parts() else {
+        return Err(RunFault::Memory);
+    };
+    Ok((text, remains.log))
 }
 
 /// Runs scenarios, each as a process of the manager: the first at new resource managers and over a decision log, and
 /// each later one over the resource managers and the log that the one before it has left. It prints their traces, where
 /// they are asked for, each but the first behind a line with its number; and then a line for each branch whose xa_start
-/// was accepted, those of the first process first and each process's in the order of their identifiers. No scenario
-/// prints nothing.
+/// was accepted, those of the first process first and each process's in the order of their identifiers. It gives back
+/// the log that the last process left, if that held one. No scenario prints nothing, and leaves the log as it is.
 ///
 /// Log comes where a process can't be started over its log; that is so too where a resource manager holds a branch that
 /// is newer than the log, which has lost what it had. Memory comes where a request was refused outside of a step. Either
 /// leaves the traces of the processes before it. Output comes where a write failed: what was written before it is a
-/// beginning of what is printed otherwise.
+/// beginning of what is printed otherwise. After a fault the log is dropped.
 pub fn run_scenarios<L: DecisionLog + Drop, W: Write>(
     alloc: Global,
     scenarios: &[Scenario],
     log: L,
     with_trace: bool,
     out: &mut W,
-) -> Result<(), RunFault>
+) -> Result<Option<L>, RunFault>
     requires alike { AreOfOneSize (map plan_of scenarios.now) }
-    // What is printed is a run of them in turn, from this log on.
-    ensures ok { OnOk result ((scenarios.now ≡ []) ⊎ PrintsProcesses L.moment log
-        (map plan_of scenarios.now) with_trace (W.contents out.old) (W.contents out.new)) }
+    // What is printed is a run of them in turn, from this log on to the one that is given back.
+    ensures ok { IfOk result (λ left. (scenarios.now ≡ []) ⊎ PrintsProcesses L.moment log
+        (map plan_of scenarios.now) with_trace left (W.contents out.old) (W.contents out.new)) }
     ensures none { scenarios.now ≡ [] → Keeps (W.contents out.old) (W.contents out.new) }
+    ensures unused { scenarios.now ≡ [] → result ≡ Ok (Some log) }
     // Why it ends early, and what is printed then.
     ensures fault { IfErr result (λ e. IsStartFault e ⊎ (e ≡ Output)) }
     ensures log { result ≡ Err Log → LogStops (observes ⟦<MemRm as ResourceManager>⟧.look L.moment)
@@ -307,7 +299,7 @@ pub fn run_scenarios<L: DecisionLog + Drop, W: Write>(
         (map plan_of scenarios.now) with_trace (W.contents out.old) (W.contents out.new)) }
 {
     let Some((first, later)) = scenarios.split_first() else {
-        return Ok(());
+        return Ok(Some(log));
     };
     let rms = rms_of(alloc, first.rms)?;
     let mut process = first_process(alloc, first, rms, log, with_trace)?;
@@ -315,6 +307,7 @@ pub fn run_scenarios<L: DecisionLog + Drop, W: Write>(
         write_text(process.text.as_bytes(), out)?;
         process = next_process(alloc, scenario, process, i + 2, with_trace)?;
     }
-    let text = last_text(alloc, process)?;
-    write_text(text.as_bytes(), out)
+    let told = last_text(alloc, process)?;
+    write_text(told.0.as_bytes(), out)?;
+    Ok(told.1)
 }

@@ -1,45 +1,13 @@
 //! The lines of a trace: what each event was replied.
 
-ghost use Rattle.std.specs.Prelude.{◌≡◌, ◌++◌, IfErr, IfOk, OnOk};
-ghost use Rattle.std.specs.List.{flat_map};
+ghost use Rattle.std.specs.Prelude.{◌≡◌, IfErr, IfOk};
 ghost use Rattle.std.specs.String.{string_bytes};
 ghost use Rattle.xa_files.specs.declared.fault.RunFault.TheVariants.{Memory};
-ghost use Rattle.xa_scenario.specs.Replies.{answer_text, call_name, listed_xid, refused_text, reply_text, restarted_text, trace_line, trace_lines};
+ghost use Rattle.xa_scenario.specs.Replies.{answer_text, reply_text, trace_line, trace_lines};
 
 use std::alloc::Global;
-use xa_base::{Answer, Call, Event, Refusal, Reply, Xid};
-use xa_files::{RunFault, gtrid_text};
-
-/// The name of a call (XA, chapter 5).
-fn call_name(call: &Call) -> &'static str
-    ensures { result.now ≡ call_name call.now }
-{
-    match call {
-        Call::OpenRm => "xa_open",
-        Call::CloseRm => "xa_close",
-        Call::Start { .. } => "xa_start",
-        Call::End { .. } => "xa_end",
-        Call::Prepare { .. } => "xa_prepare",
-        Call::Commit { .. } => "xa_commit",
-        Call::Rollback { .. } => "xa_rollback",
-        Call::Forget { .. } => "xa_forget",
-        Call::Recover { .. } => "xa_recover",
-    }
-}
-
-/// Adds each identifier behind a space.
-fn push_xids(text: &mut String, alloc: Global, xids: &[Xid]) -> Result<(), RunFault>
-    ensures text { OnOk result (string_bytes text.new ≡ string_bytes text.old
-        ++ flat_map listed_xid xids.now) }
-    ensures fault { IfErr result (λ e. e ≡ Memory) }
-{
-    for xid in xids {
-        let name = xid.text(alloc)?;
-        let listed = format!(in alloc; " {name}")?;
-        text.push_str(listed.as_str())?;
-    }
-    Ok(())
-}
+use xa_base::{Answer, Event, Reply};
+use xa_files::{RunFault, begun_text, push_xids, refused_text, restarted_text};
 
 /// The number of an answer and, for a page, the identifiers that it lists.
 fn answer_text(alloc: Global, answer: &Answer) -> Result<String, RunFault>
@@ -53,50 +21,21 @@ fn answer_text(alloc: Global, answer: &Answer) -> Result<String, RunFault>
     Ok(text)
 }
 
-/// That the manager is up, its incarnation, and how many rows of either kind it found.
-#[tactic(auto, using(crate::proofs::LineLemmas::six_pieces))]
-fn restarted_text(
-    alloc: Global,
-    incarnation: u64,
-    decisions: usize,
-    heuristics: usize,
-) -> Result<String, RunFault>
-    ensures text { IfOk result (λ text. string_bytes text
-        ≡ restarted_text incarnation decisions heuristics) }
-    ensures fault { IfErr result (λ e. e ≡ Memory) }
-{
-    Ok(format!(in alloc; "restarted {incarnation} {decisions} {heuristics}")?)
-}
-
-/// A refusal, by its number and its name.
-#[tactic(auto, using(crate::proofs::LineLemmas::four_pieces))]
-fn refused_text(alloc: Global, refusal: Refusal) -> Result<String, RunFault>
-    ensures text { IfOk result (λ text. string_bytes text ≡ refused_text refusal) }
-    ensures fault { IfErr result (λ e. e ≡ Memory) }
-{
-    let number = refusal.number();
-    let name = refusal.name();
-    Ok(format!(in alloc; "refused {number} {name}")?)
-}
-
 /// A reply in words.
 fn reply_text(alloc: Global, reply: &Reply) -> Result<String, RunFault>
     ensures text { IfOk result (λ text. string_bytes text ≡ reply_text reply.now) }
     ensures fault { IfErr result (λ e. e ≡ Memory) }
 {
     match reply {
-        Reply::Begun(gtrid) => {
-            let gtrid = gtrid_text(alloc, *gtrid)?;
-            Ok(format!(in alloc; "begun {gtrid}")?)
-        }
+        Reply::Begun(gtrid) => Ok(begun_text(alloc, *gtrid)?),
         Reply::Issued => Ok(String::from_str(alloc, "issued")?),
         Reply::Took(call, answer) => {
             let answer = answer_text(alloc, answer)?;
-            Ok(format!(in alloc; "took {} {answer}", call_name(call))?)
+            Ok(format!(in alloc; "took {} {answer}", call.kind().name())?)
         }
         Reply::Heard(call, answer) => {
             let answer = answer_text(alloc, answer)?;
-            Ok(format!(in alloc; "heard {} {answer}", call_name(call))?)
+            Ok(format!(in alloc; "heard {} {answer}", call.kind().name())?)
         }
         Reply::Nothing => Ok(String::from_str(alloc, "nothing")?),
         Reply::Noted => Ok(String::from_str(alloc, "noted")?),
@@ -109,8 +48,8 @@ fn reply_text(alloc: Global, reply: &Reply) -> Result<String, RunFault>
             incarnation,
             decisions,
             heuristics,
-        } => restarted_text(alloc, *incarnation, *decisions, *heuristics),
-        Reply::Refused(refusal) => refused_text(alloc, *refusal),
+        } => Ok(restarted_text(alloc, *incarnation, *decisions, *heuristics)?),
+        Reply::Refused(refusal) => Ok(refused_text(alloc, *refusal)?),
     }
 }
 

@@ -21,6 +21,7 @@ use Rattle.xa_server.specs.Releasing.{ReleasesAll, if_taken, transaction_of}
 use Rattle.xa_server.specs.Replies.{response_of}
 use Rattle.xa_server.specs.Standing.{LacksMemory, OnlyTells, StandsFor}
 use Rattle.xa_server.specs.declared.server.Server.{Server}
+use Rattle.xa_server.proofs.FaultLemmas.{fault_is_told, decided_is_no_refusal, noted_is_no_refusal}
 use Rattle.xa_line.specs.Grid.{grid_has_line, line_at}
 use Rattle.xa_line.specs.Histories.{known}
 use Rattle.xa_log.specs.Contract.{Moment}
@@ -33,7 +34,7 @@ use Rattle.xa_requests.specs.declared.request.Request.TheVariants as requests
 use Rattle.xa_requests.specs.declared.response.RequestFault.TheVariants as faults
 use Rattle.xa_requests.specs.declared.response.Response.{Response}
 use Rattle.xa_requests.specs.declared.response.Response.TheVariants as responses
-use Rattle.xa_session.proofs.Refusals.{no_fault_in_turn}
+use Rattle.xa_session.proofs.Refusals.{no_fault_in_turn, if_there}
 use Rattle.xa_session.proofs.Sessions.{never_the_log}
 use Rattle.xa_session.specs.Answering.{FailsToHear, IsFirst}
 use Rattle.xa_session.specs.Hearing.{can_hear}
@@ -56,17 +57,10 @@ pub record IsFailed {L : Type 0} (o : Origin) (seen : Seen) (now left : Server L
 
 -- ** no rule is that the log failed
 
-fault_is_told : (n : Refusal) → (let r : Response = responses.Refused LogFault in r) ≡ responses.Refused n → n ≡ LogFault
-fault_is_told n e = cc
-
 -- a rule beside those of the book is that too much has happened
 if_room : (t : Bool) (x : Option Refusal) → (x ≡ Some LogFault → ⊥) → (if t then x else Some Limit) ≡ Some LogFault → ⊥
 if_room true x never e = never e
 if_room false x never e = absurd (cc)
-
-if_none : (t : Bool) (x : Option Refusal) → (if t then x else Some Limit) ≡ None → x ≡ None
-if_none true x e = e
-if_none false x e = absurd (cc)
 
 if_not_over : (t : Bool) (x : Option Refusal) → (if t then Some Limit else x) ≡ None → x ≡ None
 if_not_over true x e = absurd (cc)
@@ -102,12 +96,6 @@ module _ {L : Type 0} (o : Origin) (seen : Seen) (now left : Server L) (asked : 
           told_first : (m : Refusal) → (let x : Result (Unit {0}) Refusal = Err n in x) ≡ Err m → m ≡ LogFault
           told_first m e = cc
 
-decided_is_no_refusal : (let r : Response = responses.Refused LogFault in r) ≡ responses.Decided → ⊥
-decided_is_no_refusal e = cc
-
-noted_is_no_refusal : (let r : Response = responses.Refused LogFault in r) ≡ responses.Noted → ⊥
-noted_is_no_refusal e = cc
-
 module _ {L : Type 0} (moment : L → Moment) (decisions : FailedDecisionsAreFound L) (settlements : FailedSettlementsAreFound L) (dones : FailedDonesAreFound L)
     (o : Origin) (seen : Seen) (now left : Server L) (tracks : KeepsTrack o seen now.session) where
   abbrev s : Session L
@@ -120,7 +108,7 @@ module _ {L : Type 0} (moment : L → Moment) (decisions : FailedDecisionsAreFou
       (decide_all_refusal s outcome gs) responses.Decided did.mid.session did.does.result
       (if_room (has_room_for s (length gs)) _ (no_fault_in_turn (λ g. Steps.Decide g outcome) (λ g. Decided g outcome) gs (book_in s.manager)))
       decided_is_no_refusal did.does.told did.does.does.rules.refused did.does.does.asks.fails (ap (λ (c : Server L). c.session.manager) did.releases)
-      (λ none fault. decisions o seen s outcome gs tracks (if_none (has_room_for s (length gs)) _ none))
+      (λ none fault. decisions o seen s outcome gs tracks (if_there (has_room_for s (length gs)) _ Limit none))
   failed_in_request (requests.Settle g) asks did =
       by_one_call o seen now left (Adds (rows_for (book_in s.manager) (g ∷ []))) (InDecide (g ∷ []))
       (refusal_at s (Steps.Settle g)) responses.Decided did.mid.session did.does.result
@@ -131,7 +119,7 @@ module _ {L : Type 0} (moment : L → Moment) (decisions : FailedDecisionsAreFou
       by_one_call o seen now left (Drops gs) (InDone gs) (done_all_refusal s gs) responses.Noted did.mid.session did.does.result
       (if_room (has_room_for s (length gs)) _ (no_fault_in_turn (λ g. Steps.Done g) (λ g. Done g) gs (book_in s.manager)))
       noted_is_no_refusal did.does.told did.does.does.rules.refused did.does.does.asks.fails (ap (λ (c : Server L). c.session.manager) did.releases)
-      (λ none fault. dones o seen s gs tracks (if_none (has_room_for s (length gs)) _ none))
+      (λ none fault. dones o seen s gs tracks (if_there (has_room_for s (length gs)) _ Limit none))
   failed_in_request (requests.Begin t) asks did = absurd asks
   failed_in_request (requests.Issue t r call) asks did = absurd asks
   failed_in_request (requests.Answer t r name answer) asks did = absurd asks

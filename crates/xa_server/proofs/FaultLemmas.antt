@@ -1,8 +1,8 @@
 -- What is left where the log failed.
-use Rattle.std.proofs.Common.{◌≡◌, ◌∙◌, ◌⊎◌, inl, inr, Bool, true, [], ◌∷◌, Option, Some, None, refl, sym, ap, subst}
+use Rattle.std.proofs.Common.{◌≡◌, ◌∙◌, inl, inr, Bool, true, [], ◌∷◌, Option, Some, None, refl, ap, subst}
 use Rattle.std.specs.Prelude.{if◌then◌else◌, Result, Ok, Err, IfErr}
 use Rattle.xa_base.specs.declared.refusal.Refusal.{Refusal}
-use Rattle.xa_base.specs.declared.refusal.Refusal.TheVariants.{LogFault, Memory}
+use Rattle.xa_base.specs.declared.refusal.Refusal.TheVariants.{LogFault}
 use Rattle.xa_base.specs.declared.step.Step.TheVariants as Steps
 use Rattle.xa_server.specs.Faults.{FaultsLeaveAllOrNone}
 use Rattle.xa_server.specs.Replies.{response_of}
@@ -13,7 +13,8 @@ use Rattle.xa_model.specs.Trace.{Fault, Fault.InDecide, Fault.InDone, Happening.
 use Rattle.xa_requests.specs.declared.request.Request.TheVariants as requests
 use Rattle.xa_requests.specs.declared.response.Response.{Response}
 use Rattle.xa_requests.specs.declared.response.Response.TheVariants as responses
-use Rattle.xa_session.proofs.Logging.{left_tied, logs_have_all_or_none}
+use Rattle.xa_session.proofs.LogStarts.{left_tied, logs_have_all_or_none}
+use Rattle.xa_session.proofs.Logging.{memory_is_no_fault}
 use Rattle.xa_session.specs.Logging.{HasAllOrNone, HoldsItsBook, LeavesContent}
 use Rattle.xa_session.specs.Session.{decide_all_refusal, done_all_refusal, refusal_at}
 use Rattle.xa_tm.proofs.Log.Ties.{up_content}
@@ -22,11 +23,8 @@ use Rattle.xa_tm.specs.BookAndLog.{IsTied}
 use Rattle.xa_tm.specs.Calls.{FailsBy, book_in, written_by}
 use Rattle.xa_tm.specs.InTurn.{rows_added}
 
-fault_is_told : (n : Refusal) → (let r : Response = responses.Refused LogFault in r) ≡ responses.Refused n → n ≡ LogFault
+pub fault_is_told : (n : Refusal) → (let r : Response = responses.Refused LogFault in r) ≡ responses.Refused n → n ≡ LogFault
 fault_is_told n e = cc
-
-memory_is_no_fault : (n : Refusal) → n ≡ Memory → n ≡ LogFault → ⊥
-memory_is_no_fault n memory fault = let no : Memory ≡ LogFault = sym memory ∙ fault in absurd (cc)
 
 module _ {L : Type 0} (moment : L → Moment) (near : Bool) (old mid new : Server L) (c : Content) (asked : Doubt) (f : Fault) where
   -- the book of the old session, and of the new one
@@ -68,10 +66,10 @@ module _ {L : Type 0} (moment : L → Moment) (near : Bool) (old mid new : Serve
       by (Some m) some =
           as_before holds leaves up (ap (λ (a : Server L). book_in a.session.manager) same ∙ ap (λ s. book_in s.manager) (refused m some).1)
 
-decided_is_no_refusal : (let r : Response = responses.Refused LogFault in r) ≡ responses.Decided → ⊥
+pub decided_is_no_refusal : (let r : Response = responses.Refused LogFault in r) ≡ responses.Decided → ⊥
 decided_is_no_refusal e = cc
 
-noted_is_no_refusal : (let r : Response = responses.Refused LogFault in r) ≡ responses.Noted → ⊥
+pub noted_is_no_refusal : (let r : Response = responses.Refused LogFault in r) ≡ responses.Noted → ⊥
 noted_is_no_refusal e = cc
 
 pub faults_leave_all_or_none : {L : Type 0} (moment : L → Moment) → FaultsLeaveAllOrNone moment

@@ -30,7 +30,7 @@ use Rattle.xa_tm.proofs.Maps.Issue.{none_of_call}
 
 -- ** reasons
 
-or_none : {A : Type 0} (x y : Option A) → option_or x y ≡ None → (x ≡ None) × (y ≡ None)
+pub or_none : {A : Type 0} (x y : Option A) → option_or x y ≡ None → (x ≡ None) × (y ≡ None)
 or_none None y e = (refl, e)
 or_none (Some a) y e = absurd (cc)
 

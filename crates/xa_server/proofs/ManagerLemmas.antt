@@ -1,5 +1,5 @@
 -- What managers of different names tell their drivers.
-use Rattle.std.proofs.Common.{◌≡◌, ◌∙◌, ◌⊎◌, inl, inr, ℕ, ◌+◌, ◌==◌, zero, suc, Bool, true, false, List, filter, Option, Some, None, refl, sym, ap, subst, All, get_or, nat_lt}
+use Rattle.std.proofs.Common.{◌≡◌, ◌∙◌, ◌⊎◌, inl, inr, ℕ, ◌+◌, zero, suc, Bool, true, false, List, Option, Some, None, refl, sym, ap, subst, All, get_or, nat_lt}
 use Rattle.std.specs.Option.{option_map}
 use Rattle.std.specs.Prelude.{MatchBool, Result, Ok, Err, if◌then◌else◌, slice_get, IfSome}
 use Rattle.std.proofs.lemmas.Bool.{and_parts, ltb-true}
@@ -23,13 +23,13 @@ use Rattle.xa_server.specs.Managers.{IsOnOwn, ManagersAreApart, RepliesTellOwn, 
 use Rattle.xa_server.specs.Performing.{Does}
 use Rattle.xa_server.specs.Recoveries.{TellsOwed}
 use Rattle.xa_server.specs.Replies.{response_of}
-use Rattle.xa_server.specs.Rows.{owed_xids}
 use Rattle.xa_server.specs.Standing.{LacksMemory, OnlyTells, StandsFor}
 use Rattle.xa_server.specs.declared.server.Server.{Server}
 use Rattle.xa_line.proofs.TrafficLaws.{next_call_waits}
 use Rattle.xa_line.specs.Grid.{HasLine, grid_has_line, line_at}
 use Rattle.xa_line.specs.Histories.{known}
 use Rattle.xa_log.specs.Contract.{Moment}
+use Rattle.xa_log.specs.KeySet.{items}
 use Rattle.xa_model.specs.Facts.{next_call}
 use Rattle.xa_model.specs.Replies.History.{name_by, name_of}
 use Rattle.xa_model.specs.Replies.Steps.{accepted}
@@ -49,6 +49,8 @@ use Rattle.xa_session.specs.declared.session.answers.Unfit.{Unfit}
 use Rattle.xa_session.specs.declared.session.answers.Unfit.TheVariants as Unfits
 use Rattle.xa_monitor.specs.Explained.{HasOnlyOlderRows}
 use Rattle.xa_monitor.specs.Seen.{Seen}
+use Rattle.xa_tm.specs.Book.{Book}
+use Rattle.xa_tm.specs.Calls.{book_in}
 use Rattle.xa_model.specs.Trace.{Origin}
 
 -- ** a call that a history knows is on a branch of this manager
@@ -144,26 +146,25 @@ lost_plain name rm thread (suc left) old new reply (next, Err n, loses, rest) = 
 owed_under : (name : List ℕ) (b : Branch) → IsUnder name (renamed name (xid_of_branch b))
 owed_under name b = record { bare = xid_of_branch b; shape = refl; named = bare_gives name (xid_of_branch b) refl }
 
-owed_own : (name : List ℕ) (rm : ℕ) (owed : List Branch) (reply : Response) → TellsOwed (owed_xids rm owed) reply → TellsOwn name reply
-owed_own name rm owed (responses.Owed told) same =
-    subst (All (λ x. IsUnder name (renamed name x))) (sym same)
-    (All-map (λ x. IsUnder name (renamed name x)) xid_of_branch (filter (λ b. b.rm == rm) owed)
-    (λ k d less. owed_under name (get_or (filter (λ b. b.rm == rm) owed) k d)))
-owed_own name rm owed (responses.Restarted i d h) same = absurd same
-owed_own name rm owed (responses.Begun g) same = absurd same
-owed_own name rm owed (responses.Issued call) same = absurd same
-owed_own name rm owed (responses.Heard kind k) same = absurd same
-owed_own name rm owed (responses.Waits call) same = absurd same
-owed_own name rm owed responses.Nothing same = absurd same
-owed_own name rm owed responses.Decided same = absurd same
-owed_own name rm owed responses.Claimed same = absurd same
-owed_own name rm owed responses.Noted same = absurd same
-owed_own name rm owed (responses.Resolved k) same = absurd same
-owed_own name rm owed responses.Crashed same = absurd same
-owed_own name rm owed (responses.Status up k) same = absurd same
-owed_own name rm owed responses.Bye same = absurd same
-owed_own name rm owed (responses.Refused k) same = absurd same
-owed_own name rm owed (responses.Fault k) same = absurd same
+owed_own : (name : List ℕ) (book : Book) (rm : ℕ) (reply : Response) → TellsOwed book rm reply → TellsOwn name reply
+owed_own name book rm (responses.Owed xids) owed =
+    subst (All (λ x. IsUnder name (renamed name x))) (sym owed.listed)
+    (All-map (λ x. IsUnder name (renamed name x)) xid_of_branch (items owed.set) (λ i d less. owed_under name (get_or (items owed.set) i d)))
+owed_own name book rm (responses.Restarted i d h) told = absurd told
+owed_own name book rm (responses.Begun g) told = absurd told
+owed_own name book rm (responses.Issued call) told = absurd told
+owed_own name book rm (responses.Heard kind k) told = absurd told
+owed_own name book rm (responses.Waits call) told = absurd told
+owed_own name book rm responses.Nothing told = absurd told
+owed_own name book rm responses.Decided told = absurd told
+owed_own name book rm responses.Claimed told = absurd told
+owed_own name book rm responses.Noted told = absurd told
+owed_own name book rm (responses.Resolved k) told = absurd told
+owed_own name book rm responses.Crashed told = absurd told
+owed_own name book rm (responses.Status up k) told = absurd told
+owed_own name book rm responses.Bye told = absurd told
+owed_own name book rm (responses.Refused k) told = absurd told
+owed_own name book rm (responses.Fault k) told = absurd told
 
 module _ {L : Type 0} (law : OwnHaveName) (explained : SessionsAreExplained L) (name : List ℕ) (o : Origin) (seen : Seen) (is_old : HasOnlyOlderRows o)
     (old : Server L) (keeps : KeepsTrack o seen old.session) (reply : Response) where
@@ -200,9 +201,9 @@ module _ {L : Type 0} (law : OwnHaveName) (explained : SessionsAreExplained L) (
   answered_own t r call answer new false (inr does) = told_plainly name reply _ does.0 refl
 
   owed_told : (r : ℕ) (b : Bool)
-      → MatchBool b (TellsOwed (owed_xids r old.owed.items) reply ⊎ (reply ≡ responses.Refused Memory)) (reply ≡ responses.Refused Limit)
+      → MatchBool b (TellsOwed (book_in old.session.manager) r reply ⊎ (reply ≡ responses.Refused Memory)) (reply ≡ responses.Refused Limit)
       → TellsOwn name reply
-  owed_told r true (inl told) = owed_own name r old.owed.items reply told
+  owed_told r true (inl told) = owed_own name (book_in old.session.manager) r reply told
   owed_told r true (inr told) = told_plainly name reply _ told refl
   owed_told r false told = told_plainly name reply _ told refl
 

@@ -1,27 +1,27 @@
--- What rows owe.
-use Rattle.std.proofs.Common.{subst, Option, Some, None, ◌≡◌, ◌≢◌, ◌∙◌, ◌⊎◌, inl, inr, ℕ, Bool, true, false, not, ◌||◌, ◌==◌, List, [], ◌∷◌, ◌++◌, length, filter, map, cond, ap, refl, sym, arith}
-use Rattle.std.proofs.lemmas.Bool.{true≢false}
+-- Rows of what is committed.
+use Rattle.std.proofs.Common.{subst, Option, Some, None, ◌≡◌, ◌∙◌, ◌⊎◌, inl, inr, Bool, true, false, ◌||◌, List, [], ◌∷◌, length, map, ap, refl, sym}
+use Rattle.std.proofs.lemmas.Bool.{true≢false, not-false}
 use Rattle.std.specs.Option.{option_or}
-use Rattle.std.proofs.lemmas.Bool.Decides.{nat_tests}
 use Rattle.std.specs.Prelude.{if◌then◌else◌, Result, Ok, Err, OnOk}
 use Rattle.xa_base.proofs.BranchKeys.{gtrid_eq-true}
-use Rattle.xa_base.specs.Branch.{gtrid_eq, xid_of_branch}
-use Rattle.xa_base.specs.declared.branch.Branch.{Branch}
+use Rattle.xa_base.specs.Branch.{gtrid_eq}
 use Rattle.xa_base.specs.declared.branch.Gtrid.{Gtrid}
 use Rattle.xa_base.specs.declared.step.Outcome.{Outcome}
 use Rattle.xa_base.specs.declared.step.Outcome.TheVariants as Outcomes
 use Rattle.xa_base.specs.declared.step.Step.TheVariants as Steps
 use Rattle.xa_base.specs.declared.refusal.Refusal.{Refusal}
 use Rattle.xa_base.specs.declared.refusal.Refusal.TheVariants.{Limit}
-use Rattle.xa_server.specs.Rows.{HasRow, LogsRows, committed_by, is_gtrid_among, owed_xids}
+use Rattle.xa_server.specs.Rows.{HasRow, LogsRows, committed_by, is_gtrid_among}
 use Rattle.xa_log.specs.Content.{Content}
 use Rattle.xa_log.specs.Contract.{Moment}
 use Rattle.xa_model.specs.Trace.{Happening, Happening.Decided}
+use Rattle.xa_model.proofs.Replies.Guards.{peel}
 use Rattle.xa_server.specs.Replies.{response_of}
 use Rattle.xa_requests.specs.declared.request.Request.TheVariants as requests
 use Rattle.xa_requests.specs.declared.response.Response.{Response}
 use Rattle.xa_requests.specs.declared.response.Response.TheVariants as responses
 use Rattle.xa_session.specs.Logging.{KeepsLog}
+use Rattle.xa_session.proofs.Refusals.{if_there}
 use Rattle.xa_session.specs.Session.{decide_all_refusal, has_room_for, refusal_at}
 use Rattle.xa_session.specs.declared.session.Session.{Session}
 use Rattle.xa_tm.specs.Book.{Book, Waiting, after, after_all, voted_yes}
@@ -34,20 +34,12 @@ use Rattle.xa_tm.specs.Refusing.{refusal_in, refusal_in_turn}
 abbrev pub commits : List Gtrid → List Happening
 commits gs = map (λ g. Decided g Outcomes.Commit) gs
 
-if_none : (t : Bool) (r : Refusal) (rest : Option Refusal) → (if t then Some r else rest) ≡ None → (t ≡ false) × (rest ≡ None)
-if_none true r rest e = absurd (cc)
-if_none false r rest e = (refl, e)
-
-not_false : (b : Bool) → not b ≡ false → b ≡ true
-not_false true e = refl
-not_false false e = absurd (cc)
-
 -- what may be decided is of a manager that is up
 up_if_decided : (k : Book) (g : Gtrid) (o : Outcome) → refusal_in k (Steps.Decide g o) ≡ None → k.up ≡ true
-up_if_decided k g o none = not_false _ (if_none _ _ _ none).0
+up_if_decided k g o none = not-false _ (peel _ _ _ none).0
 
 up_if_settled : (k : Book) (g : Gtrid) → refusal_in k (Steps.Settle g) ≡ None → k.up ≡ true
-up_if_settled k g none = not_false _ (if_none _ _ _ none).0
+up_if_settled k g none = not-false _ (peel _ _ _ none).0
 
 -- what is decided later leaves a row
 row_kept : (gs : List Gtrid) (k : Book) (g : Gtrid) (set : Waiting) → voted_yes k g ≡ set → k.row g ≡ Some set
@@ -133,43 +125,10 @@ decided_up k (g ∷ gs) o none = inr (up_if_decided k g o (first (refusal_in k (
 
 pub decide_up : {L : Type 0} (s : Session L) (gs : List Gtrid) (o : Outcome) (r : Result (Unit {0}) Refusal) → OnOk r (decide_all_refusal s o gs ≡ None)
     → OnOk r ((gs ≡ []) ⊎ ((book_in s.manager).up ≡ true))
-decide_up s gs o (Ok x) none = decided_up (book_in s.manager) gs o (if_room (has_room_for s (length gs)) none)
-  where
-    if_room : (t : Bool) → (if t then refusal_in_turn (λ g. Steps.Decide g o) (λ g. Decided g o) (book_in s.manager) gs else Some Limit) ≡ None
-        → refusal_in_turn (λ g. Steps.Decide g o) (λ g. Decided g o) (book_in s.manager) gs ≡ None
-    if_room true e = e
-    if_room false e = absurd (cc)
+decide_up s gs o (Ok x) none = decided_up (book_in s.manager) gs o (if_there (has_room_for s (length gs)) _ Limit none)
 decide_up s gs o (Err n) none = tt
 
 pub settled_up : {L : Type 0} (s : Session L) (g : Gtrid) (r : Result (Unit {0}) Refusal) → OnOk r (refusal_at s (Steps.Settle g) ≡ None)
     → OnOk r ((g ∷ [] ≡ []) ⊎ ((book_in s.manager).up ≡ true))
-settled_up s g (Ok x) none = inr (up_if_settled (book_in s.manager) g (if_none _ _ _ none).1)
+settled_up s g (Ok x) none = inr (up_if_settled (book_in s.manager) g (peel _ _ _ none).1)
 settled_up s g (Err n) none = tt
-
--- ** what is owed
-
--- numbers that differ
-pub test_fails : (m n : ℕ) → m ≢ n → (m == n) ≡ false
-test_fails m n other = grind (arith, nat_tests)
-
--- of one branch more, which is there
-pub one_more_owed : (rm : ℕ) (bs : List Branch) (b : Branch) → (b.rm == rm) ≡ true → owed_xids rm (bs ++ b ∷ []) ≡ owed_xids rm bs ++ xid_of_branch b ∷ []
-one_more_owed rm [] b there = rw there refl
-one_more_owed rm (x ∷ xs) b there = by_test (x.rm == rm) (one_more_owed rm xs b there)
-  where
-    by_test : (c : Bool) → owed_xids rm (xs ++ b ∷ []) ≡ owed_xids rm xs ++ xid_of_branch b ∷ []
-        → map xid_of_branch (cond c (x ∷ filter (λ y. y.rm == rm) (xs ++ b ∷ [])) (filter (λ y. y.rm == rm) (xs ++ b ∷ [])))
-        ≡ map xid_of_branch (cond c (x ∷ filter (λ y. y.rm == rm) xs) (filter (λ y. y.rm == rm) xs)) ++ xid_of_branch b ∷ []
-    by_test true same = ap (λ ys. xid_of_branch x ∷ ys) same
-    by_test false same = same
-
--- or isn't
-pub one_not_owed : (rm : ℕ) (bs : List Branch) (b : Branch) → (b.rm == rm) ≡ false → owed_xids rm (bs ++ b ∷ []) ≡ owed_xids rm bs
-one_not_owed rm [] b there = rw there refl
-one_not_owed rm (x ∷ xs) b there = by_test (x.rm == rm) (one_not_owed rm xs b there)
-  where
-    by_test : (c : Bool) → owed_xids rm (xs ++ b ∷ []) ≡ owed_xids rm xs
-        → map xid_of_branch (cond c (x ∷ filter (λ y. y.rm == rm) (xs ++ b ∷ [])) (filter (λ y. y.rm == rm) (xs ++ b ∷ [])))
-        ≡ map xid_of_branch (cond c (x ∷ filter (λ y. y.rm == rm) xs) (filter (λ y. y.rm == rm) xs))
-    by_test true same = ap (λ ys. xid_of_branch x ∷ ys) same
-    by_test false same = same

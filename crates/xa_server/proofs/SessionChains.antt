@@ -1,9 +1,7 @@
 -- Sessions of drivers one after another agree.
-use Rattle.std.proofs.Common.{◌≡◌, ◌⊎◌, inl, inr, ◌<◌, ◌≤◌, ◌+◌, ℕ, true, List, [], ◌∷◌, length, Option, Some, None, IsSomeAnd, refl, sym, ap, ◌∙◌, subst, arith}
-use Rattle.std.specs.FinMap.{get, len}
-use Rattle.std.specs.Prelude.{◌==◌, if◌then◌else◌, is_some}
-use Rattle.xa_base.specs.HeldBranch.{new_branch}
-use Rattle.xa_base.specs.Scan.{Scan.NotOpen}
+use Rattle.std.proofs.Common.{◌≡◌, ◌⊎◌, inl, inr, ◌<◌, ℕ, true, List, Option, Some, None, refl, sym, ap, ◌∙◌, subst}
+use Rattle.std.specs.FinMap.{get}
+use Rattle.std.specs.Prelude.{is_some}
 use Rattle.xa_base.specs.StateTable.{broken}
 use Rattle.xa_base.specs.declared.answer.Answer.TheVariants.{Ret}
 use Rattle.xa_base.specs.declared.state.Standing.{Standing}
@@ -11,18 +9,17 @@ use Rattle.xa_base.specs.declared.state.Standing.TheVariants.{Prepared}
 use Rattle.xa_server.proofs.BranchLemmas.{calls_on_branches}
 use Rattle.xa_server.proofs.Failures.{IsFailedToHear, failed_in_answer, failed_in_request}
 use Rattle.xa_server.proofs.LogLemmas.{replies_keep, same_keeps}
-use Rattle.xa_server.specs.Sessions.{AreServed, AreServed.Between, AreServed.NoneYet, AreServed.OneMore, CommitStandsInLog, IsEmptyLog, IsHandedOn, IsSession, IsSessionLeft, IsSessionLeft.AfterLine, IsSessionLeft.InAnswer, IsSessionLeft.InRequest, LogDecides, StartsOver, WasFoundDecidedInLog, WasLeft}
+use Rattle.xa_server.specs.Sessions.{AreServed, AreServed.Between, AreServed.NoneYet, AreServed.OneMore, IsHandedOn, IsSession, IsSessionLeft, IsSessionLeft.AfterLine, IsSessionLeft.InAnswer, IsSessionLeft.InRequest, WasFoundDecidedInLog, WasLeft}
 use Rattle.xa_server.specs.Votes.{IsLogged}
 use Rattle.xa_server.specs.declared.server.Server.{Server}
 use Rattle.xa_line.specs.Grid.{HasLine}
-use Rattle.xa_log.specs.Content.{Content, with_bump}
+use Rattle.xa_log.specs.Content.{Content}
 use Rattle.xa_log.specs.Contract.{Moment}
 use Rattle.xa_base.specs.declared.branch.Gtrid.{Gtrid}
 use Rattle.xa_model.specs.Facts.{lists_row}
-use Rattle.xa_model.specs.Facts.Distinct.{ApartRows}
-use Rattle.xa_model.specs.Promises.Processes.{SameRecords, SameRows as SameRowLists}
-use Rattle.xa_model.specs.Trace.{Branch, Call, Code, Fault, Line, Origin, Trace.From, line}
-use Rattle.xa_session.proofs.Logging.{both_keep, left_tied}
+use Rattle.xa_model.specs.Trace.{Branch, Call, Code, Fault, Line, Origin, line}
+use Rattle.xa_session.proofs.Logging.{both_keep}
+use Rattle.xa_session.proofs.LogStarts.{left_tied}
 use Rattle.xa_session.specs.Logging.{HoldsItsBook, KeepsLog}
 use Rattle.xa_session.proofs.FailedAnswers.{fit_line}
 use Rattle.xa_session.specs.Session.{known_at, known_waiting}
@@ -33,91 +30,12 @@ use Rattle.xa_monitor.specs.Agreement.{IsLineOf, MayAllStand, WaitsAt}
 use Rattle.xa_monitor.specs.Explained.{HasOnlyOlderRows}
 use Rattle.xa_monitor.specs.Named.{AreOnBranches}
 use Rattle.xa_monitor.specs.Seen.{Seen, Seen.Answered, Seen.Start}
-use Rattle.xa_monitor.specs.Sessions.{AfterSessions, AfterSessions.Between as Ends_between, AfterSessions.NoneYet as No_session, AfterSessions.OneMore as One_session, CommitStands as Commit_stands, Finds, FindsLog, IsSession as Is_session, Log, Log.Empty, Log.LeftBy, MayFail, RowsDecide, WasFoundDecided as Was_found, nothing_yet}
+use Rattle.xa_monitor.specs.Sessions.{AfterSessions, AfterSessions.Between as Ends_between, AfterSessions.NoneYet as No_session, AfterSessions.OneMore as One_session, Finds, IsSession as Is_session, Log, Log.Empty, Log.LeftBy, MayFail, WasFoundDecided as Was_found}
 use Rattle.xa_monitor.specs.Standings.{Comes}
-use Rattle.xa_tm.specs.Begins.{BeginsWith}
-use Rattle.xa_tm.specs.Book.{Book, book_of}
 use Rattle.xa_tm.specs.BookAndLog.{IsTied}
 use Rattle.xa_tm.specs.Calls.{book_in, log_in}
 use Rattle.xa_tm.proofs.History.OneMore.{lists_is}
-use Rattle.xa_tm.specs.Laws.{StartRowsAreApart}
-use Rattle.xa_tm.specs.Starting.{HasContent, StartsHaveContent, book_at_start, records_from, rows_from}
-
--- ** a start over a log that was handed on
-
-module _ {L : Type 0} (moment : L → Moment) (threads rms : ℕ) (handed : L) (first : Server L) (starts : StartsOver moment threads rms handed first)
-    (order : (moment handed).is_in_order) (honest : (moment (log_in first.session.manager)).is_honest) where
-  abbrev k : Book
-  k = book_in first.session.manager
-
-  -- it raised the incarnation of what it found, and its book is what it found
-  book_is : (d : Content) → (moment handed).content ≡ Some d → k ≡ book_at_start threads rms (with_bump d)
-  book_is d has =
-      let made : (moment (log_in first.session.manager)).content ≡ Some (with_bump d) =
-      subst (λ x. IsSomeAnd x (λ b. (moment (log_in first.session.manager)).content ≡ Some (with_bump b))) has (starts.over.raised order honest) in
-      subst (λ x. IsSomeAnd x (λ b. k ≡ book_at_start threads rms b)) made (starts.over.book order honest)
-
-  module _ (d : Content) (has : (moment handed).content ≡ Some d) (o : Origin) (begins : BeginsWith threads rms first.session.manager o) where
-    same : book_of (From o) ≡ book_at_start threads rms (with_bump d)
-    same = sym (starts.started.book o begins) ∙ book_is d has
-
-    has_content : HasContent o (with_bump d)
-    has_content = record {
-      incarnation = ap (λ (b : Book). b.incarnation) same;
-      rows = λ g. ap (λ (b : Book). b.row g) same;
-      row_number = ap (λ (b : Book). b.rows) same;
-      records = λ b. ap (λ (b' : Book). b'.recorded b) same;
-      record_number = ap (λ (b : Book). b.records) same;
-    }
-
-    pub raised_from : (c : Content) → d.decisions ≡ c.decisions → d.heuristics ≡ c.heuristics → c.incarnation ≤ d.incarnation → IsRaisedFrom c o
-    raised_from c rows records least = record {
-      found = with_bump d;
-      has = has_content;
-      rows = rows;
-      records = records;
-      raised = let more : c.incarnation < d.incarnation + 1 = omega (arith, least) in more;
-      apart = subst ApartRows (sym begins.rows) starts.started.apart;
-    }
-
--- ** the first start
-
-no_items : {X : Type 0} (xs : List X) → length xs ≡ 0 → xs ≡ []
-no_items [] e = refl
-no_items (x ∷ xs) e = absurd (omega (arith, e))
-
--- it has no rows and no records
-pub record HasNone (o : Origin) : Type 0 where
-  pub rows : o.rows ≡ []
-  pub records : o.heuristic_rows ≡ []
-
-pub none_there : (c : Content) (o : Origin) → IsEmptyLog c → IsRaisedFrom c o → HasNone o
-none_there c o none raised = record {
-  rows = no_items o.rows (raised.has.row_number ∙ (ap len raised.rows ∙ none.no_rows));
-  records = no_items o.heuristic_rows (raised.has.record_number ∙ (ap len raised.records ∙ none.no_records));
-}
-
--- so it finds an empty log
-empty_found : (c : Content) (o : Origin) → IsEmptyLog c → IsRaisedFrom c o → FindsLog (nothing_yet 0) o
-empty_found c o none raised = record {
-  later =
-      let has = raised.has.incarnation in
-      let more = raised.raised in
-      omega (arith, has, more);
-  rows = subst (λ xs. SameRowLists xs (if length xs == 0 then [] else [])) (sym has.rows) no_rows;
-  records = subst (λ xs. SameRecords xs (if length xs == 0 then [] else [])) (sym has.records) no_records;
-}
-  where
-    has : HasNone o
-    has = none_there c o none raised
-
-    no_rows : SameRowLists [] []
-    no_rows = record { number = refl; count = λ g. refl; participants = λ g b. refl }
-
-    no_records : SameRecords [] []
-    no_records = record { number = refl; branches = λ b. refl }
-
--- ** one session
+use Rattle.xa_server.proofs.LogStarts.{empty_found, raised_from}
 
 -- what is proved of sessions
 pub record Laws (L : Type 0) : Type 0 where
@@ -314,47 +232,3 @@ module _ {L : Type 0} (moment : L → Moment) where
             record { log = on.log; after = Ends_between on.log from to d how on.after was final; finds = on.finds; decided = on.decided };
         holds = b.holds;
       }
-
--- ** what the log says that is left
-
--- a start over a content
-abbrev pub start_of : Content → Origin
-start_of c = record {
-  threads = 0;
-  rms = 0;
-  incarnation = c.incarnation + 1;
-  rows = rows_from c;
-  heuristic_rows = records_from c;
-  held = λ r x. new_branch;
-  in_doubt = λ r. [];
-  scans = λ r. NotOpen;
-}
-
-module _ (have_content : StartsHaveContent) (are_apart : StartRowsAreApart) (c : Content) where
-  has_it : HasContent (start_of c) (with_bump c)
-  has_it = have_content (start_of c) (with_bump c) refl refl refl
-
-  pub raised_once : IsRaisedFrom c (start_of c)
-  raised_once = record {
-    found = with_bump c;
-    has = has_it;
-    rows = refl;
-    records = refl;
-    raised = let more : c.incarnation < c.incarnation + 1 = omega arith in more;
-    apart = are_apart c;
-  }
-
-  listed : (g : Gtrid) → lists_row (start_of c).rows g ≡ is_some (get c.decisions g)
-  listed g = lists_is (start_of c).rows g ∙ ap is_some (has_it.rows g)
-
-  pub log_decides : (f : Branch → Standing) → RowsDecide f (start_of c) → LogDecides f c
-  log_decides f rows = record {
-    committed = λ b d same committed prepared. sym (listed b.gtrid) ∙ rows.committed b d same committed prepared;
-    undone = λ b u. sym (listed b.gtrid) ∙ rows.undone b u;
-  }
-
-  pub commit_stands : (f : Branch → Standing) (b : Branch) → Commit_stands f (start_of c) b → CommitStandsInLog f c b
-  commit_stands f b stands = record {
-    commits = stands.commits;
-    row_stays = λ prepared. sym (listed b.gtrid) ∙ stands.row_stays prepared;
-  }

@@ -1,5 +1,5 @@
 -- The requests of a line, in turn.
-use Rattle.std.proofs.Common.{◌≡◌, ◌∙◌, ◌⊎◌, inl, inr, ◌≤◌, ◌<◌, ◌+◌, ℕ, zero, suc, true, false, List, [], ◌∷◌, ◌++◌, map, length, get_or, take, drop, Option, refl, sym, ap, subst, ◌||◌}
+use Rattle.std.proofs.Common.{◌≡◌, ◌∙◌, ◌⊎◌, inl, inr, ◌≤◌, ◌<◌, ◌+◌, ℕ, zero, suc, true, false, List, [], ◌∷◌, ◌++◌, map, length, get_or, take, drop, Option, refl, sym, ap, subst, arith, ◌||◌}
 use Rattle.std.proofs.Common.{add-one, drop-cons, drop_of_length-le, length-append}
 use Rattle.std.proofs.lemmas.Grind.{flat_map-append}
 use Rattle.std.proofs.lemmas.List.{append-nil, map-append}
@@ -177,3 +177,14 @@ module _ {L : Type 0} (moment : L → Moment) (name : List ℕ) where
   one_done turn old new replied =
       subst (λ rs. HaveReplies moment (lines_read name (requests_done (turn ∷ []))) rs old new) (sym (append-nil (replies_of turn)))
       (subst (λ ls. HaveReplies moment (lines_read name ls) (replies_of turn) old new) (sym (append-nil (requests_of turn))) replied)
+
+-- ** lines and their replies, in two parts
+
+pub split_replies : {L : Type 0} (moment : L → Moment) (ls ms : List (List ℕ)) (rs ss : List Response) (a c : Server L) → length ls ≡ length rs
+    → HaveReplies moment (ls ++ ms) (rs ++ ss) a c → (b : Server L) × HaveReplies moment ls rs a b × HaveReplies moment ms ss b c
+split_replies moment [] ms [] ss a c same have = (a, refl, have)
+split_replies moment [] ms (r ∷ rs) ss a c same have = absurd (cc)
+split_replies moment (l ∷ ls) ms [] ss a c same have = absurd (cc)
+split_replies moment (l ∷ ls) ms (r ∷ rs) ss a c same (next, replied, more) =
+    let rest = split_replies moment ls ms rs ss next c (let one : length ls ≡ length rs = omega (arith, same) in one) more in
+    (rest.0, (next, replied, rest.1), rest.2)

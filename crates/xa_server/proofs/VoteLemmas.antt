@@ -1,8 +1,8 @@
--- Votes that are told, and the rows of the commits behind them.
-use Rattle.std.proofs.Common.{◌≡◌, ◌∙◌, ◌⊎◌, inl, inr, ℕ, Bool, true, false, ◌&&◌, ◌||◌, List, [], ◌∷◌, ◌++◌, length, Option, Some, None, IsSome, refl, sym, ap, subst, arith}
+-- Votes that are told, and what the book recalls of them.
+use Rattle.std.proofs.Common.{◌≡◌, ◌∙◌, ◌⊎◌, inl, inr, ℕ, Bool, true, false, ◌&&◌, ◌||◌, List, [], ◌∷◌, Option, Some, None, refl, sym, ap, subst}
 use Rattle.std.specs.Option.{option_and_then, option_map}
-use Rattle.std.specs.Prelude.{if◌then◌else◌, slice_get, MatchBool, OnOk, Result, Ok, Err}
-use Rattle.std.proofs.lemmas.Bool.{true≢false}
+use Rattle.std.specs.Prelude.{if◌then◌else◌, slice_get, MatchBool, Result, Ok, Err}
+use Rattle.std.proofs.lemmas.Bool.{true≢false, and_parts, or_left, or_right}
 use Rattle.xa_base.proofs.BranchKeys.{gtrid_eq-refl, gtrid_eq-true}
 use Rattle.xa_base.proofs.XidOrder.{xid_eq-same}
 use Rattle.xa_base.specs.Answer.{answer_number, map_answer}
@@ -18,28 +18,19 @@ use Rattle.xa_base.specs.declared.call.Call.TheVariants as Calls
 use Rattle.xa_base.specs.declared.call.CallKind.{CallKind}
 use Rattle.xa_base.specs.declared.call.CallKind.TheVariants as Kinds
 use Rattle.xa_base.specs.declared.code.Code.TheVariants.{Success}
-use Rattle.xa_base.specs.declared.refusal.Refusal.{Refusal}
-use Rattle.xa_base.specs.declared.refusal.Refusal.TheVariants.{Limit}
-use Rattle.xa_base.specs.declared.step.Outcome.TheVariants as Outcomes
 use Rattle.xa_server.proofs.KnownCalls.{known_first, named_first}
-use Rattle.xa_server.proofs.LogLemmas.{replies_keep}
-use Rattle.xa_server.proofs.RowLemmas.{commits, decide_up, row_written, settled_up}
 use Rattle.xa_server.specs.Calls.{PerformsAnswer, answer_reply, are_same, is_to, waits_for_other}
-use Rattle.xa_session.specs.Steps.{Decides, HappenInTurn, Hears}
+use Rattle.xa_session.specs.Steps.{Hears}
 use Rattle.xa_server.specs.Lines.{asked_in}
-use Rattle.xa_server.specs.Performing.{Performs}
 use Rattle.xa_server.specs.Releasing.{ReleasesAll, transaction_of}
-use Rattle.xa_server.specs.Replies.{response_of}
-use Rattle.xa_server.specs.Rows.{HasRow, LogsRows, is_gtrid_among}
+use Rattle.xa_server.specs.Rows.{is_gtrid_among}
 use Rattle.xa_server.specs.Serving.{HaveReplies, RepliesBy}
 use Rattle.xa_server.specs.Standing.{LacksMemory, OnlyTells, StandsFor}
-use Rattle.xa_server.specs.Votes.{AreVotes, CommitsAreLogged, IsLogged, VotedCommitsAreLogged, VotesBy, VotesFor, is_heard}
+use Rattle.xa_server.specs.Votes.{AreVotes, VotesBy, VotesFor, is_heard}
 use Rattle.xa_server.specs.declared.server.Server.{Server}
 use Rattle.xa_line.specs.Grid.{line_at}
 use Rattle.xa_line.specs.Histories.{known}
-use Rattle.xa_log.specs.Content.{Content}
 use Rattle.xa_log.specs.Contract.{Moment}
-use Rattle.xa_model.specs.Facts.Distinct.{EachOnce}
 use Rattle.xa_model.specs.Facts.HeardAnswers.{says_yes_in}
 use Rattle.xa_model.specs.Facts.InDoubt.{name_by}
 use Rattle.xa_model.specs.Replies.History.{name_of}
@@ -51,27 +42,15 @@ use Rattle.xa_requests.specs.declared.request.Request.TheVariants as requests
 use Rattle.xa_requests.specs.declared.response.RequestFault.TheVariants as faults
 use Rattle.xa_requests.specs.declared.response.Response.{Response}
 use Rattle.xa_requests.specs.declared.response.Response.TheVariants as responses
-use Rattle.xa_session.specs.Logging.{HoldsItsBook, KeepsLog}
-use Rattle.xa_session.specs.Session.{has_room_for}
 use Rattle.xa_session.specs.declared.session.Session.{Session}
 use Rattle.xa_session.specs.declared.session.answers.Unfit.{Unfit}
 use Rattle.xa_session.specs.declared.session.answers.Unfit.TheVariants as Unfits
-use Rattle.xa_tm.proofs.Several.Decisions.{all_open}
-use Rattle.xa_tm.proofs.Log.Ties.{tied_same}
-use Rattle.xa_tm.specs.Book.{Book, Waiting, after, after_all, voted_yes}
-use Rattle.xa_tm.specs.BookAndLog.{IsTied}
+use Rattle.xa_tm.specs.Book.{Book, after}
 use Rattle.xa_tm.specs.Starting.{no_transaction_notes}
-use Rattle.xa_tm.specs.Calls.{IsOpenIn, book_in, log_in}
+use Rattle.xa_tm.specs.Calls.{book_in}
 use Rattle.xa_tm.specs.Release.{book_without}
 
-no : true ≡ false → ⊥
-no e = true≢false e
-
 -- ** a vote
-
-and_both : (a b : Bool) → (a && b) ≡ true → (a ≡ true) × (b ≡ true)
-and_both true b e = (refl, e)
-and_both false b e = absurd (cc)
 
 -- the branch that two identifiers that are the same name
 prepared : (x : Xid) (o : Option Xid) (b : Option Branch) (c : KnownCall) (g : Gtrid) → branch_of_xid x ≡ b → are_same (Some x) o ≡ true
@@ -95,29 +74,21 @@ other_kind call name kind = are_alike (kind_of call) kind && are_same (xid_in ca
 vote_says : (call : Call Xid) (name : CallName) (c : KnownCall) (g : Gtrid) → is_to call name ≡ true → known call ≡ Some c → name.kind ≡ Kinds.Prepare
     → transaction_of name ≡ Some g → says_yes_in g c (Ret Success) ≡ true
 vote_says (Calls.Prepare x) name c g to is kind of =
-    prepared x name.xid (branch_of_xid x) c g refl (and_both _ _ to).1 is of
-vote_says Calls.OpenRm name c g to is kind of = absurd (no (sym (subst (λ k. other_kind Calls.OpenRm name k ≡ true) kind to)))
-vote_says Calls.CloseRm name c g to is kind of = absurd (no (sym (subst (λ k. other_kind Calls.CloseRm name k ≡ true) kind to)))
-vote_says (Calls.Start x j) name c g to is kind of = absurd (no (sym (subst (λ k. other_kind (Calls.Start x j) name k ≡ true) kind to)))
-vote_says (Calls.End x j) name c g to is kind of = absurd (no (sym (subst (λ k. other_kind (Calls.End x j) name k ≡ true) kind to)))
-vote_says (Calls.Commit x o) name c g to is kind of = absurd (no (sym (subst (λ k. other_kind (Calls.Commit x o) name k ≡ true) kind to)))
-vote_says (Calls.Rollback x) name c g to is kind of = absurd (no (sym (subst (λ k. other_kind (Calls.Rollback x) name k ≡ true) kind to)))
-vote_says (Calls.Forget x) name c g to is kind of = absurd (no (sym (subst (λ k. other_kind (Calls.Forget x) name k ≡ true) kind to)))
-vote_says (Calls.Recover n x y) name c g to is kind of = absurd (no (sym (subst (λ k. other_kind (Calls.Recover n x y) name k ≡ true) kind to)))
+    prepared x name.xid (branch_of_xid x) c g refl (and_parts _ _ to).1 is of
+vote_says Calls.OpenRm name c g to is kind of = absurd (true≢false (sym (subst (λ k. other_kind Calls.OpenRm name k ≡ true) kind to)))
+vote_says Calls.CloseRm name c g to is kind of = absurd (true≢false (sym (subst (λ k. other_kind Calls.CloseRm name k ≡ true) kind to)))
+vote_says (Calls.Start x j) name c g to is kind of = absurd (true≢false (sym (subst (λ k. other_kind (Calls.Start x j) name k ≡ true) kind to)))
+vote_says (Calls.End x j) name c g to is kind of = absurd (true≢false (sym (subst (λ k. other_kind (Calls.End x j) name k ≡ true) kind to)))
+vote_says (Calls.Commit x o) name c g to is kind of = absurd (true≢false (sym (subst (λ k. other_kind (Calls.Commit x o) name k ≡ true) kind to)))
+vote_says (Calls.Rollback x) name c g to is kind of = absurd (true≢false (sym (subst (λ k. other_kind (Calls.Rollback x) name k ≡ true) kind to)))
+vote_says (Calls.Forget x) name c g to is kind of = absurd (true≢false (sym (subst (λ k. other_kind (Calls.Forget x) name k ≡ true) kind to)))
+vote_says (Calls.Recover n x y) name c g to is kind of = absurd (true≢false (sym (subst (λ k. other_kind (Calls.Recover n x y) name k ≡ true) kind to)))
 
 -- ** what the book recalls
 
 -- a vote for the transaction is noted, or nothing is noted of it any more
-abbrev Recalls : Book → Gtrid → Type 0
+abbrev pub Recalls : Book → Gtrid → Type 0
 Recalls k g = ((k.transaction g).has_yes ≡ true) ⊎ ((k.transaction g).begun ≡ false)
-
-or_right : (a b : Bool) → b ≡ true → (a || b) ≡ true
-or_right true b e = refl
-or_right false b e = e
-
-or_left : (a b : Bool) → a ≡ true → (a || b) ≡ true
-or_left true b e = refl
-or_left false b e = absurd (cc)
 
 released : (k : Book) (h g : Gtrid) → Recalls k g → Recalls (book_without h k) g
 released k h g recalls = by (gtrid_eq h g) refl recalls
@@ -170,18 +141,18 @@ module _ {L : Type 0} where
       result_is : (result : Result (Unit {0}) Unfit) → waits_for_other old.session.lines t r name ≡ false → Hears t r answer old.session mid.session result
           → is_heard (answer_reply told_so result) ≡ true → Recalls (book_in mid.session.manager) g
       result_is (Ok x) is does e = heard_recalls t r name answer old.session mid.session g x is does was
-      result_is (Err (Unfits.Refused n)) is does e = absurd (no (sym e))
-      result_is (Err Unfits.NothingWaits) is does e = absurd (no (sym e))
-      result_is (Err Unfits.NoSuchAnswer) is does e = absurd (no (sym e))
-      result_is (Err (Unfits.NoSuchState b)) is does e = absurd (no (sym e))
+      result_is (Err (Unfits.Refused n)) is does e = absurd (true≢false (sym e))
+      result_is (Err Unfits.NothingWaits) is does e = absurd (true≢false (sym e))
+      result_is (Err Unfits.NoSuchAnswer) is does e = absurd (true≢false (sym e))
+      result_is (Err (Unfits.NoSuchState b)) is does e = absurd (true≢false (sym e))
 
       by : (other : Bool) → waits_for_other old.session.lines t r name ≡ other
           → MatchBool other (OnlyTells (responses.Fault faults.OtherCall) old reply mid)
           (StandsFor (Hears t r answer) (answer_reply told_so) old reply mid ⊎ LacksMemory old reply mid)
           → Recalls (book_in mid.session.manager) g
-      by true is fault = absurd (no (sym (subst (λ q. is_heard q ≡ true) fault.0 heard)))
+      by true is fault = absurd (true≢false (sym (subst (λ q. is_heard q ≡ true) fault.0 heard)))
       by false is (inl stands) = result_is stands.result is stands.does (subst (λ q. is_heard q ≡ true) stands.told heard)
-      by false is (inr lacks) = absurd (no (sym (subst (λ q. is_heard q ≡ true) lacks.0 heard)))
+      by false is (inr lacks) = absurd (true≢false (sym (subst (λ q. is_heard q ≡ true) lacks.0 heard)))
 
   -- a line that tells a vote, and is heard
   line_recalls : (moment : L → Moment) (request : Option Request) (h g : Gtrid) (old new : Server L) (reply : Response) → VotesBy request h
@@ -213,10 +184,10 @@ module _ {L : Type 0} where
   line_recalls moment (Some requests.Quit) h g old new reply votes heard replied was = absurd votes
 
   -- votes that are told one behind another
-  votes_recall : (moment : L → Moment) (votes : List (List ℕ)) (heard : List Response) (gs : List Gtrid) (g : Gtrid) (old new : Server L)
+  pub votes_recall : (moment : L → Moment) (votes : List (List ℕ)) (heard : List Response) (gs : List Gtrid) (g : Gtrid) (old new : Server L)
       → AreVotes votes heard gs → HaveReplies moment votes heard old new → (is_gtrid_among gs g ≡ true) ⊎ Recalls (book_in old.session.manager) g
       → Recalls (book_in new.session.manager) g
-  votes_recall moment [] [] [] g old new are have (inl among) = absurd (no (sym among))
+  votes_recall moment [] [] [] g old new are have (inl among) = absurd (true≢false (sym among))
   votes_recall moment [] [] [] g old new are have (inr was) = subst (λ (c : Server L). Recalls (book_in c.session.manager) g) (sym have) was
   votes_recall moment [] [] (h ∷ hs) g old new are have was = absurd are
   votes_recall moment [] (r ∷ rs) gs g old new are have was = absurd are
@@ -233,133 +204,3 @@ module _ {L : Type 0} where
       by t is (inr before) = inr (recalled (inr before))
       by true is (inl among) = inr (recalled (inl (gtrid_eq-true h g is)))
       by false is (inl among) = inl (subst (λ (b : Bool). (b || is_gtrid_among hs g) ≡ true) is among)
-
--- ** the commit
-
--- each that is decided was open
-open_among : (k : Book) (gs : List Gtrid) (g : Gtrid) → EachOnce (IsOpenIn k) gs → is_gtrid_among gs g ≡ true → IsOpenIn k g
-open_among k [] g all among = absurd (no (sym among))
-open_among k (h ∷ hs) g all among = by (gtrid_eq h g) refl among (λ e. open_among k hs g all.2 e)
-  where
-    by : (t : Bool) → gtrid_eq h g ≡ t → (t || is_gtrid_among hs g) ≡ true → (is_gtrid_among hs g ≡ true → IsOpenIn k g) → IsOpenIn k g
-    by true is e later = subst (IsOpenIn k) (gtrid_eq-true h g is) all.0
-    by false is e later = later e
-
-if_room : (t : Bool) (o : Option Refusal) → (if t then o else Some Limit) ≡ None → o ≡ None
-if_room true o e = e
-if_room false o e = absurd (cc)
-
-is_logged : (log : Option Content) (g : Gtrid) (w : Waiting) → HasRow log g w → IsLogged log g
-is_logged None g w has = absurd has
-is_logged (Some c) g w has = subst IsSome (sym has) refl
-
--- a log that holds what a book says behind releases holds what it said before
-tied_back : (near : Bool) (k : Book) (g : Gtrid) (log : Option Content) → IsTied near (book_without g k) log → IsTied near k log
-tied_back near k g log tied = tied_same near (book_without g k) k log
-    (record { up = refl; incarnation = refl; failed_restarts = refl; row = λ q. refl; rows = refl; recorded = λ b. refl; records = refl; doubt = refl }) tied
-
-all_tied_back : {L : Type 0} (near : Bool) (hs : List Gtrid) (mid new : Server L) (log : Option Content) → ReleasesAll hs mid new
-    → IsTied near (book_in new.session.manager) log → IsTied near (book_in mid.session.manager) log
-all_tied_back near [] mid new log same tied = subst (λ c. IsTied near (book_in c.session.manager) log) same tied
-all_tied_back near (h ∷ hs) mid new log (next, inl (forgets, rest), more) tied =
-    tied_back near (book_in mid.session.manager) h log
-    (subst (λ k. IsTied near k log) forgets.book (all_tied_back near hs next new log more tied))
-all_tied_back near (h ∷ hs) mid new log (next, inr (open_still, same), more) tied =
-    subst (λ c. IsTied near (book_in c.session.manager) log) same (all_tied_back near hs next new log more tied)
-
-module _ {L : Type 0} (moment : L → Moment) (near : Bool) (gs : List Gtrid) (mid new : Server L) (g : Gtrid) where
-  decided_logged : Performs moment (requests.Decide gs Outcomes.Commit) mid responses.Decided new → is_gtrid_among gs g ≡ true
-      → Recalls (book_in mid.session.manager) g → (moment (log_in mid.session.manager)).is_in_order → (moment (log_in new.session.manager)).is_honest
-      → HoldsItsBook moment near mid.session.manager → IsLogged (moment (log_in new.session.manager)).content g
-  decided_logged did among recalls order honest holds = by did.does.result did.does.told did.does.does recalls
-    where
-      k : Book
-      k = book_in mid.session.manager
-
-      by : (result : Result (Unit {0}) Refusal) → responses.Decided ≡ response_of (λ _. responses.Decided) result
-          → Decides gs Outcomes.Commit mid.session did.mid.session result → Recalls (book_in mid.session.manager) g
-          → IsLogged (moment (log_in new.session.manager)).content g
-      by (Err n) told does was = absurd (let never : (let r : Response = responses.Decided in r) ≡ responses.Refused n = told in cc)
-      by (Ok x) told does was = recalled was
-        where
-          opened : IsOpenIn (book_in mid.session.manager) g
-          opened = open_among (book_in mid.session.manager) gs g
-              (all_open Outcomes.Commit (book_in mid.session.manager) gs (if_room (has_room_for mid.session (length gs)) _ does.rules.allowed)) among
-
-          recalled : Recalls (book_in mid.session.manager) g → IsLogged (moment (log_in new.session.manager)).content g
-          recalled (inr gone) = absurd (no (sym opened.begun ∙ gone))
-          recalled (inl said) =
-              is_logged (moment (log_in new.session.manager)).content g (voted_yes (book_in mid.session.manager) g)
-              (row_written (book_in mid.session.manager) (book_in did.mid.session.manager) near (moment (log_in new.session.manager)).content gs g
-              opened.up among said does.decided.book
-              (all_tied_back near _ did.mid new (moment (log_in new.session.manager)).content did.releases (did.keeps.holds near order honest holds).tied))
-
-pub voted_commits_are_logged : {L : Type 0} (moment : L → Moment) → VotedCommitsAreLogged moment
-voted_commits_are_logged moment near votes heard line gs old mid new g are have asked replied among order honest holds =
-    let first = replies_keep moment votes heard old mid have in
-    let did = subst (λ q. RepliesBy moment q mid responses.Decided new) asked replied in
-    decided_logged moment near gs mid new g did among (votes_recall moment votes heard gs g old mid are have (inl among)) (first.order order) honest
-    (first.holds near order (did.keeps.honest honest) holds)
-
--- ** lines and their replies, in two parts
-
-pub split_replies : {L : Type 0} (moment : L → Moment) (ls ms : List (List ℕ)) (rs ss : List Response) (a c : Server L) → length ls ≡ length rs
-    → HaveReplies moment (ls ++ ms) (rs ++ ss) a c → (b : Server L) × HaveReplies moment ls rs a b × HaveReplies moment ms ss b c
-split_replies moment [] ms [] ss a c same have = (a, refl, have)
-split_replies moment [] ms (r ∷ rs) ss a c same have = absurd (cc)
-split_replies moment (l ∷ ls) ms [] ss a c same have = absurd (cc)
-split_replies moment (l ∷ ls) ms (r ∷ rs) ss a c same (next, replied, more) =
-    let rest = split_replies moment ls ms rs ss next c (let one : length ls ≡ length rs = omega (arith, same) in one) more in
-    (rest.0, (next, replied, rest.1), rest.2)
-
--- ** the rows of each that is told as decided
-
-none_among : (g : Gtrid) → is_gtrid_among [] g ≡ true → ⊥
-none_among g e = no (sym e)
-
-decided_is : (n : Refusal) → (let r : Response = responses.Decided in r) ≡ responses.Refused n → ⊥
-decided_is n e = cc
-
-module _ {L : Type 0} (moment : L → Moment) where
-  -- the session did this by one call, and what is over was then forgotten
-  rows_of : (gs : List Gtrid) (old mid new : Server L) (hs : List Gtrid) (reply : Response) (r : Result (Unit {0}) Refusal)
-      → reply ≡ response_of (λ _. responses.Decided) r → OnOk r ((gs ≡ []) ⊎ ((book_in old.session.manager).up ≡ true))
-      → OnOk r (book_in mid.session.manager ≡ after_all (book_in old.session.manager) (commits gs)) → ReleasesAll hs mid new
-      → KeepsLog moment old.session.manager new.session.manager → LogsRows moment gs old.session reply new.session
-  rows_of gs old mid new hs reply (Err n) told up book releases keeps near g among is order honest holds said = absurd (decided_is n (sym is ∙ told))
-  rows_of gs old mid new hs reply (Ok x) told up book releases keeps near g among is order honest holds said = by up
-    where
-      by : (gs ≡ []) ⊎ ((book_in old.session.manager).up ≡ true)
-          → HasRow (moment (log_in new.session.manager)).content g (voted_yes (book_in old.session.manager) g)
-      by (inl none) = absurd (none_among g (subst (λ xs. is_gtrid_among xs g ≡ true) none among))
-      by (inr is_up) =
-          row_written (book_in old.session.manager) (book_in mid.session.manager) near (moment (log_in new.session.manager)).content gs g is_up among said book
-          (all_tied_back near hs mid new (moment (log_in new.session.manager)).content releases (keeps.holds near order honest holds).tied)
-
-  decided_in_turn : (gs : List Gtrid) (old new : Session L) (r : Result (Unit {0}) Refusal) → OnOk r (HappenInTurn (commits gs) old new)
-      → OnOk r (book_in new.manager ≡ after_all (book_in old.manager) (commits gs))
-  decided_in_turn gs old new (Ok x) does = does.book
-  decided_in_turn gs old new (Err n) does = tt
-
-  pub commits_are_logged : CommitsAreLogged moment
-  commits_are_logged (requests.Decide gs Outcomes.Commit) old new reply did =
-      rows_of gs old did.mid new _ reply did.does.result did.does.told (decide_up old.session gs Outcomes.Commit did.does.result did.does.does.rules.allowed)
-      (decided_in_turn gs old.session did.mid.session did.does.result did.does.does.decided) did.releases did.keeps
-  commits_are_logged (requests.Decide gs Outcomes.Rollback) old new reply did = λ near g among. absurd (none_among g among)
-  commits_are_logged (requests.Settle h) old new reply did =
-      rows_of (h ∷ []) old did.mid new _ reply did.does.result did.does.told (settled_up old.session h did.does.result did.does.does.rules.allowed)
-      (decided_in_turn (h ∷ []) old.session did.mid.session did.does.result did.does.does.decided) did.releases did.keeps
-  commits_are_logged (requests.Begin t) old new reply did = λ near g among. absurd (none_among g among)
-  commits_are_logged (requests.Issue t r call) old new reply did = λ near g among. absurd (none_among g among)
-  commits_are_logged (requests.Answer t r name answer) old new reply did = λ near g among. absurd (none_among g among)
-  commits_are_logged (requests.Claim h) old new reply did = λ near g among. absurd (none_among g among)
-  commits_are_logged (requests.Abandon h) old new reply did = λ near g among. absurd (none_among g among)
-  commits_are_logged (requests.Done gs) old new reply did = λ near g among. absurd (none_among g among)
-  commits_are_logged (requests.Resolve r) old new reply did = λ near g among. absurd (none_among g among)
-  commits_are_logged (requests.ResolveOpen r) old new reply did = λ near g among. absurd (none_among g among)
-  commits_are_logged (requests.Waiting t r) old new reply did = λ near g among. absurd (none_among g among)
-  commits_are_logged (requests.Owed r) old new reply did = λ near g among. absurd (none_among g among)
-  commits_are_logged (requests.CrashLine t r) old new reply did = λ near g among. absurd (none_among g among)
-  commits_are_logged (requests.CrashRm r) old new reply did = λ near g among. absurd (none_among g among)
-  commits_are_logged requests.Status old new reply did = λ near g among. absurd (none_among g among)
-  commits_are_logged requests.Quit old new reply did = λ near g among. absurd (none_among g among)

@@ -1,10 +1,8 @@
 -- Requests that begin and end transactions.
-use Rattle.std.specs.Prelude.{◌≡◌, ℕ, List, Result, OnErr, OnOk}
+use Rattle.std.specs.Prelude.{ℕ, List}
 use Rattle.xa_base.specs.declared.branch.Gtrid.{Gtrid}
-use Rattle.xa_base.specs.declared.refusal.Refusal.{Refusal}
 use Rattle.xa_base.specs.declared.step.Outcome.{Outcome}
 use Rattle.xa_server.specs.Replies.{response_of}
-use Rattle.xa_server.specs.Rows.{owed_without}
 use Rattle.xa_server.specs.Standing.{StandsFor}
 use Rattle.xa_server.specs.declared.server.Server.{Server}
 use Rattle.xa_requests.specs.declared.response.Response.{Response}
@@ -29,11 +27,6 @@ module _ {L : Type 0} where
   abbrev pub PerformsSettle : Gtrid → (old : Server L) → Response → (new : Server L) → Type 0
   PerformsSettle g = StandsFor (Settles g) (response_of (λ _. responses.Decided))
 
-  -- the rows of these leave the log, and their branches are owed no more; or nothing is done
-  pub record PerformsDone (gs : List Gtrid) (old : Server L) (reply : Response) (new : Server L) : Type 0 where
-    pub result : Result (Unit {0}) Refusal
-    pub does : Finishes gs old.session new.session result
-    pub told : reply ≡ response_of (λ _. responses.Noted) result
-    pub owed : OnOk result (new.owed.items ≡ owed_without gs old.owed.items)
-    pub owed_stay : OnErr result (new.owed ≡ old.owed)
-    pub rest : new ≡ record old { session = new.session; owed = new.owed }
+  -- the rows of these leave the log
+  abbrev pub PerformsDone : List Gtrid → (old : Server L) → Response → (new : Server L) → Type 0
+  PerformsDone gs = StandsFor (Finishes gs) (response_of (λ _. responses.Noted))

@@ -59,6 +59,5 @@ is_not_done (responses.Fault fault) = true
 is_not_done reply = false
 
 -- nothing that the server says changed
-pub record ChangesNothing {L : Type 0} (old new : Server L) : Type 0 where
-  pub session : StaysAs old.session new.session
-  pub owed : new.owed ≡ old.owed
+abbrev pub ChangesNothing : {L : Type 0} → (old new : Server L) → Type 0
+ChangesNothing old new = StaysAs old.session new.session

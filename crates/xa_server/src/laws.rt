@@ -10,14 +10,14 @@ ghost use Rattle.xa_server.specs.Tracking.{ServedSessionsAreExplained, SessionsA
 ghost use Rattle.xa_server.specs.Votes.{CommitsAreLogged, VotedCommitsAreLogged};
 
 use xa_log::DecisionLog;
-use xa_monitor::{answers_are_explained, sessions_agree};
-use xa_names::names_part_identifiers;
-use xa_session::{
+use xa_monitor::laws::{answers_are_explained, sessions_agree};
+use xa_names::laws::names_part_identifiers;
+use xa_session::laws::{
     answers_are_tracked, losses_are_tracked, refusals_are_tracked, releases_are_tracked,
     sessions_are_explained, starts_are_tracked, starts_find_the_log, steps_are_tracked,
     waiting_calls_are_tracked,
 };
-use xa_tm::starts_are_histories;
+use xa_tm::laws::starts_are_histories;
 
 /// A session that tracks what was seen does so with each request and its reply (`performs` of
 /// [`Server::perform`](crate::Server::perform)), as long as the log doesn't fail: just what both tell is seen

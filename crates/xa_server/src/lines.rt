@@ -14,7 +14,8 @@ use std::io::{ErrorKind, Read, Write};
 use std::str::from_utf8;
 use xa_base::Memory;
 use xa_files::write_unflushed;
-use xa_names::{ManagerName, line_renamed, without_a_name_nothing_changes};
+use xa_names::laws::without_a_name_nothing_changes;
+use xa_names::{ManagerName, line_renamed};
 use xa_requests::{Request, Response, read_request, response_text};
 
 /// The most bytes that a line has, without its line feed. A longer one is no request.

@@ -1,13 +1,11 @@
-//! The server: a session, and what it owes since before. A file for each family of requests.
+//! The server: a session, and what each request asks of it. A file for each family of requests.
 
-ghost use Rattle.std.specs.Prelude.{◌≡◌, ◌∷◌, [], Bool, true, Err, IfOk, IsSomeAnd, length};
-ghost use Rattle.std.specs.FinMap.{entries, keys};
+ghost use Rattle.std.specs.Prelude.{◌≡◌, ◌∷◌, [], Bool, true, Err, IfOk, IsSomeAnd};
 ghost use Rattle.xa_server.specs.Performing.{ChangesNothing, Does, Performs, is_not_done, is_one_step};
 ghost use Rattle.xa_server.specs.Releasing.{ended_by};
-ghost use Rattle.xa_server.specs.Replies.{greeting_of};
-ghost use Rattle.xa_server.specs.Rows.{LogsRows, committed_by};
+ghost use Rattle.xa_server.specs.Replies.{greeting_of, greeting_over};
+ghost use Rattle.xa_server.specs.Rows.{LogsRows, OwesAllBut, OwesRowsOf, committed_by, finished_by};
 ghost use Rattle.xa_base.specs.declared.branch.Gtrid.{Gtrid};
-ghost use Rattle.xa_log.specs.Content.{all_listed};
 ghost use Rattle.xa_log.specs.Contract.{Honestly};
 ghost use Rattle.xa_model.specs.Trace.{Origin};
 ghost use Rattle.xa_session.specs.Following.{StandsAtStart};
@@ -29,7 +27,6 @@ mod releases;
 mod replies;
 
 use std::alloc::Global;
-use xa_base::Branch;
 use xa_log::DecisionLog;
 use xa_requests::{Request, Response};
 use xa_session::Session;
@@ -43,11 +40,6 @@ use xa_tm::StartFault;
 pub struct Server<L: DecisionLog + Drop> {
     pub(crate) alloc: Global,
     pub(crate) session: Session<L>,
-    /// The branches that rows of earlier incarnations still wait for.
-    pub(crate) owed: Vec<Branch>,
-    /// How many transactions and branches the log had rows and records of at the start.
-    pub(crate) decisions: usize,
-    pub(crate) heuristics: usize,
 }
 
 impl<L: DecisionLog + Drop> Server<L> {
@@ -58,19 +50,13 @@ impl<L: DecisionLog + Drop> Server<L> {
         ensures old { IfOk result (λ c. (o : Origin) →
             BeginsWith threads rms c.session.manager o → HasOnlyOlderRows o) }
         ensures count { IfOk result (λ c. c.session.happenings ≡ 0) }
-        // What the log had.
+        // What the log had: all that its rows wait for is owed, and the first line has the numbers of its rows and records.
         ensures owed { IfOk result (λ c.
             Honestly (L.moment log) (L.moment (log_in c.session.manager))
-            (IsSomeAnd (L.moment log).content (λ content.
-            c.owed.items ≡ all_listed (entries content.decisions)))) }
-        ensures decisions { IfOk result (λ c.
+            (IsSomeAnd (L.moment log).content (OwesRowsOf (book_in c.session.manager)))) }
+        ensures greets { IfOk result (λ c.
             Honestly (L.moment log) (L.moment (log_in c.session.manager))
-            (IsSomeAnd (L.moment log).content (λ content.
-            c.decisions ≡ length (keys content.decisions)))) }
-        ensures heuristics { IfOk result (λ c.
-            Honestly (L.moment log) (L.moment (log_in c.session.manager))
-            (IsSomeAnd (L.moment log).content (λ content.
-            c.heuristics ≡ length (entries content.heuristics)))) }
+            (IsSomeAnd (L.moment log).content (λ content. greeting_of c ≡ greeting_over content))) }
         // The log that was handed in: its rows and its records, and its incarnation, which is raised.
         ensures started { IfOk result (λ c. IsStarted threads rms c.session.manager) }
         ensures over { IfOk result (λ c.
@@ -84,16 +70,7 @@ impl<L: DecisionLog + Drop> Server<L> {
             ((left : L) × IsOnlyRead L.DecisionLog log left) }
     {
         match Session::new(alloc, threads, rms, log) {
-            Ok(made) => {
-                let rows = made.1;
-                Ok(Server {
-                    alloc,
-                    session: made.0,
-                    decisions: rows.decisions.len(),
-                    heuristics: rows.heuristics.len(),
-                    owed: rows.participants,
-                })
-            }
+            Ok(session) => Ok(Server { alloc, session }),
             Err(fault) => Err(fault),
         }
     }
@@ -111,8 +88,8 @@ impl<L: DecisionLog + Drop> Server<L> {
     {
         Response::Restarted {
             incarnation: self.session.incarnation(),
-            decisions: self.decisions,
-            heuristics: self.heuristics,
+            decisions: self.session.row_count() as usize,
+            heuristics: self.session.record_count() as usize,
         }
     }
 
@@ -165,6 +142,9 @@ impl<L: DecisionLog + Drop> Server<L> {
         ensures performs { Performs L.moment request.now self.old result self.new }
         ensures unchanged { is_one_step request.now ≡ true → is_not_done result ≡ true →
             ChangesNothing self.old self.new }
+        // What was owed still is, except for the transactions that are done by this, and nothing more is.
+        ensures owed { OwesAllBut (finished_by request.now result)
+            (book_in self.old.session.manager) (book_in self.new.session.manager) }
         // Nothing is held of the transaction of an answered call, or of one that alone is decided or done, if it is over.
         ensures forgotten { (g : Gtrid) → ended_by request.now result ≡ g ∷ [] →
             IsOver (book_in self.new.session.manager) g →

@@ -16,7 +16,8 @@ use std::alloc::AllocError;
 use std::io::{BufReader, Read, Write};
 use thiserror::Error;
 use xa_log::DecisionLog;
-use xa_names::{ManagerName, without_a_name_nothing_changes};
+use xa_names::ManagerName;
+use xa_names::laws::without_a_name_nothing_changes;
 use xa_requests::{Request, RequestFault, Response};
 
 /// Why a session ends early.

@@ -1,6 +1,5 @@
 -- What resource managers do by themselves is nothing to a session.
 use Rattle.std.proofs.Common.{◌≡◌, ℕ, refl}
-use Rattle.xa_model.specs.Protocol.{IsRun}
 use Rattle.xa_model.specs.Trace.{Branch, Happening.CompletedAlone, Happening.PutOff, Happening.Voted, How, Trace, Vote}
 use Rattle.xa_monitor.specs.Seen.{Alone, Alone.Ends, Alone.NoMore, Alone.PutsOff, Alone.Votes}
 use Rattle.xa_tm.specs.Book.{Book, after}
@@ -8,13 +7,6 @@ use Rattle.xa_tm.specs.Calls.{book_in}
 use Rattle.xa_session.specs.Following.{StandsIn}
 use Rattle.xa_session.specs.declared.session.Session.{Session}
 use Rattle.xa_session.proofs.Following.{IsOwn, own_goes_in}
-
--- what was right with it was right before it
-pub alone_back : (tr now : Trace) → Alone tr now → IsRun now → IsRun tr
-alone_back tr _ NoMore run = run
-alone_back tr _ (Votes now b v a) run = alone_back tr now a run.0
-alone_back tr _ (PutsOff now b n a) run = alone_back tr now a run.0
-alone_back tr _ (Ends now b how a p) run = alone_back tr now a run.0
 
 own_vote : (tr : Trace) (b : Branch) (v : Vote) → IsOwn tr (Voted b v)
 own_vote tr b v =

@@ -18,6 +18,7 @@ use Rattle.xa_model.specs.Protocol.{IsRun}
 use Rattle.xa_model.specs.Replies.History.{name_of}
 use Rattle.xa_model.specs.Trace.{Answer, Call, Recorded, Fault.InHear, Happening.Failed, Happening.Heard, Happening.Took, Line, Origin, Trace, Trace.Then, line}
 use Rattle.xa_monitor.proofs.Agreeing.{history_heard, history_up}
+use Rattle.xa_monitor.proofs.Names.{alone_ran}
 use Rattle.xa_monitor.specs.Seen.{HasAnswer, IsHistory, IsHistory.Hears, KeepsRules, Seen, Seen.Answered, Waits}
 use Rattle.xa_monitor.specs.Sessions.{Finds, Log.LeftBy}
 use Rattle.xa_tm.proofs.Log.Ties.{holds_record}
@@ -32,12 +33,12 @@ use Rattle.xa_session.specs.Tracking.{IsFailedAnswer, IsRaisedFrom, KeepsTrack}
 use Rattle.xa_session.specs.declared.session.Session.{Session}
 use Rattle.xa_session.specs.declared.session.answers.Unfit.{Unfit}
 use Rattle.xa_session.specs.declared.session.answers.Unfit.TheVariants as Unfits
-use Rattle.xa_session.proofs.Alone.{alone_back, alone_stands}
+use Rattle.xa_session.proofs.Alone.{alone_stands}
 use Rattle.xa_session.proofs.Books.{book_goes}
 use Rattle.xa_session.proofs.Hearings.{has_answer}
 use Rattle.xa_session.proofs.Lines.{MayTell, may_tell, none_first, none_second, waiting_known}
 use Rattle.xa_session.proofs.NextStarts.{Has, found, tied_has}
-use Rattle.xa_session.proofs.Telling.{first_waits}
+use Rattle.xa_session.proofs.WaitingCalls.{first_waits}
 
 -- ** an answer that is fit
 
@@ -140,7 +141,7 @@ module _ {L : Type 0} (o : Origin) (seen : Seen) (s : Session L) (l : Line) (c :
   -- the book behind the answer is that of each right history of it
   heard_book : (tr : Trace) → IsHistory o (Answered seen l c a) tr → IsRun tr → BookStands tr (after (book_in s.manager) (Heard l c a))
   heard_book _ (Hears _ tr now _ _ _ history alone) run =
-      let stands = alone_stands s tr now alone (keeps.1 tr history (alone_back tr now alone run.0.0)) in
+      let stands = alone_stands s tr now alone (keeps.1 tr history (alone_ran tr now alone run.0.0)) in
       book_goes (Then now (Took l c a)) (book_in s.manager) stands.book (Heard l c a) (after (book_in s.manager) (Heard l c a)) run.0 run.1 stands.apart
       tt refl
 

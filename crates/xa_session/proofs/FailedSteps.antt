@@ -15,6 +15,7 @@ use Rattle.xa_monitor.specs.Seen.{Seen}
 use Rattle.xa_monitor.specs.Sessions.{MayFail}
 use Rattle.xa_tm.proofs.History.Recovery.{decision_asks}
 use Rattle.xa_tm.proofs.Release.{wholes_follow}
+use Rattle.xa_tm.proofs.Several.Lists.{gtrid_away, named_filter}
 use Rattle.xa_tm.specs.Book.{Book, Doubt.Adds, Doubt.Drops, Doubt.NoDoubt, Waiting, after, book_of, doubt_of_happening, rows_for, voted_yes}
 use Rattle.xa_tm.specs.Calls.{book_in, written_by}
 use Rattle.xa_tm.specs.InTurn as turns
@@ -30,6 +31,7 @@ use Rattle.std.proofs.lemmas.Bool.{true≢false}
 use Rattle.xa_base.specs.declared.reply.Reply.TheVariants as Replies
 use Rattle.xa_base.specs.declared.step.Outcome.{Outcome}
 use Rattle.xa_model.proofs.Invariant.RowLists.{without_keeps}
+use Rattle.xa_model.proofs.ProcessLemmas.Joining.{each_once}
 use Rattle.xa_model.specs.Facts.{each_of_some, has_row, is_older, is_settled_lately, lists_row, log, participants_in, without}
 use Rattle.xa_model.specs.Protocol.{IsRowSettled, RightDone}
 use Rattle.xa_model.specs.Trace.{Happening.Done, Row}
@@ -46,30 +48,10 @@ picked true true false v w r q a b d e = absurd (cc)
 picked true false t v w r q a b d e = absurd (cc)
 picked false z t v w r q a b d e = absurd (cc)
 
--- each of these transactions is so, and none comes twice: what follows of each
-each_so : (P Q : Gtrid → Type 0) → ((g : Gtrid) → P g → Q g) → (gs : List Gtrid) → EachOnce P gs → EachOnce Q gs
-each_so P Q f [] h = tt
-each_so P Q f (g ∷ gs) h = (f g h.0, h.1, each_so P Q f gs h.2)
-
+-- none of these is that transaction
 none_same : (g : Gtrid) (gs : List Gtrid) → EachOnce (λ h. gtrid_eq h g ≡ false) gs → has_gtrid gs g ≡ false
 none_same g [] h = refl
 none_same g (x ∷ xs) h = λ i. h.0 i || none_same g xs h.2 i
-
-none_chosen : (p : Gtrid → Bool) (gs : List Gtrid) (g : Gtrid) → has_gtrid gs g ≡ false → has_gtrid (filter p gs) g ≡ false
-none_chosen p [] g e = refl
-none_chosen p (x ∷ xs) g e = by (p x) (none_first_of (gtrid_eq x g) (has_gtrid xs g) e) (none_chosen p xs g (none_other_of (gtrid_eq x g) (has_gtrid xs g) e))
-  where
-    none_first_of : (a b : Bool) → (a || b) ≡ false → a ≡ false
-    none_first_of false b e = refl
-    none_first_of true b e = absurd (cc)
-
-    none_other_of : (a b : Bool) → (a || b) ≡ false → b ≡ false
-    none_other_of false b e = e
-    none_other_of true b e = absurd (cc)
-
-    by : (t : Bool) → gtrid_eq x g ≡ false → has_gtrid (filter p xs) g ≡ false → has_gtrid (cond t (x ∷ filter p xs) (filter p xs)) g ≡ false
-    by true a r = λ i. a i || r i
-    by false a r = r
 
 -- those that pass a test
 each_chosen : (P : Gtrid → Type 0) (p : Gtrid → Bool) (gs : List Gtrid) → EachOnce P gs → EachOnce (λ g. P g × (p g ≡ true)) (filter p gs)
@@ -78,7 +60,7 @@ each_chosen P p (g ∷ gs) h = by (p g) refl (each_chosen P p gs h.2)
   where
     by : (t : Bool) → p g ≡ t → EachOnce (λ x. P x × (p x ≡ true)) (filter p gs)
         → EachOnce (λ x. P x × (p x ≡ true)) (cond t (g ∷ filter p gs) (filter p gs))
-    by true e rest = ((h.0, e), none_chosen p gs g h.1, rest)
+    by true e rest = ((h.0, e), named_filter p gs g h.1, rest)
     by false e rest = rest
 
 -- a decision that is right behind another was right before it, and is of another transaction
@@ -91,21 +73,11 @@ claim_back : (x c : Bool) → (not x && c) ≡ true → c ≡ true
 claim_back false c e = e
 claim_back true c e = absurd (cc)
 
-swapped : (h g : Gtrid) → gtrid_eq h g ≡ false → gtrid_eq g h ≡ false
-swapped h g e = by (gtrid_eq g h) refl
-  where
-    clash : {t : Bool} → t ≡ true → t ≡ false → ⊥
-    clash p q = cc
-
-    by : (t : Bool) → gtrid_eq g h ≡ t → t ≡ false
-    by true same = absurd (clash (subst (λ x. gtrid_eq h x ≡ true) (sym (gtrid_eq-true g h same)) (gtrid_eq-refl h)) e)
-    by false same = refl
-
 decided_back : (tr : Trace) (h g : Gtrid) → RightDecision (Then tr (Decided h Outcomes.Commit)) g Outcomes.Commit
     → RightDecision tr g Outcomes.Commit × (gtrid_eq g h ≡ false)
 decided_back tr h g r =
     let live_so = live_back (begun tr g) (gtrid_eq h g) (decided_so Outcomes.Commit tr g) (decided_so Outcomes.Rollback tr g) (handed_over tr g) r.is_live in
-    (record { is_up = r.is_up; is_live = live_so.1; votes = λ q. by (r.votes q) }, swapped h g live_so.0)
+    (record { is_up = r.is_up; is_live = live_so.1; votes = λ q. by (r.votes q) }, gtrid_away h g live_so.0)
   where
     by : AllHaveVoted (Then tr (Decided h Outcomes.Commit)) g ⊎ (claimed (Then tr (Decided h Outcomes.Commit)) g ≡ true)
         → AllHaveVoted tr g ⊎ (claimed tr g ≡ true)
@@ -125,8 +97,8 @@ each_may (g ∷ gs) tr k grid stands none =
     let rest = each_may gs (Then tr (Decided g Outcomes.Commit)) (after k (Decided g Outcomes.Commit)) grid now.1 (none_second _ _ none) in
     let back = λ (h : Gtrid) (x : MayCommit (Then tr (Decided g Outcomes.Commit)) (after k (Decided g Outcomes.Commit)) h). decided_back tr g h x.0 in (
       (now.0, begun_if_decided k g Outcomes.Commit first),
-      none_same g gs (each_so _ (λ h. gtrid_eq h g ≡ false) (λ h x. (back h x).1) gs rest),
-      each_so _ (MayCommit tr k) (λ h x. ((back h x).0, x.1)) gs rest,
+      none_same g gs (each_once _ (λ h. gtrid_eq h g ≡ false) (λ h x. (back h x).1) gs rest),
+      each_once _ (MayCommit tr k) (λ h x. ((back h x).0, x.1)) gs rest,
     )
 
 module _ {L : Type 0} (s : Session L) where
@@ -166,7 +138,7 @@ module _ {L : Type 0} (s : Session L) where
     asks_so ws each = ap (λ x. Adds x) (same_rows_for ws each) ∙ decision_asks tr ws
 
     right_so : (ws : List Gtrid) → EachOnce IsWritten ws → RightFault tr (InDecide ws)
-    right_so ws each = each_so IsWritten (RightRow tr) (λ g w. (w.0.0, told g w)) ws each
+    right_so ws each = each_once IsWritten (RightRow tr) (λ g w. (w.0.0, told g w)) ws each
 
   -- the log fails as these rows are to be written
   rows_found : (ws : List Gtrid) (o : Origin) (seen : Seen) → KeepsTrack o seen s
@@ -243,7 +215,7 @@ participants_stay h g (x ∷ rows) apart = by (gtrid_eq x.gtrid h) refl (partici
 
 -- what is right behind another is right before it, and is of another transaction
 done_back : (tr : Trace) (h g : Gtrid) → RightDone (Then tr (Done h)) g → RightDone tr g × (gtrid_eq g h ≡ false)
-done_back tr h g r = (record { is_up = r.is_up; has = has; is_settled = by r.is_settled }, swapped h g apart)
+done_back tr h g r = (record { is_up = r.is_up; has = has; is_settled = by r.is_settled }, gtrid_away h g apart)
   where
     apart : gtrid_eq h g ≡ false
     apart = gone_from h g (log tr) r.has
@@ -264,8 +236,8 @@ each_done (g ∷ gs) tr k grid stands none =
     let now = done_goes_on tr k grid g stands (none_first _ _ none) in
     let rest = each_done gs (Then tr (Done g)) (after k (Done g)) grid now.1 (none_second _ _ none) in (
       now.0,
-      none_same g gs (each_so _ (λ h. gtrid_eq h g ≡ false) (λ h x. (done_back tr g h x).1) gs rest),
-      each_so _ (RightDone tr) (λ h x. (done_back tr g h x).0) gs rest,
+      none_same g gs (each_once _ (λ h. gtrid_eq h g ≡ false) (λ h x. (done_back tr g h x).1) gs rest),
+      each_once _ (RightDone tr) (λ h x. (done_back tr g h x).0) gs rest,
     )
 
 pub done_found : {L : Type 0} (s : Session L) (gs : List Gtrid) → turns.done_refusal (book_in s.manager) gs ≡ None → (o : Origin) (seen : Seen)

@@ -1,7 +1,6 @@
 -- Steps of a session in histories.
 use Rattle.std.proofs.Common.{◌≡◌, ◌+◌, ℕ, List, [], ◌∷◌, true, false, Option, None, refl, sym, ap, ◌∙◌, subst}
 use Rattle.std.specs.Prelude.{Result, Ok, Err, OnOk, length}
-use Rattle.std.proofs.lemmas.List.{append-nil}
 use Rattle.xa_base.specs.declared.branch.Gtrid.{Gtrid}
 use Rattle.xa_base.specs.declared.refusal.Refusal.{Refusal}
 use Rattle.xa_base.specs.declared.reply.Reply.TheVariants as Replies
@@ -10,8 +9,7 @@ use Rattle.xa_base.specs.declared.step.Outcome.TheVariants as Outcomes
 use Rattle.xa_base.specs.declared.step.Step.TheVariants as Steps
 use Rattle.xa_line.specs.Grid.{Grid, HasLine, IsWhole, line_at}
 use Rattle.xa_line.specs.Histories.{LineStands}
-use Rattle.xa_line.specs.Traffic.{Traffic, answered, answers_heard, calls_issued}
-use Rattle.xa_line.proofs.TrafficLaws.{line_goes_on}
+use Rattle.xa_line.proofs.ChangedLines.{line_stays}
 use Rattle.xa_model.specs.Facts as facts
 use Rattle.xa_model.specs.Facts.Distinct.{ApartRows}
 use Rattle.xa_model.specs.Protocol.{IsRun, Right}
@@ -34,14 +32,6 @@ use Rattle.xa_session.specs.Session.{happenings_by, lines_by}
 use Rattle.xa_session.specs.declared.session.Session.{Session}
 
 -- ** lines
-
--- a happening elsewhere
-pub line_stays : (tr : Trace) (e : Happening) (l : Line) (t : Traffic) → facts.breaks tr e l ≡ false → facts.new_calls tr e l ≡ []
-    → facts.new_taken e l ≡ [] → facts.new_heard e l ≡ []
-    → LineStands tr l t → LineStands (Then tr e) l t
-line_stays tr e l t b i a h stands =
-    line_goes_on tr e l t t [] [] [] stands b (sym (append-nil (calls_issued t))) (rw i refl) (sym (append-nil (answered t))) (rw a refl)
-    (sym (append-nil (answers_heard t))) (rw h refl) stands.each_answered
 
 -- a happening of the manager alone is nothing to the lines and the resource managers
 pub record IsOwn (tr : Trace) (e : Happening) : Type 0 where

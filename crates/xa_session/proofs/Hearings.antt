@@ -1,7 +1,8 @@
 -- Answers that may be heard.
-use Rattle.std.proofs.Common.{◌≡◌, ◌≤◌, ◌⊎◌, inl, inr, ℕ, Bool, true, false, List, [], ◌∷◌, Some, None, refl, sym, ap, ◌∙◌, subst, arith}
-use Rattle.std.specs.Prelude.{◌&&◌, nat_le}
+use Rattle.std.proofs.Common.{◌≡◌, ◌≤◌, ◌⊎◌, inl, inr, ℕ, Bool, true, List, [], ◌∷◌, Some, None, refl, sym, ap, ◌∙◌, subst, arith}
+use Rattle.std.specs.Prelude.{nat_le}
 use Rattle.std.proofs.lemmas.Bool.Decides.{nat_tests}
+use Rattle.std.proofs.lemmas.Bool.{and_parts}
 use Rattle.xa_base.proofs.Options.{some_is}
 use Rattle.xa_base.specs.Call.{map_call}
 use Rattle.xa_base.specs.Xid.{Xid}
@@ -24,17 +25,12 @@ use Rattle.xa_tm.specs.Answering.{FitsRecord, IsAnswerTo, branch_asked}
 use Rattle.xa_tm.specs.News.{Asked}
 use Rattle.xa_session.specs.Hearing.{can_hear, fits_row, heard_first, is_code_on, is_ok, with_answer_heard}
 
-both : (a b : Bool) → (a && b) ≡ true → (a ≡ true) × (b ≡ true)
-both true true e = (refl, refl)
-both true false e = absurd (cc)
-both false b e = absurd (cc)
-
 le_is : (m n : ℕ) → nat_le m n ≡ true → m ≤ n
 le_is m n e = grind (arith, nat_tests, e)
 
 row_fits : (g : Gtrid) → fits_row g ≡ true → FitsRow g
 row_fits g e =
-    let parts = both (nat_le g.incarnation last_number) (nat_le g.sequence last_number) e in
+    let parts = and_parts (nat_le g.incarnation last_number) (nat_le g.sequence last_number) e in
     (le_is g.incarnation last_number parts.0, le_is g.sequence last_number parts.1)
 
 none_is : {A : Type 0} (x : A) → None ≡ Some x → ⊥

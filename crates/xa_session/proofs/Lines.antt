@@ -3,6 +3,7 @@ use Rattle.std.proofs.Common.{◌≡◌, ℕ, ◌<◌, ◌+◌, inl, inr, Bool, 
 use Rattle.std.specs.Prelude.{if◌then◌else◌, ◌&&◌, ◌||◌, nat_le, nat_lt, slice_get}
 use Rattle.std.specs.Option.{option_and_then, option_or}
 use Rattle.std.proofs.lemmas.Bool.Decides.{eqb_tells, nat_tests}
+use Rattle.std.proofs.lemmas.Bool.{and_parts}
 use Rattle.xa_base.specs.Call.{map_call}
 use Rattle.xa_base.specs.Xid.{Xid}
 use Rattle.xa_base.specs.Opening.{has_closed, has_opened}
@@ -26,19 +27,6 @@ use Rattle.xa_session.specs.Session.{AllHeard, awaits_page, behind_page, is_over
 use Rattle.xa_session.specs.declared.session.Session.{Session}
 
 -- ** a line
-
-not_first : (a b : Bool) → (a || b) ≡ false → a ≡ false
-not_first false b e = refl
-not_first true b e = absurd (cc)
-
-not_second : (a b : Bool) → (a || b) ≡ false → b ≡ false
-not_second false b e = e
-not_second true b e = absurd (cc)
-
-both : (a b : Bool) → (a && b) ≡ true → (a ≡ true) × (b ≡ true)
-both true true e = (refl, refl)
-both true false e = absurd (cc)
-both false b e = absurd (cc)
 
 lt_is : (m n : ℕ) → nat_lt m n ≡ true → m < n
 lt_is m n e = grind (arith, nat_tests, e)
@@ -80,7 +68,7 @@ line_free true there up e = absurd (cc)
 pub may_tell : {L : Type 0} (s : Session L) (t r : ℕ) → line_refusal s t r ≡ None → MayTell s t r
 may_tell s t r none =
     let parts = line_free (is_over s) (grid_has_line s.lines t r) (book_in s.manager).up (sym (line_rule s t r) ∙ none) in
-    let there = both (nat_lt t s.lines.threads) (nat_lt r s.lines.rms) parts.1 in
+    let there = and_parts (nat_lt t s.lines.threads) (nat_lt r s.lines.rms) parts.1 in
     record { free = parts.0; there = parts.1; has = (lt_is _ _ there.0, lt_is _ _ there.1); up = parts.2 }
 
 pub none_first : {A : Type 0} (o p : Option A) → option_or o p ≡ None → o ≡ None

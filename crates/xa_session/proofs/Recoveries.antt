@@ -1,8 +1,9 @@
 -- A recovery that nothing hinders.
 use Rattle.std.proofs.Common.{◌≡◌, ◌≤◌, ℕ, Bool, true, false, List, ◌++◌, length, map, refl, ap, ◌∙◌, arith}
-use Rattle.std.specs.Prelude.{◌||◌, ◌+◌, not, if◌then◌else◌, Some, None, nat_lt}
+use Rattle.std.specs.Prelude.{◌+◌, not, if◌then◌else◌, Some, None, nat_lt}
 use Rattle.std.specs.Option.{option_or}
 use Rattle.std.proofs.lemmas.Bool.Decides.{nat_tests}
+use Rattle.std.proofs.lemmas.Bool.{or_from}
 use Rattle.std.proofs.lemmas.List.Folds.{list_any-append}
 use Rattle.xa_base.specs.Opening.{closes, has_closed, has_opened}
 use Rattle.xa_base.specs.Xid.{Xid}
@@ -17,10 +18,6 @@ use Rattle.xa_model.specs.Trace.{Call}
 use Rattle.xa_session.specs.Session.{awaits_page, recovery_refusal}
 use Rattle.xa_session.specs.declared.session.Session.{Session}
 use Rattle.xa_session.proofs.Lines.{may_recover, none_first, none_second, recovery_bar}
-
-unclosed : (a b : Bool) → a ≡ false → b ≡ false → (a || b) ≡ false
-unclosed false b e d = d
-unclosed true b e d = absurd cc
 
 opening_so : (opened closed : Bool) → (if not opened then Some Refusals.NotOpen else (if closed then Some Refusals.Closed else None)) ≡ None
     → (opened ≡ true) × (closed ≡ false)
@@ -72,6 +69,6 @@ pub recovery_unclosed : {L : Type 0} (s : Session L) (r n : ℕ) (ks : List Call
 recovery_unclosed s r n ks calls x none are is plain =
     let at = line_at s.lines 0 r in
     list_any-append closes (calls_issued x) calls
-    ∙ unclosed _ _ (ap (λ t. has_closed (calls_issued t)) is
+    ∙ or_from _ _ (ap (λ t. has_closed (calls_issued t)) is
     ∙ closed_in at n (may_recover s r n none).1)
     (closed_known calls ks are ∙ plain)

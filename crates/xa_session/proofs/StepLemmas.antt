@@ -22,7 +22,8 @@ use Rattle.xa_session.specs.Session.{happenings_by, line_refusal, lines_by, unfi
 use Rattle.xa_session.specs.Steps.{AsksLog, HappenInTurn, IsQuiet, ObeysRules}
 use Rattle.xa_session.specs.declared.session.Session.{Session}
 use Rattle.xa_session.specs.declared.session.answers.Unfit.TheVariants as Unfits
-use Rattle.xa_session.proofs.Sessions.{Concludes, concluded_err, concluded_refused, concluded_stays, refused_or, same_session, stays_by}
+use Rattle.xa_session.proofs.Sessions.{refused_or, same_session, stays_by}
+use Rattle.xa_session.proofs.AskedLogs.{Concludes, concluded_err, concluded_refused, concluded_stays}
 
 module _ {L A : Type 0} where
   -- ** a step of the manager

@@ -8,6 +8,7 @@ use Rattle.xa_model.specs.Protocol.{IsRun}
 use Rattle.xa_model.specs.Trace.{Answer, Branch, Call, Happening, Line, Origin, Trace, Trace.Then, line}
 use Rattle.xa_monitor.proofs.Agreeing.{history_begins}
 use Rattle.xa_monitor.proofs.Following.{by_did, still_followed}
+use Rattle.xa_monitor.proofs.Names.{alone_ran}
 use Rattle.xa_monitor.specs.Agreement.{WaitsAt}
 use Rattle.xa_monitor.specs.Monitor.{AreStatesBy, Monitors, SaysTheSame, states_of}
 use Rattle.xa_monitor.specs.declared.states.States.{States}
@@ -17,8 +18,8 @@ use Rattle.xa_session.specs.Following.{AreRight, BookStands, FollowsAll, Follows
 use Rattle.xa_session.specs.Session.{known_at}
 use Rattle.xa_session.specs.Tracking.{KeepsTrack, Tracks, did_all}
 use Rattle.xa_session.specs.declared.session.Session.{Session}
-use Rattle.xa_session.proofs.Alone.{alone_back, alone_stands}
-use Rattle.xa_session.proofs.Telling.{call_waits}
+use Rattle.xa_session.proofs.Alone.{alone_stands}
+use Rattle.xa_session.proofs.WaitingCalls.{call_waits}
 
 -- ** a start
 
@@ -92,7 +93,7 @@ module _ {L : Type 0} (o : Origin) (seen : Seen) (old new : Session L) (keeps : 
   answer_in : (l : Line) (c : Call) (a : Answer) → FollowsAnswer l c a old new → (tr : Trace) → IsHistory o (Answered seen l c a) tr
       → IsRun tr → StandsIn tr new
   answer_in l c a follows _ (Hears _ tr now _ _ _ h alone) run =
-      let stands = alone_stands old tr now alone (tracks tr h (alone_back tr now alone run.0.0)) in
+      let stands = alone_stands old tr now alone (tracks tr h (alone_ran tr now alone run.0.0)) in
       ((follows.leads now stands).1 run.0.1.1).1
 
   pub answer_tracked : (l : Line) (c : Call) (a : Answer) → HasAnswer c a → FollowsAnswer l c a old new → KeepsTrack o (Answered seen l c a) new
@@ -102,7 +103,7 @@ module _ {L : Type 0} (o : Origin) (seen : Seen) (old new : Session L) (keeps : 
   loss_in : (l : Line) (c : Option Call) → FollowsLoss l c old new → (tr : Trace) → IsHistory o (Lost seen l c) tr → IsRun tr → StandsIn tr new
   loss_in l c follows _ (Loses _ tr _ _ h) run = (follows.leads tr (tracks tr h run.0)).1
   loss_in l _ follows _ (LosesAnswer _ tr now _ k a h alone) run =
-      let stands = alone_stands old tr now alone (tracks tr h (alone_back tr now alone run.0.0)) in
+      let stands = alone_stands old tr now alone (tracks tr h (alone_ran tr now alone run.0.0)) in
       (follows.leads now stands).2 k a refl run.0.1.1
 
   pub loss_tracked : (l : Line) (c : Option Call) → FollowsLoss l c old new → KeepsTrack o (Lost seen l c) new

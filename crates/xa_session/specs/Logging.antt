@@ -1,21 +1,14 @@
 -- What becomes of the log of a manager that serves.
 use Rattle.std.specs.Prelude.{◌≡◌, ◌⊎◌, ◌<◌, ℕ, Bool, true, Option, Some}
-use Rattle.std.specs.FinMap.{entries, get, keys}
+use Rattle.std.specs.FinMap.{get}
 use Rattle.xa_base.specs.declared.branch.Gtrid.{Gtrid}
-use Rattle.xa_log.specs.Content.{Content, all_listed}
+use Rattle.xa_log.specs.Content.{Content}
 use Rattle.xa_log.specs.Contract.{Honestly, Moment}
-use Rattle.xa_log.specs.declared.log_rows.LogRows.{LogRows}
 use Rattle.xa_tm.specs.Book.{Doubt, Waiting, row_with}
 use Rattle.xa_tm.specs.BookAndLog.{IsTied}
 use Rattle.xa_tm.specs.Calls.{book_in, log_in}
 use Rattle.xa_tm.specs.Started.{IsStartedOver}
 use Rattle.xa_tm.specs.declared.manager.Manager.{Manager}
-
--- these are the rows and the records of a content, in order
-pub record AreRowsOf (rows : LogRows) (c : Content) : Type 0 where
-  pub decisions : rows.decisions.items ≡ keys c.decisions
-  pub participants : rows.participants.items ≡ all_listed (entries c.decisions)
-  pub heuristics : rows.heuristics.items ≡ entries c.heuristics
 
 -- these rows or, where a change of them is in doubt, these with all of it
 abbrev pub HasAllOrNone : Doubt → (Gtrid → Option Waiting) → Content → Type 0

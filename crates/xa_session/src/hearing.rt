@@ -6,10 +6,7 @@ ghost use Rattle.xa_base.specs.Call.{map_call};
 ghost use Rattle.xa_model.specs.Replies.History.{name_of};
 ghost use Rattle.xa_session.specs.Hearing.{can_hear, fits_row, is_at_most, is_code_on, is_ok, is_ours, is_scan_of};
 
-use xa_base::{Answer, Call, Code, Gtrid, Xid};
-
-/// The greatest number that a row can have.
-const LAST_NUMBER: u64 = 9_223_372_036_854_775_807;
+use xa_base::{Answer, Call, Code, Gtrid, LAST_NUMBER, Xid};
 
 /// Whether a transaction's numbers fit a row.
 fn fits_row(g: Gtrid) -> bool

@@ -14,9 +14,9 @@ mod several;
 use crate::session_lines::SessionLines;
 use std::alloc::Global;
 use xa_base::Refusal;
-use xa_log::{DecisionLog, LogRows};
+use xa_log::DecisionLog;
 use xa_monitor::Monitor;
-use xa_tm::{Manager, StartFault};
+use xa_tm::{Manager, ReadLog, StartFault};
 
 /// The most that may happen in a session: 2 to the 62nd power.
 const HAPPENING_LIMIT: u64 = 4_611_686_018_427_387_904;
@@ -37,7 +37,7 @@ pub struct Session<L: Drop> {
 }
 
 impl<L: DecisionLog + Drop> Session<L> {
-    ghost use Rattle.std.specs.Prelude.{◌≡◌, Bool, true, Err, IfOk, IsSomeAnd};
+    ghost use Rattle.std.specs.Prelude.{◌≡◌, Bool, true, Err, IfOk};
     ghost use Rattle.xa_line.specs.Grid.{grid_has_line, new_grid};
     ghost use Rattle.xa_log.specs.Contract.{Honestly};
     ghost use Rattle.xa_model.specs.Trace.{Origin};
@@ -47,46 +47,36 @@ impl<L: DecisionLog + Drop> Session<L> {
     ghost use Rattle.xa_tm.specs.Started.{IsStarted, IsStartedOver};
     ghost use Rattle.xa_tm.specs.StartFaults.{IsOnlyRead, IsToBlame};
     ghost use Rattle.xa_session.specs.Following.{StandsAtStart};
-    ghost use Rattle.xa_session.specs.Logging.{AreRowsOf, HoldsItsBook};
+    ghost use Rattle.xa_session.specs.Logging.{HoldsItsBook};
     ghost use Rattle.xa_session.specs.Session.{IsReady, happenings_by, has_room_for, is_over, lines_by};
 
-    /// A session over a log, of so many threads and resource managers, and the rows that the log had.
+    /// A session over a log, of so many threads and resource managers.
     ///
     /// The rows are read before room is made for lines, so that the log has only been read where memory is refused.
-    pub fn new(
-        alloc: Global,
-        threads: u32,
-        rms: u32,
-        mut log: L,
-    ) -> Result<(Session<L>, LogRows), StartFault>
-        ensures ready { IfOk result (λ s. IsReady s.0) }
-        ensures lines { IfOk result (λ s. s.0.lines ≡ new_grid threads rms) }
-        ensures count { IfOk result (λ s. s.0.happenings ≡ 0) }
-        ensures stands { IfOk result (λ s. StandsAtStart threads rms s.0) }
-        ensures old { IfOk result (λ s. (o : Origin) → BeginsWith threads rms s.0.manager o →
+    pub fn new(alloc: Global, threads: u32, rms: u32, log: L) -> Result<Session<L>, StartFault>
+        ensures ready { IfOk result IsReady }
+        ensures lines { IfOk result (λ s. s.lines ≡ new_grid threads rms) }
+        ensures count { IfOk result (λ s. s.happenings ≡ 0) }
+        ensures stands { IfOk result (StandsAtStart threads rms) }
+        ensures old { IfOk result (λ s. (o : Origin) → BeginsWith threads rms s.manager o →
             HasOnlyOlderRows o) }
         // The log that was handed in: its rows and its records, and its incarnation, which is raised.
-        ensures started { IfOk result (λ s. IsStarted threads rms s.0.manager) }
+        ensures started { IfOk result (λ s. IsStarted threads rms s.manager) }
         ensures over { IfOk result (λ s.
-            IsStartedOver L.moment threads rms (L.moment log) s.0.manager) }
+            IsStartedOver L.moment threads rms (L.moment log) s.manager) }
         ensures holds { (near : Bool) → IfOk result (λ s.
-            Honestly (L.moment log) (L.moment (log_in s.0.manager))
-            (HoldsItsBook L.moment near s.0.manager)) }
-        ensures rows { IfOk result (λ s.
-            Honestly (L.moment log) (L.moment (log_in s.0.manager))
-            (IsSomeAnd (L.moment log).content (AreRowsOf s.1))) }
+            Honestly (L.moment log) (L.moment (log_in s.manager))
+            (HoldsItsBook L.moment near s.manager)) }
         // Over which logs none starts, and what is left of them.
         ensures log_fault { result ≡ Err StartFault.Log → IsToBlame L.DecisionLog log }
         ensures memory_fault { result ≡ Err StartFault.Memory →
             ((left : L) × IsOnlyRead L.DecisionLog log left) }
     {
-        let Ok(rows) = log.rows() else {
-            return Err(StartFault::Log);
-        };
+        let read = ReadLog::of(log)?;
         let Ok(lines) = SessionLines::new(alloc, threads, rms) else {
             return Err(StartFault::Memory);
         };
-        match Manager::new(alloc, threads, rms, log) {
+        match Manager::over(alloc, threads, rms, read) {
             Ok(manager) => {
                 let monitor = Monitor::new(alloc, manager.incarnation());
                 let session = Session {
@@ -95,7 +85,7 @@ impl<L: DecisionLog + Drop> Session<L> {
                     monitor,
                     happenings: 0,
                 };
-                Ok((session, rows))
+                Ok(session)
             }
             Err(fault) => Err(fault),
         }
@@ -120,6 +110,20 @@ impl<L: DecisionLog + Drop> Session<L> {
         ensures { result ≡ (book_in self.now.manager).incarnation }
     {
         self.manager.incarnation()
+    }
+
+    /// How many rows the log has.
+    pub fn row_count(&self) -> u64
+        ensures { result ≡ (book_in self.now.manager).rows }
+    {
+        self.manager.row_count()
+    }
+
+    /// How many branches the log records as ended by their resource managers alone.
+    pub fn record_count(&self) -> u64
+        ensures { result ≡ (book_in self.now.manager).records }
+    {
+        self.manager.record_count()
     }
 
     /// How many steps have happened since the start: those that succeeded, and one in which the log failed.

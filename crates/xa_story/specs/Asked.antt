@@ -1,10 +1,11 @@
 -- What an event was asked to do, in words.
 use Rattle.std.specs.Prelude.{List, ◌++◌, codes, ℕ, None, Some}
 use Rattle.std.specs.Fmt.{decimal}
-use Rattle.xa_base.specs.Call.{xid_in}
+use Rattle.xa_base.specs.Call.{kind_name, xid_in}
 use Rattle.xa_base.specs.Xid.{Xid}
 use Rattle.xa_base.specs.declared.branch.Gtrid.{Gtrid}
 use Rattle.xa_base.specs.declared.call.Call.{Call}
+use Rattle.xa_base.specs.declared.call.CallKind.TheVariants as kinds
 use Rattle.xa_base.specs.declared.code.How.{How}
 use Rattle.xa_base.specs.declared.code.How.TheVariants as hows
 use Rattle.xa_base.specs.declared.reply.Event.{Event}
@@ -70,7 +71,7 @@ step_text n reply (steps.Claim g) = of_transaction n (codes "claim") g
 step_text n reply (steps.Settle g) = of_transaction n (codes "settle") g
 step_text n reply (steps.Abandon g) = of_transaction n (codes "abandon") g
 step_text n reply (steps.Done g) = of_transaction n (codes "done") g
-step_text n reply (steps.Recover rm count start end) = codes "xa_recover"
+step_text n reply (steps.Recover rm count start end) = kind_name kinds.Recover
 step_text n reply (steps.Resolve rm) = codes "resolve"
 step_text n reply (steps.ResolveOpen rm) = codes "resolve-open"
 step_text n reply (steps.Crash (parts.Line thread rm)) = codes "breaks"

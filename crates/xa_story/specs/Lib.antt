@@ -4,6 +4,7 @@ pub mod Lines
 pub mod Naming
 pub mod Parties
 pub mod Replied
+pub mod Rows
 pub mod Standings
 pub mod Stories
 pub mod Words

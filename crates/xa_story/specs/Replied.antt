@@ -1,7 +1,6 @@
 -- What an event was replied, in words.
 use Rattle.std.specs.Prelude.{List, [], ◌++◌, codes, ℕ, if◌then◌else◌, ◌==◌}
 use Rattle.std.specs.Fmt.{decimal}
-use Rattle.xa_base.specs.Refusal.{refusal_name, refusal_number}
 use Rattle.xa_base.specs.Xid.{Xid}
 use Rattle.xa_base.specs.declared.branch.Gtrid.{Gtrid}
 use Rattle.xa_base.specs.declared.refusal.Refusal.{Refusal}
@@ -11,6 +10,7 @@ use Rattle.xa_base.specs.declared.reply.Reply.TheVariants as replies
 use Rattle.xa_base.specs.declared.step.Part.TheVariants as parts
 use Rattle.xa_base.specs.declared.step.Step.{Step}
 use Rattle.xa_base.specs.declared.step.Step.TheVariants as steps
+use Rattle.xa_files.specs.Replies.{refused_text}
 use Rattle.xa_story.specs.Words.{answer_name}
 
 -- a script, or the end of a row
@@ -27,9 +27,9 @@ crashed_text step = []
 abbrev pub count_text : ℕ → List ℕ
 count_text n = if n == 1 then codes "1 call" else decimal n ++ codes " calls"
 
--- a refusal, by its number and its name
+-- a refusal, by its number and its name; its reason follows
 abbrev pub told_refusal_text : Refusal → List ℕ
-told_refusal_text refusal = codes "refused " ++ decimal (refusal_number refusal) ++ codes " " ++ refusal_name refusal ++ codes ":"
+told_refusal_text refusal = refused_text refusal ++ codes ":"
 
 -- a transaction by its numbers
 abbrev pub begun_numbers_text : Gtrid → List ℕ

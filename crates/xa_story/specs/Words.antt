@@ -1,6 +1,7 @@
 -- The names that XA and the protocol give to calls, codes and votes, as a story has them.
-use Rattle.std.specs.Prelude.{List, length, codes, ℕ, true, false}
+use Rattle.std.specs.Prelude.{List, length, codes, ℕ, true}
 use Rattle.std.specs.Fmt.{decimal}
+use Rattle.xa_base.specs.Call.{kind_name, kind_of}
 use Rattle.xa_base.specs.Xid.{Xid}
 use Rattle.xa_base.specs.declared.answer.Answer.{Answer}
 use Rattle.xa_base.specs.declared.answer.Answer.TheVariants.{Ret, Page}
@@ -19,18 +20,10 @@ use Rattle.xa_base.specs.declared.vote.Vote.TheVariants as votes
 
 -- a call, with those flags of it that change what it does
 abbrev pub call_name_with_flags : Call Xid → List ℕ
-call_name_with_flags calls.OpenRm = codes "xa_open"
-call_name_with_flags calls.CloseRm = codes "xa_close"
-call_name_with_flags (calls.Start xid false) = codes "xa_start"
 call_name_with_flags (calls.Start xid true) = codes "xa_start(TMJOIN)"
-call_name_with_flags (calls.End xid false) = codes "xa_end"
 call_name_with_flags (calls.End xid true) = codes "xa_end(TMFAIL)"
-call_name_with_flags (calls.Prepare xid) = codes "xa_prepare"
-call_name_with_flags (calls.Commit xid false) = codes "xa_commit"
 call_name_with_flags (calls.Commit xid true) = codes "xa_commit(TMONEPHASE)"
-call_name_with_flags (calls.Rollback xid) = codes "xa_rollback"
-call_name_with_flags (calls.Forget xid) = codes "xa_forget"
-call_name_with_flags (calls.Recover count start end) = codes "xa_recover"
+call_name_with_flags call = kind_name (kind_of call)
 
 abbrev pub rb_name : RbCode → List ℕ
 rb_name rb.Rollback = codes "XA_RBROLLBACK"

@@ -8,7 +8,9 @@ ghost use Rattle.xa_story.specs.Naming.{xid_text};
 use crate::names::Names;
 use crate::words::{call_name, vote_text};
 use std::alloc::Global;
-use xa_base::{Branch, Call, Event, Gtrid, How, Memory, Outcome, Part, Reply, Step, Vote, Xid};
+use xa_base::{
+    Branch, Call, CallKind, Event, Gtrid, How, Memory, Outcome, Part, Reply, Step, Vote, Xid,
+};
 
 /// A call, by its name and the name of its branch.
 pub fn call_text(alloc: Global, names: &Names, call: &Call) -> Result<String, Memory>
@@ -128,7 +130,7 @@ pub fn asked_text(alloc: Global, names: &Names, event: &Event) -> Result<String,
         Step::Settle { gtrid } => of_transaction(alloc, names, "settle", gtrid),
         Step::Abandon { gtrid } => of_transaction(alloc, names, "abandon", gtrid),
         Step::Done { gtrid } => of_transaction(alloc, names, "done", gtrid),
-        Step::Recover { .. } => plain_text(alloc, "xa_recover"),
+        Step::Recover { .. } => plain_text(alloc, CallKind::Recover.name()),
         Step::Resolve { .. } => plain_text(alloc, "resolve"),
         Step::ResolveOpen { .. } => plain_text(alloc, "resolve-open"),
         Step::Crash(Part::Line { .. }) => plain_text(alloc, "breaks"),

@@ -1,6 +1,6 @@
 //! What crashes, restarts and refusals do.
 
-ghost use Rattle.std.specs.Prelude.{◌≡◌};
+ghost use Rattle.std.specs.Prelude.{◌≡◌, filter, length, not};
 
 use crate::asked::rms_text;
 use crate::effect::{Effect, plain_effect, push_count, push_item};
@@ -9,6 +9,20 @@ use crate::scene::Scene;
 use crate::standings::Move;
 use crate::waits::Waiting;
 use xa_base::{Branch, Memory, Part, Refusal, Step};
+
+/// How many of these are calls.
+fn call_count(lost: &[Waiting]) -> usize
+    ensures { result ≡ length (filter (λ item. not item.is_answer) lost.now) }
+{
+    lost.iter().filter(|item| !item.is_answer).count()
+}
+
+/// How many of these are answers.
+fn answer_count(lost: &[Waiting]) -> usize
+    ensures { result ≡ length (filter (λ item. item.is_answer) lost.now) }
+{
+    lost.iter().filter(|item| item.is_answer).count()
+}
 
 impl<'a> Scene<'a> {
     /// A part crashes.
@@ -42,11 +56,9 @@ impl<'a> Scene<'a> {
         lost: &[Waiting],
         moves: &[Move],
     ) -> Result<String, Memory> {
-        let calls = lost.iter().filter(|item| !item.is_answer).count();
-        let answers = lost.iter().filter(|item| item.is_answer).count();
         let mut text = String::new(self.alloc);
-        push_count(&mut text, self.alloc, calls, "waiting call")?;
-        push_count(&mut text, self.alloc, answers, "waiting answer")?;
+        push_count(&mut text, self.alloc, call_count(lost), "waiting call")?;
+        push_count(&mut text, self.alloc, answer_count(lost), "waiting answer")?;
         for change in moves {
             let name = self.names.branch_text(self.alloc, change.branch)?;
             let rm = change.branch.rm;

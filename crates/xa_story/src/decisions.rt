@@ -1,6 +1,7 @@
 //! What decisions, recoveries and scripts do.
 
 ghost use Rattle.std.specs.Prelude.{◌≡◌};
+ghost use Rattle.xa_story.specs.Rows.{decision_of};
 
 use crate::asked::rms_text;
 use crate::effect::{Effect, plain_effect, push_item};
@@ -9,6 +10,18 @@ use crate::line::LogChange;
 use crate::scene::Scene;
 use crate::standings::Move;
 use xa_base::{Gtrid, How, Memory, Outcome, Standing, Step, Xid};
+
+/// The transaction that a step decides, and how.
+fn decision_of(step: &Step) -> Option<(Gtrid, Outcome)>
+    ensures { result ≡ decision_of step.now }
+{
+    match *step {
+        Step::Decide { gtrid, outcome } => Some((gtrid, outcome)),
+        Step::Settle { gtrid } => Some((gtrid, Outcome::Commit)),
+        Step::Abandon { gtrid } => Some((gtrid, Outcome::Rollback)),
+        _ => None,
+    }
+}
 
 impl<'a> Scene<'a> {
     /// A script was given, or a transaction is over.
@@ -57,11 +70,8 @@ impl<'a> Scene<'a> {
     pub(crate) fn decide(&mut self, number: usize, step: &Step) -> Result<Effect, Memory>
         ensures { self.new.names ≡ self.old.names }
     {
-        let (gtrid, outcome) = match *step {
-            Step::Decide { gtrid, outcome } => (gtrid, outcome),
-            Step::Settle { gtrid } => (gtrid, Outcome::Commit),
-            Step::Abandon { gtrid } => (gtrid, Outcome::Rollback),
-            _ => return plain_effect(self.alloc, ""),
+        let Some((gtrid, outcome)) = decision_of(step) else {
+            return plain_effect(self.alloc, "");
         };
         if outcome == Outcome::Rollback {
             self.ledger.settle(gtrid, number, Settlement::Rollback)?;

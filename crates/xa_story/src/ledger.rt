@@ -1,5 +1,8 @@
 //! What the manager knows of its transactions, and the rows of its log.
 
+ghost use Rattle.std.specs.Prelude.{◌≡◌, IfOk};
+ghost use Rattle.xa_story.specs.Rows.{is_settled, waited_for};
+
 use std::alloc::Global;
 use xa_base::{Answer, Branch, Call, Code, Gtrid, Memory, Part, Xid};
 
@@ -131,21 +134,24 @@ impl Ledger {
         self.rows.contains(&gtrid)
     }
 
-    /// Whether the branch has a record.
-    pub fn has_record(&self, branch: Branch) -> bool {
-        self.recorded.contains(&branch)
+    /// Whether no row waits for the branch any more: it has acknowledged, or has a record.
+    fn is_settled(&self, branch: Branch) -> bool
+        ensures { result ≡ is_settled self.now branch }
+    {
+        self.acknowledged.contains(&branch) || self.recorded.contains(&branch)
     }
 
     /// The branches that the row of a transaction waits for.
-    pub fn waits_for(&self, alloc: Global, gtrid: Gtrid) -> Result<Vec<Branch>, Memory> {
-        let mut open = Vec::new(alloc);
+    pub fn waits_for(&self, alloc: Global, gtrid: Gtrid) -> Result<Vec<Branch>, Memory>
+        ensures { IfOk result (λ left. left.items ≡ waited_for self.now gtrid) }
+    {
+        let mut left = Vec::new(alloc);
         for branch in self.participants.iter() {
-            let is_settled = self.acknowledged.contains(branch) || self.recorded.contains(branch);
-            if branch.gtrid == gtrid && !is_settled {
-                open.push(*branch)?;
+            if branch.gtrid == gtrid && !self.is_settled(*branch) {
+                left.push(*branch)?;
             }
         }
-        Ok(open)
+        Ok(left)
     }
 
     /// A transaction is begun.

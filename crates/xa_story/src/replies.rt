@@ -8,6 +8,7 @@ use crate::asked::plain_text;
 use crate::words::answer_text;
 use std::alloc::Global;
 use xa_base::{Event, Gtrid, Memory, Part, Refusal, Reply, Step};
+use xa_files::refused_text;
 
 /// A script, or the end of a row.
 fn noted_text(step: &Step) -> &'static str
@@ -40,13 +41,12 @@ fn count_text(alloc: Global, count: usize) -> Result<String, Memory>
     }
 }
 
-/// A refusal, by its number and its name.
-fn refused_text(alloc: Global, refusal: Refusal) -> Result<String, Memory>
+/// A refusal, by its number and its name; its reason follows.
+fn told_refusal_text(alloc: Global, refusal: Refusal) -> Result<String, Memory>
     ensures { IfOk result (λ text. string_bytes text ≡ told_refusal_text refusal) }
 {
-    let number = refusal.number();
-    let name = refusal.name();
-    Ok(format!(in alloc; "refused {number} {name}:")?)
+    let text = refused_text(alloc, refusal)?;
+    Ok(format!(in alloc; "{text}:")?)
 }
 
 /// A transaction by its numbers.
@@ -73,6 +73,6 @@ pub fn reply_text(alloc: Global, event: &Event) -> Result<String, Memory>
         Reply::Resolved(count) => count_text(alloc, count),
         Reply::Crashed => plain_text(alloc, crashed_text(&event.step)),
         Reply::RmRestarted | Reply::Restarted { .. } => plain_text(alloc, "up"),
-        Reply::Refused(refusal) => refused_text(alloc, refusal),
+        Reply::Refused(refusal) => told_refusal_text(alloc, refusal),
     }
 }

@@ -1,7 +1,7 @@
 //! Where the branches stand.
 
 ghost use Rattle.std.specs.Prelude.{◌≡◌};
-ghost use Rattle.xa_base.specs.StateTable.{Kind.Start, after_end, after_prepare, moved};
+ghost use Rattle.xa_base.specs.StateTable.{Kind.Start, after_end, after_prepare, broken, moved};
 ghost use Rattle.xa_base.specs.declared.code.Code.{Code};
 ghost use Rattle.xa_story.specs.Standings.{committed_or, standing_after_answer};
 
@@ -86,6 +86,16 @@ fn after_commit(code: Code, otherwise: Standing) -> Standing
     }
 }
 
+/// Where a branch stands after the line broke on which it was started.
+fn after_break(before: Standing) -> Standing
+    ensures { result ≡ broken before }
+{
+    match before {
+        Standing::Active | Standing::Idle | Standing::RollbackOnly => Standing::Lost,
+        _ => before,
+    }
+}
+
 /// Where each branch stands that did anything.
 #[derive(Drop)]
 pub struct Standings {
@@ -143,14 +153,9 @@ impl Standings {
     pub fn lose(&mut self, alloc: Global, part: Part) -> Result<Vec<Move>, Memory> {
         let mut lost = Vec::new(alloc);
         for known in self.moves.iter_mut() {
-            let is_lost = match known.standing {
-                Standing::Active | Standing::Idle | Standing::RollbackOnly => {
-                    breaks(part, known.branch.thread, known.branch.rm)
-                }
-                _ => false,
-            };
-            if is_lost {
-                known.standing = Standing::Lost;
+            let standing = after_break(known.standing);
+            if standing != known.standing && breaks(part, known.branch.thread, known.branch.rm) {
+                known.standing = standing;
                 lost.push(*known)?;
             }
         }

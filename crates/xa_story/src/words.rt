@@ -12,24 +12,13 @@ pub fn call_name(call: &Call) -> &'static str
     ensures { result.now ≡ call_name_with_flags call.now }
 {
     match *call {
-        Call::OpenRm => "xa_open",
-        Call::CloseRm => "xa_close",
-        Call::Start { join: false, .. } => "xa_start",
         Call::Start { join: true, .. } => "xa_start(TMJOIN)",
-        Call::End { fail: false, .. } => "xa_end",
         Call::End { fail: true, .. } => "xa_end(TMFAIL)",
-        Call::Prepare { .. } => "xa_prepare",
-        Call::Commit {
-            one_phase: false,
-            ..
-        } => "xa_commit",
         Call::Commit {
             one_phase: true,
             ..
         } => "xa_commit(TMONEPHASE)",
-        Call::Rollback { .. } => "xa_rollback",
-        Call::Forget { .. } => "xa_forget",
-        Call::Recover { .. } => "xa_recover",
+        _ => call.kind().name(),
     }
 }
 

@@ -1,14 +1,26 @@
 -- Each kind of step leads to where the history with it leaves the parts.
 pub mod Crash
+pub mod PresentRms
+pub mod CrashRm
+pub mod CrashManager
 pub mod CrashAll
 pub mod Decide
 pub mod Hear
+pub mod HeardAnswers
+pub mod FailedLog
 pub mod Issue
 pub mod OfManager
+pub mod ManagerAlone
 pub mod Recover
 pub mod Resolve
+pub mod ResolveOpen
+pub mod RecoveryGoes
+pub mod RecoveryRules
 pub mod Restart
 pub mod RestartRefusals
 pub mod InTurn
 pub mod Script
+pub mod ScriptedBranches
+pub mod ScriptRefusals
 pub mod Take
+pub mod TakeElsewhere

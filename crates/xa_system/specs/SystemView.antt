@@ -8,6 +8,7 @@ use Rattle.xa_model.specs.Replies.History.{AreAllowed, history}
 use Rattle.xa_model.specs.Trace.{Origin, Recorded, Row, Trace, line}
 use Rattle.xa_base.specs.Branch.{IsBranch, own_format}
 use Rattle.xa_base.specs.Recover.{IsInDoubtList}
+use Rattle.xa_base.specs.declared.limits.TheConstants.{MAX_RMS, MAX_THREADS}
 use Rattle.xa_base.specs.declared.branch.Branch.{Branch}
 use Rattle.xa_rm.specs.ResourceManager.{HoldsFormat, HoldsNewer, HoldsNoFormat, HoldsPast}
 use Rattle.xa_system.specs.declared.site.Site.{Site}
@@ -174,9 +175,9 @@ IsFailed reply = (reply ≡ Replies.Refused Refusals.LogFault) ⊎ (reply ≡ Re
 abbrev pub AddsSteps : List (Step Xid) → List Event → List Event → Type 0
 AddsSteps steps old new = (events : List Event) × (map (λ event. event.step) events ≡ steps) × (new ≡ old ++ events)
 
--- there are 1 to 8 threads and 1 to 8 resource managers
+-- there is no thread or no resource manager, or there are more than a system may have
 abbrev pub HasWrongSize : ℕ → ℕ → Type 0
-HasWrongSize threads rms = (threads ≡ 0) ⊎ ((8 < threads) ⊎ ((rms ≡ 0) ⊎ (8 < rms)))
+HasWrongSize threads rms = (threads ≡ 0) ⊎ ((MAX_THREADS < threads) ⊎ ((rms ≡ 0) ⊎ (MAX_RMS < rms)))
 
 -- a branch of this system: its numbers fit, and the system started with its thread and its resource manager
 pub record IsOwnIn {R L : Type 0} (s : SystemView R L) (b : Branch) : Type 0 where

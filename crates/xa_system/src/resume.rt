@@ -17,6 +17,7 @@ use crate::system::{EVENT_LIMIT, System};
 use std::alloc::{AllocError, Global};
 use std::snapshot::Snapshot;
 use thiserror::Error;
+use xa_base::{MAX_RMS, MAX_THREADS};
 use xa_log::DecisionLog;
 use xa_rm::ResourceManager;
 use xa_tm::StartFault;
@@ -67,7 +68,7 @@ impl From<AllocError> for ResumeFault {
 /// Whether each branch of this manager that was ever started is one that an earlier incarnation may have left where it
 /// is.
 fn are_past<R: ResourceManager + Drop>(sites: &[Site<R>], incarnation: u64) -> bool
-    requires few { length sites.now ≤ 8 }
+    requires few { length sites.now ≤ MAX_RMS }
     ensures past { result ≡ true → ArePast R.look incarnation (map (λ site. site.rm) sites.now) }
     ensures newer { result ≡ false → HasNewer R.look incarnation (map (λ site. site.rm) sites.now) }
 {
@@ -113,7 +114,7 @@ impl<R: ResourceManager + Drop, L: DecisionLog + Drop> System<R, L> {
             Leaves R.look past rms.items content → Resumes past (origin_in R.look system))) }
         ensures log { IfOk result (IsMadeOver (observes R.look L.moment) log) }
     {
-        if threads == 0 || threads > 8 || rms.is_empty() || rms.len() > 8 {
+        if threads == 0 || threads > MAX_THREADS || rms.is_empty() || rms.len() > MAX_RMS as usize {
             return Err(ResumeFault::Limit);
         }
         crash_rms(&mut rms);

@@ -11,6 +11,7 @@ use crate::parts::Parts;
 use crate::site::Site;
 use std::alloc::{AllocFailed, Global};
 use std::snapshot::Snapshot;
+use xa_base::MAX_RMS;
 use xa_line::Lines;
 use xa_log::DecisionLog;
 use xa_rm::ResourceManager;
@@ -57,7 +58,7 @@ pub(crate) fn start_parts<R: ResourceManager + Drop, L: DecisionLog + Drop>(
     rms: Vec<R>,
     log: L,
 ) -> Result<Parts<R, Slot<L>>, StartFault>
-    requires few { vec_len rms ≤ 8 }
+    requires few { vec_len rms ≤ MAX_RMS }
     ensures parts { IfOk result (AreNew threads rms.items) }
     ensures manager { IfOk result (λ parts. IsStarted threads (length rms.items) parts.manager) }
     ensures log { IfOk result (λ parts.

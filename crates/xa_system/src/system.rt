@@ -10,7 +10,7 @@ use std::alloc::{AllocError, Global};
 use std::marker::Model;
 use std::snapshot::Snapshot;
 use thiserror::Error;
-use xa_base::Event;
+use xa_base::{Event, MAX_RMS, MAX_THREADS, OWN_FORMAT};
 use xa_log::DecisionLog;
 use xa_rm::ResourceManager;
 use xa_tm::{Slot, StartFault};
@@ -83,9 +83,6 @@ impl From<AllocError> for NewFault {
     }
 }
 
-/// The format of this manager's identifiers.
-const OWN_FORMAT: i32 = 7;
-
 /// Whether no resource manager ever held a branch of this manager's format.
 fn are_clear<R: ResourceManager>(rms: &[R]) -> bool
     ensures clear { result ≡ true → AreClear R.look rms.now }
@@ -132,7 +129,7 @@ impl<R: ResourceManager + Drop, L: DecisionLog + Drop> System<R, L> {
         ensures right { IfOk result (λ system. RightOrigin (origin_in R.look system)) }
         ensures log { IfOk result (IsMadeOver (observes R.look L.moment) log) }
     {
-        if threads == 0 || threads > 8 || rms.is_empty() || rms.len() > 8 {
+        if threads == 0 || threads > MAX_THREADS || rms.is_empty() || rms.len() > MAX_RMS as usize {
             return Err(NewFault::Limit);
         }
         if !are_clear::<R>(rms.as_slice()) {

@@ -9,6 +9,7 @@ pub mod UnfinishedBranches
 pub mod BranchSets
 pub mod SameBranches
 pub mod Issue
+pub mod OwedRows
 pub mod Resolve
 pub mod ResolveOpen
 pub mod Decide

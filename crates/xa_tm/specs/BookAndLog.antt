@@ -6,7 +6,7 @@ use Rattle.xa_base.specs.declared.branch.Gtrid.{Gtrid}
 use Rattle.xa_log.specs.Content.{Content, with_bump, with_commit, without_decisions, with_heuristic_record, unchanged}
 use Rattle.xa_log.specs.Contract.{Makes}
 use Rattle.xa_log.specs.declared.decision_log.DecisionLog as DecisionLog
-use Rattle.xa_log.specs.declared.fail_plan.LogCall.TheVariants.{Bump, Rows}
+use Rattle.xa_log.specs.declared.decision_log.LogCall.TheVariants.{Bump, Rows}
 use Rattle.xa_model.specs.Facts.Distinct.{EachOnce}
 use Rattle.xa_tm.specs.Book.{Book, Waiting, Doubt, Doubt.Adds, Doubt.Drops, Doubt.Records, Doubt.NoDoubt, records_with}
 

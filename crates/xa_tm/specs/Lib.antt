@@ -11,6 +11,8 @@ pub mod RefusalOrder
 pub mod Release
 pub mod News
 pub mod Outcomes
+pub mod Owed
+pub mod Reading
 pub mod Refusing
 pub mod Resolving
 pub mod BookAndLog
@@ -18,7 +20,6 @@ pub mod LogRows
 pub mod StartFaults
 pub mod Started
 pub mod Starting
-pub mod Ascending
 pub mod Begins
 pub mod Slots
 pub mod Swaps

@@ -3,8 +3,8 @@ use Rattle.std.specs.Prelude.{◌≡◌, ℕ, Option, Some, None}
 use Rattle.xa_log.specs.Content.{AreOwn, Content, unchanged}
 use Rattle.xa_log.specs.Contract.{AllFit, IsShutOrSame, LeavesNoMore, Makes, Moment, one_more_fault}
 use Rattle.xa_log.specs.declared.decision_log.DecisionLog as DecisionLog
-use Rattle.xa_log.specs.declared.fail_plan.LogCall.{LogCall}
-use Rattle.xa_log.specs.declared.fail_plan.LogCall.TheVariants.{Rows}
+use Rattle.xa_log.specs.declared.decision_log.LogCall.{LogCall}
+use Rattle.xa_log.specs.declared.decision_log.LogCall.TheVariants.{Rows}
 use Rattle.xa_log.specs.declared.log_fault.LogFault.{LogFault}
 use Rattle.xa_log.specs.declared.log_fault.LogFault.TheVariants.{Store}
 use Rattle.xa_tm.specs.declared.slot.Slot.{Slot}

@@ -14,8 +14,8 @@ mod decide_all;
 mod done_all;
 mod hear;
 mod issue;
-pub(crate) mod load;
-pub(crate) mod order;
+mod load;
+mod owed;
 mod release;
 mod resolve;
 mod resolve_open;
@@ -71,6 +71,20 @@ impl Ledger {
         ensures { result ≡ self.now.incarnation }
     {
         self.incarnation
+    }
+
+    /// How many rows the log has.
+    pub(crate) fn row_count(&self) -> u64
+        ensures { result ≡ self.now.row_count }
+    {
+        self.row_count
+    }
+
+    /// How many branches are recorded as heuristic.
+    pub(crate) fn record_count(&self) -> u64
+        ensures { result ≡ self.now.records }
+    {
+        self.records
     }
 
     /// The allocator of its room.

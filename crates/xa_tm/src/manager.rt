@@ -48,6 +48,20 @@ impl<L: DecisionLog + Drop> Manager<L> {
         self.ledger.incarnation()
     }
 
+    /// How many rows its log has: how many transactions are decided to commit and not yet done.
+    pub fn row_count(&self) -> u64
+        ensures { result ≡ (book_in self.now).rows }
+    {
+        self.ledger.row_count()
+    }
+
+    /// How many branches its log records as ended by their resource managers alone.
+    pub fn record_count(&self) -> u64
+        ensures { result ≡ (book_in self.now).records }
+    {
+        self.ledger.record_count()
+    }
+
     /// Its log, where it ends.
     pub fn into_log(self) -> L
         ensures { result ≡ log_in self }

@@ -1,4 +1,3 @@
-pub mod Ascending
 pub mod Crossing
 pub mod FateOrder
 pub mod RowGroups

@@ -5,6 +5,7 @@ use Rattle.std.specs.List.{list_any, filter_map, range_with_len}
 use Rattle.std.specs.Option.{option_map_or}
 use Rattle.xa_base.specs.Branch.{branch_eq, branch_of_xid}
 use Rattle.xa_base.specs.Xid.{Xid}
+use Rattle.xa_base.specs.declared.limits.TheConstants.{MAX_RMS, MAX_THREADS}
 use Rattle.xa_base.specs.declared.branch.Branch.{Branch}
 use Rattle.xa_base.specs.declared.branch.Gtrid.{Gtrid}
 use Rattle.xa_base.specs.declared.step.Outcome.{Outcome}
@@ -17,9 +18,9 @@ use Rattle.xa_workers.specs.declared.limits.TheConstants.{JOB_LIMIT}
 -- what a run asks of its jobs
 pub record IsRunnable (jobs : Jobs) : Type 0 where
   pub some_threads : 0 < jobs.threads
-  pub few_threads : jobs.threads ≤ 8
+  pub few_threads : jobs.threads ≤ MAX_THREADS
   pub some_rms : 0 < jobs.rms
-  pub few_rms : jobs.rms ≤ 8
+  pub few_rms : jobs.rms ≤ MAX_RMS
   pub few_jobs : vec_len jobs.votes ≤ JOB_LIMIT
   -- a vote or none for each resource manager
   pub rows : All (λ votes. vec_len votes ≡ jobs.rms) jobs.votes.items

@@ -6,7 +6,7 @@ ghost use Rattle.xa_workers.specs.Jobs.{votes_of, yes_branch, yes_branches};
 
 use crate::limits::JOB_LIMIT;
 use std::alloc::{AllocError, Global};
-use xa_base::{Branch, Gtrid, Vote, Xid};
+use xa_base::{Branch, Gtrid, MAX_RMS, MAX_THREADS, Vote, Xid};
 use xa_log::Decision;
 
 /// Global transactions to be run at once. Job `i`, from 0, belongs to thread `i` modulo `threads`, and has a branch at
@@ -70,8 +70,8 @@ impl Jobs {
     pub fn is_runnable(&self) -> bool
         ensures { IsTrue result ↔ IsRunnable self.now }
     {
-        (1..=8).contains(&self.threads)
-            && (1..=8).contains(&self.rms)
+        (1..=MAX_THREADS).contains(&self.threads)
+            && (1..=MAX_RMS).contains(&self.rms)
             && self.votes.len() <= JOB_LIMIT
             && self.have_rows()
     }

@@ -218,9 +218,10 @@ fn run_named<
 /// What a job's last calls are answered is heard together with the votes of the thread's next job, so that each job takes one
 /// round trip. All answers were heard when it returns outcomes.
 ///
-/// A worker with nothing to do looks again for a while, yields, and then sleeps until it is woken. A thread of control that waits
-/// for an answer serves its line itself, if the resource manager's worker doesn't look for calls. Before it writes, the log's
-/// worker waits a little for further rows. The clock tells only how long yields and writes take, and so how long is waited.
+/// A worker with nothing to do looks again for a while, yields, and then sleeps until it is woken, a resource manager's worker for
+/// a millisecond at most. A thread of control that waits for an answer serves its line itself, if the resource manager's worker
+/// doesn't look for calls. Before it writes, the log's worker waits a little for further rows. The clock tells only how long
+/// yields and writes take, and so how long is waited.
 ///
 /// The clauses say what the jobs came to, for some incarnation that the log gave: `ends`, that each job ended as its
 /// votes say, or was rolled back by the recovery; `plain`, that without a recovery each ended as its votes say;

@@ -225,13 +225,14 @@ fn run(rt: &HostRuntime, files: &[String], with_trace: bool) -> Result<(), Failu
             });
         }
     };
-    Ok(run_scenarios(
+    run_scenarios(
         alloc,
         &scenarios,
         MemLog::new(alloc),
         with_trace,
         &mut io::writer(rt),
-    )?)
+    )?;
+    Ok(())
 }
 
 /// What a file holds.

@@ -157,27 +157,21 @@ fn run<W: Write>(
 ) -> Result<(), Failure> {
     let alloc = rt.alloc();
     let texts = texts_of(rt, files)?;
-    let ran = match log {
-        Some(path) => {
-            claim_log(rt, path, &ManagerName::none(), &[])?;
-            let opened = open_log(rt, path)?;
-            let ran = run_in_files(alloc, &texts, opened, with_trace, out);
-            let gathered = gather(rt, path);
-            if ran.is_ok() {
-                gathered?;
-            }
-            ran
+    let Some(path) = log else {
+        return match run_over(alloc, &texts, MemLog::new(alloc), with_trace, out) {
+            Ok(_left) => Ok(()),
+            Err(fault) => Err(failure_of(alloc, files, &texts, fault)),
+        };
+    };
+    claim_log(rt, path, &ManagerName::none(), &[])?;
+    let opened = open_log(rt, path)?;
+    match run_in_files(alloc, &texts, opened, with_trace, out) {
+        Ok(closed) => closed.map_err(|fault| opening_failure(rt, path, fault)),
+        Err(fault) => {
+            gather(rt, path);
+            Err(running_failure(rt, path, failure_of(alloc, files, &texts, fault)))
         }
-        None => run_over(alloc, &texts, MemLog::new(alloc), with_trace, out),
-    };
-    let Err(fault) = ran else {
-        return Ok(());
-    };
-    let failure = failure_of(alloc, files, &texts, fault);
-    Err(match log {
-        Some(path) => running_failure(rt, path, failure),
-        None => failure,
-    })
+    }
 }
 
 /// The failure of a run of files. Where one of them is refused, all that is wrong with it is told.
@@ -214,7 +208,7 @@ fn run_as_json<W: Write>(
 }
 
 /// Runs the jobs of a file over the log at a path, or over one in memory. The log is opened before the text is read
-/// as a jobs file. A run that ends well gives it back, and it is closed; after any other it is looked at to be closed.
+/// as a jobs file.
 fn run_threads<T: Threads + Wait + Clock + Sync, W: Write>(
     rt: &HostRuntime,
     threads: &T,
@@ -232,11 +226,9 @@ fn run_threads<T: Threads + Wait + Clock + Sync, W: Write>(
     claim_log(rt, path, &ManagerName::none(), &[])?;
     let opened = open_log(rt, path)?;
     match run_jobs_in_files(threads, alloc, source.text, opened, out) {
-        Ok(Ok(())) => Ok(()),
-        Ok(Err(fault)) => Err(opening_failure(rt, path, fault)),
+        Ok(closed) => closed.map_err(|fault| opening_failure(rt, path, fault)),
         Err(fault) => {
-            // What is told is why the run ended, also where its log can't be gathered.
-            let _gathered = gather(rt, path);
+            gather(rt, path);
             Err(running_failure(rt, path, source.failure(alloc, fault)))
         }
     }
@@ -265,10 +257,16 @@ fn serve(
     let opened = open_log(rt, log)?;
     let served = serve_in_files(alloc, name, threads, rms, opened, &mut input, &mut out);
     let flushed = out.flush();
-    let gathered = gather(rt, log);
-    served.map_err(|failure| running_failure(rt, log, failure))?;
-    flushed.map_err(|_| Failure::Run(RunFault::Output))?;
-    gathered
+    match served {
+        Ok(closed) => {
+            flushed.map_err(|_| Failure::Run(RunFault::Output))?;
+            closed.map_err(|fault| opening_failure(rt, log, fault))
+        }
+        Err(failure) => {
+            gather(rt, log);
+            Err(running_failure(rt, log, failure))
+        }
+    }
 }
 
 /// Lists or explains the log at a path. Where there is none it fails: who looks at a log makes none. One that can't be opened, since
@@ -321,11 +319,10 @@ fn list_as_json<W: Write>(rt: &HostRuntime, path: &str, out: &mut W) -> Result<(
     Ok(write_text(json.as_bytes(), out)?)
 }
 
-/// Copies the journal of the log at a path into its file, once a run has ended.
-fn gather(rt: &HostRuntime, path: &str) -> Result<(), Failure> {
-    let gathered = match SqlLog::look(rt, path) {
-        Ok(log) => close_in_files(log),
-        Err(fault) => Err(fault),
-    };
-    gathered.map_err(|fault| opening_failure(rt, path, fault))
+/// Copies the journal of the log at a path into its file, once a run has ended by a fault and its log is gone. What is told is
+/// that fault, also if this fails.
+fn gather(rt: &HostRuntime, path: &str) {
+    if let Ok(log) = SqlLog::look(rt, path) {
+        let _closed = close_in_files(log);
+    }
 }

@@ -21,17 +21,18 @@ use xa_restore::{LogLines, restore_log};
 use xa_scenario::{FileFault, read_scenarios, run_scenarios};
 use xa_sql_log::SqlLog;
 
-/// Runs scenarios, each as a process. A fault that is none of a file is given the place behind the last one.
+/// Runs scenarios, each as a process, and gives the log back. A fault that is none of a file is given the place behind the
+/// last one.
 pub(crate) fn run_over<L: DecisionLog + Drop, W: Write>(
     alloc: Global,
     texts: &[Vec<u8>],
     log: L,
     with_trace: bool,
     out: &mut W,
-) -> Result<(), FileFault> {
+) -> Result<Option<L>, FileFault> {
     let scenarios = read_scenarios(alloc, texts)?;
     match run_scenarios(alloc, &scenarios, log, with_trace, out) {
-        Ok(()) => Ok(()),
+        Ok(left) => Ok(left),
         Err(fault) => Err(FileFault {
             file: texts.len(),
             fault,
@@ -39,15 +40,19 @@ pub(crate) fn run_over<L: DecisionLog + Drop, W: Write>(
     }
 }
 
-/// The same over files.
+/// The same over files, which are closed then. Tells why the run ended early, or whether the log could be closed.
 pub(crate) fn run_in_files<D: Disk + Drop, W: Write>(
     alloc: Global,
     texts: &[Vec<u8>],
     log: SqlLog<FileStore<D>>,
     with_trace: bool,
     out: &mut W,
-) -> Result<(), FileFault> {
-    run_over(alloc, texts, log, with_trace, out)
+) -> Result<Result<(), LogFault>, FileFault> {
+    match run_over(alloc, texts, log, with_trace, out) {
+        Ok(Some(left)) => Ok(close_in_files(left)),
+        Ok(None) => Ok(Ok(())),
+        Err(fault) => Err(fault),
+    }
 }
 
 /// Runs the jobs of a file over a log in files, which is closed then. Tells why the run ended early, or whether the log could be

@@ -3,13 +3,13 @@
 ghost use Rattle.std.specs.Prelude.{◌≡◌, ◌∷◌, []};
 ghost use Rattle.xa_base.specs.declared.step.Outcome.TheVariants as Outcomes;
 ghost use Rattle.xa_server.specs.Decisions.{PerformsAbandon, PerformsBegin, PerformsClaim, PerformsDecide, PerformsDone, PerformsSettle};
-ghost use Rattle.xa_server.specs.Rows.{LogsRows, owed_without};
+ghost use Rattle.xa_server.specs.Rows.{LogsRows};
 ghost use Rattle.xa_session.specs.Logging.{KeepsLog};
 ghost use Rattle.xa_session.specs.Session.{IsReady};
 
 use super::Server;
 use super::replies::{begun_reply, reply_of};
-use xa_base::{Branch, Gtrid, Outcome};
+use xa_base::{Gtrid, Outcome};
 use xa_log::DecisionLog;
 use xa_requests::Response;
 
@@ -85,19 +85,7 @@ impl<L: DecisionLog + Drop> Server<L> {
         ensures keeps { KeepsLog L.moment
             self.old.session.manager self.new.session.manager }
     {
-        match self.session.done_all(gtrids) {
-            Ok(()) => {
-                forgive(&mut self.owed, gtrids);
-                Response::Noted
-            }
-            Err(refusal) => Response::Refused(refusal),
-        }
+        let done = self.session.done_all(gtrids);
+        reply_of(done, Response::Noted)
     }
-}
-
-/// Takes the branches of these transactions out of what is owed.
-fn forgive(owed: &mut Vec<Branch>, gtrids: &[Gtrid])
-    ensures { owed.new.items ≡ owed_without gtrids.now owed.old.items }
-{
-    owed.retain(|branch| !gtrids.contains(&branch.gtrid));
 }

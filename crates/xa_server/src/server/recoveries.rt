@@ -1,15 +1,12 @@
 //! Requests of recovery.
 
-ghost use Rattle.std.specs.Prelude.{◌≡◌, IfOk};
 ghost use Rattle.xa_server.specs.Recoveries.{PerformsOwed, PerformsResolve, PerformsResolveOpen};
-ghost use Rattle.xa_server.specs.Rows.{owed_xids};
 ghost use Rattle.xa_session.specs.Logging.{KeepsLog};
 ghost use Rattle.xa_session.specs.Session.{IsReady};
 
 use super::Server;
 use super::replies::resolved_reply;
-use std::alloc::{AllocError, Global};
-use xa_base::{Branch, Refusal, Xid};
+use xa_base::Refusal;
 use xa_log::DecisionLog;
 use xa_requests::Response;
 
@@ -45,22 +42,9 @@ impl<L: DecisionLog + Drop> Server<L> {
         if rm >= self.session.rms() {
             return Response::Refused(Refusal::Limit);
         }
-        match owed_xids(self.alloc, rm, &self.owed) {
+        match self.session.owed(rm) {
             Ok(xids) => Response::Owed(xids),
-            Err(_) => Response::Refused(Refusal::Memory),
+            Err(refusal) => Response::Refused(refusal),
         }
     }
-}
-
-/// The identifiers of those of these branches that are at a resource manager.
-fn owed_xids(alloc: Global, rm: u32, owed: &[Branch]) -> Result<Vec<Xid>, AllocError>
-    ensures { IfOk result (λ xids. xids.items ≡ owed_xids rm owed.now) }
-{
-    let mut xids = Vec::new(alloc);
-    for branch in owed {
-        if branch.rm == rm {
-            xids.push(branch.xid())?;
-        }
-    }
-    Ok(xids)
 }

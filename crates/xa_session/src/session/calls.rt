@@ -33,9 +33,7 @@ impl<L: DecisionLog + Drop> Session<L> {
         self.check_line(thread, rm)?;
         let line = self.lines.line(thread, rm);
         line.check(call)?;
-        if let Some(refusal) = self.manager.may_issue(thread, rm, call) {
-            return Err(refusal);
-        }
+        self.manager.check_issue(thread, rm, call)?;
         line.check_room(1)
     }
 
@@ -61,7 +59,7 @@ impl<L: DecisionLog + Drop> Session<L> {
         let Ok(room) = self.lines.room(thread, rm) else {
             return Err(Refusal::Memory);
         };
-        self.manager.note_issued(thread, rm, call)?;
+        self.manager.note_issued(call)?;
         let _ = self.lines.line_mut(thread, rm).issue(call.copy(), room);
         self.happenings += 1;
         Ok(())

@@ -1,17 +1,20 @@
 //! The manager ends what a resource manager lists.
 
-ghost use Rattle.std.specs.Prelude.{◌≡◌};
+ghost use Rattle.std.specs.Prelude.{◌≡◌, IfErr, IfOk};
 ghost use Rattle.std.specs.Result.{result_err};
+ghost use Rattle.xa_base.specs.declared.refusal.Refusal.TheVariants as Refusals;
 ghost use Rattle.xa_session.specs.Logging.{KeepsLog};
 ghost use Rattle.xa_session.specs.Session.{IsReady, awaits_page, recovery_refusal};
 ghost use Rattle.xa_session.specs.Steps.{Resolves, ResolvesOpen};
+ghost use Rattle.xa_tm.specs.Calls.{book_in};
+ghost use Rattle.xa_tm.specs.Owed.{AreOwed};
 
 use super::Session;
 use crate::laws::books_have_headroom;
 use crate::session_line::SessionLine;
-use xa_base::{Call, Refusal};
+use xa_base::{Call, Refusal, Xid};
 use xa_log::DecisionLog;
-use xa_tm::recoveries_are_read;
+use xa_tm::laws::recoveries_are_read;
 
 impl<L: DecisionLog + Drop> Session<L> {
     /// Says why no recovery of so many calls may begin at a resource manager: the first reason that applies.
@@ -25,6 +28,14 @@ impl<L: DecisionLog + Drop> Session<L> {
             return Err(Refusal::Busy);
         }
         line.check_room(count)
+    }
+
+    /// The identifiers of the branches at a resource manager that rows of earlier incarnations wait for, in their order.
+    pub fn owed(&self, rm: u32) -> Result<Vec<Xid>, Refusal>
+        ensures ok { IfOk result (λ list. AreOwed (book_in self.now.manager) rm list.items) }
+        ensures err { IfErr result (λ n. n ≡ Refusals.Memory) }
+    {
+        self.manager.owed(rm)
     }
 
     /// Lets the calls wait, on the line of the first thread, that end what a resource manager listed last. Gives their

@@ -3,6 +3,7 @@ ghost use Rattle.std.specs.Prelude.{◌≡◌, true, false, codes, IfErr, IfOk, 
 ghost use Rattle.sqlite.specs.State.{HasCleanDisk};
 ghost use Rattle.sqlite.specs.Files.{file_state, over_files, IsBlankAs, IsOpened};
 ghost use Rattle.sqlite.specs.Start.{FindsIn};
+ghost use Rattle.sqlite_disk.specs.Memory.{memory_bytes};
 ghost use Rattle.sqlite_std_file.specs.File.{file_is_usable, IsFresh};
 ghost use Rattle.sqlite_wal.specs.Files.{image_at};
 ghost use Rattle.xa_log.specs.Contract.{IsStoreFault};
@@ -11,6 +12,7 @@ use crate::statements::store_fault;
 use sqlite::{Connection, FileFrom, FileStore, Files, Options, Start};
 use sqlite_disk::{Disk, Memory};
 use sqlite_std_file::OpenError;
+use std::alloc::Global;
 use std::fs;
 use std::hash::{BuildHasher, RandomState};
 use std::io::{self, ErrorKind};
@@ -115,17 +117,31 @@ pub(super) fn bytes_at(rt: &HostRuntime, path: &str) -> Result<Vec<u8>, LogFault
     }
 }
 
-/// A copy of that file in memory.
-fn copy_of(rt: &HostRuntime, path: &str) -> Result<Memory, LogFault>
+/// A file in memory that holds these bytes.
+fn file_of(alloc: Global, bytes: &[u8]) -> Result<Memory, LogFault>
     ensures usable { IfOk result (λ file. IsTrue (⟦<Memory as Disk>⟧.is_usable file)) }
+    ensures bytes { IfOk result (λ file. memory_bytes file ≡ bytes.now) }
     ensures cause { IfErr result IsStoreFault }
 {
-    let bytes = bytes_at(rt, path)?;
-    let mut file = Memory::new(rt.alloc());
-    match file.write_at(0, bytes.as_slice()) {
+    let mut file = Memory::new(alloc);
+    match file.write_at(0, bytes) {
         Ok(()) => Ok(file),
         Err(error) => Err(read_fault(error)),
     }
+}
+
+/// Files in memory that hold these bytes of a journal and of its database.
+fn files_of(alloc: Global, journal: &[u8], db: &[u8]) -> Result<Files<Memory>, LogFault>
+    ensures log { IfOk result (λ files. IsTrue (⟦<Memory as Disk>⟧.is_usable files.log)) }
+    ensures db { IfOk result (λ files. IsTrue (⟦<Memory as Disk>⟧.is_usable files.db)) }
+    ensures journal { IfOk result (λ files. memory_bytes files.log ≡ journal.now) }
+    ensures database { IfOk result (λ files. memory_bytes files.db ≡ db.now) }
+    ensures cause { IfErr result IsStoreFault }
+{
+    Ok(Files {
+        log: file_of(alloc, journal)?,
+        db: file_of(alloc, db)?,
+    })
 }
 
 /// Copies of the database file at a path and of its journal. As in SQLite, that lies where a link leads.
@@ -139,8 +155,7 @@ pub(super) fn copies_of(rt: &HostRuntime, path: &str) -> Result<Files<Memory>, L
         Err(error) => return Err(read_fault(error)),
     };
     let journal = format!(in rt.alloc(); "{}-wal", path.as_str())?;
-    Ok(Files {
-        log: copy_of(rt, journal.as_str())?,
-        db: copy_of(rt, path.as_str())?,
-    })
+    let journal = bytes_at(rt, journal.as_str())?;
+    let db = bytes_at(rt, path.as_str())?;
+    files_of(rt.alloc(), journal.as_slice(), db.as_slice())
 }

@@ -1,5 +1,6 @@
 //! Half of a log: a journal whose database file is lost. An open would make a new log over it, and lose what is decided.
-ghost use Rattle.std.specs.Prelude.{◌≡◌, IfErr};
+ghost use Rattle.std.specs.Prelude.{◌≡◌, true, nat_le, IfErr, IfOk, Ok};
+ghost use Rattle.std.specs.IoError.{error_kind};
 ghost use Rattle.xa_log.specs.Contract.{IsStoreFault};
 ghost use Rattle.xa_sql_log.specs.Halves.{is_rest};
 
@@ -7,7 +8,7 @@ use super::SqlLog;
 use super::files::{bytes_at, read_fault};
 use sqlite::{FileFrom, FileStore, Unknown};
 use std::fs;
-use std::io::ErrorKind;
+use std::io::{self, ErrorKind};
 use xa_log::LogFault;
 
 /// The most bytes of a journal beside a database file that is being made: its header, and a byte behind it that is set last.
@@ -29,14 +30,27 @@ fn is_rest(journal: &[u8]) -> bool
             && &journal[CHECKPOINTS..CHECKPOINTS + 4] != NO_CHECKPOINTS.as_slice())
 }
 
-/// Whether the file at a path is missing or empty. While a database is made in it, it may have one byte, a zero.
+/// Whether a file of this length is lost: it is missing or empty. While a database is made in it, it may have one byte, a zero.
+fn is_lost_by(len: io::Result<u64>) -> Result<bool, LogFault>
+    ensures found { IfOk len (λ len. result ≡ Ok (nat_le len 1)) }
+    ensures missing { IfErr len (λ error. error_kind error ≡ ErrorKind.NotFound →
+        result ≡ Ok true) }
+    ensures cause { IfErr result IsStoreFault }
+{
+    match len {
+        Ok(len) => Ok(len <= 1),
+        Err(error) if error.kind() == ErrorKind::NotFound => Ok(true),
+        Err(error) => Err(read_fault(error)),
+    }
+}
+
+/// Whether the file at a path is lost.
 fn is_lost(rt: &HostRuntime, path: &str) -> Result<bool, LogFault>
     ensures cause { IfErr result IsStoreFault }
 {
     match fs::metadata(rt, path) {
-        Ok(found) => Ok(found.len() <= 1),
-        Err(error) if error.kind() == ErrorKind::NotFound => Ok(true),
-        Err(error) => Err(read_fault(error)),
+        Ok(found) => is_lost_by(Ok(found.len())),
+        Err(error) => is_lost_by(Err(error)),
     }
 }
 

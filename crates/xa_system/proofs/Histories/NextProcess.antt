@@ -20,7 +20,7 @@ use Rattle.xa_system.specs.NextProcess.{FindsNewer, Leaves, held_among}
 use Rattle.xa_system.specs.Parts.{held_at_rm, origin_from}
 use Rattle.xa_system.specs.Steps.{AreCrashed}
 use Rattle.xa_system.specs.SystemView.{HasNewer}
-use Rattle.xa_system.proofs.Histories.Past.{crashed_from, newer_before}
+use Rattle.xa_system.proofs.Histories.CrashedRms.{crashed_from, newer_before}
 use Rattle.xa_tm.proofs.Log.NextRows.{next_records, next_rows}
 use Rattle.xa_rm.specs.Look.{Look}
 

@@ -3,17 +3,15 @@ use Rattle.std.proofs.Common.{◌≡◌, ◌≤◌, ◌<◌, ◌^◌, ◌⊎◌,
 use Rattle.std.specs.Prelude.{if◌then◌else◌, not, Option, Some, None, Contains, slice_get}
 use Rattle.std.specs.Option.{option_map, option_map_or}
 use Rattle.std.proofs.lemmas.Bool.{and_parts, cases_Bool, eqb-true, leb-true, ltb-true, true≢false}
-use Rattle.std.proofs.lemmas.Option.{slice_get-map, slice_get_cases, slice_get_within}
+use Rattle.std.proofs.lemmas.Option.{slice_get-map, slice_get_within}
 use Rattle.xa_base.specs.Branch.{branch_of_xid, xid_of_branch}
-use Rattle.xa_base.specs.HeldBranch.{HeldBranch, new_branch}
+use Rattle.xa_base.specs.HeldBranch.{new_branch}
 use Rattle.xa_base.specs.Recover.{IsInDoubtList}
-use Rattle.xa_base.specs.Standing.{fate_of, is_in_doubt}
+use Rattle.xa_base.specs.Standing.{is_in_doubt}
 use Rattle.xa_base.specs.StateTable.{broken}
 use Rattle.xa_base.specs.Xid.{Xid}
 use Rattle.xa_base.specs.declared.branch.Branch.{Branch}
-use Rattle.xa_base.specs.declared.state.Fate.TheVariants as Fates
-use Rattle.xa_base.specs.declared.state.Standing.{Standing}
-use Rattle.xa_base.specs.declared.state.Standing.TheVariants.{Unstarted, Active, Idle, Prepared, RollbackOnly, Completed, Committed, RolledBack, Lost, ReadOnly, Forgotten}
+use Rattle.xa_base.specs.declared.state.Standing.TheVariants.{Unstarted}
 use Rattle.xa_base.proofs.XidOrder.{xid_eq-same}
 use Rattle.xa_log.specs.Content.{last_number}
 use Rattle.xa_model.specs.Facts.{fits, held_of}
@@ -29,109 +27,13 @@ use Rattle.xa_tm.specs.Calls.{book_in}
 use Rattle.xa_tm.specs.Starting.{IsOld}
 use Rattle.xa_tm.specs.declared.manager.Manager.{Manager}
 use Rattle.xa_system.specs.Parts.{Sees, origin_of}
-use Rattle.xa_system.specs.SystemView.{AreClear, ArePast, HasNewer, IsOfPast, new_site}
+use Rattle.xa_system.specs.SystemView.{ArePast, HasNewer, IsOfPast, new_site}
 use Rattle.xa_tm.specs.Started.{IsStarted}
 use Rattle.xa_system.specs.RmInHistory.{BeginsOver, IsOwnAt}
-use Rattle.xa_system.specs.Steps.{AreCrashed, Crashes}
 use Rattle.xa_system.specs.declared.site.Site.{Site}
-use Rattle.xa_system.proofs.Histories.Start.{back_again, begun, never, none_listed}
+use Rattle.xa_system.proofs.Histories.Start.{back_again, begun}
+use Rattle.xa_system.proofs.Histories.ClearStart.{never, none_listed}
 use Rattle.xa_rm.specs.Look.{Look}
-
--- ** what a crash leaves
-
-broken_once : (f : Standing) → broken (broken f) ≡ broken f
-broken_once Active = refl
-broken_once Idle = refl
-broken_once RollbackOnly = refl
-broken_once Unstarted = refl
-broken_once Prepared = refl
-broken_once (Completed how) = refl
-broken_once Committed = refl
-broken_once RolledBack = refl
-broken_once Lost = refl
-broken_once ReadOnly = refl
-broken_once (Forgotten how) = refl
-
--- no crash makes a branch one that never was
-never_broken : (f : Standing) → fate_of (broken f) ≡ Fates.Unstarted → fate_of f ≡ Fates.Unstarted
-never_broken Active e = absurd (cc)
-never_broken Idle e = absurd (cc)
-never_broken RollbackOnly e = absurd (cc)
-never_broken Unstarted e = refl
-never_broken Prepared e = absurd (cc)
-never_broken (Completed how) e = absurd (cc)
-never_broken Committed e = absurd (cc)
-never_broken RolledBack e = absurd (cc)
-never_broken Lost e = absurd (cc)
-never_broken ReadOnly e = absurd (cc)
-never_broken (Forgotten how) e = absurd (cc)
-
-module _ {R : Type 0} (look : R → Look) (old new : List R) (crashes : AreCrashed look old new) where
-  -- each that is there now crashed
-  pub crashed_from : (r : ℕ) (rm : R) → slice_get new r ≡ Some rm → (before : R) × (slice_get old r ≡ Some before) × Crashes look before rm
-  crashed_from r rm at = elim ((slice_get_cases old r).1) [
-    | inl w ↦ (
-        let after = crashes.each r w.0 w.2 in
-        let same : Some after.0 ≡ Some rm = sym after.1 ∙ at in
-        let is : after.0 ≡ rm = cc in
-        (w.0, w.2, subst (Crashes look w.0) is after.2))
-    | inr w ↦ absurd (let within = slice_get_within new r rm at in omega (arith, within, crashes.count, w.0))
-  ]
-
-  -- so none of its branches is at work
-  pub all_still : (r : ℕ) (rm : R) → slice_get new r ≡ Some rm → (x : Xid) → broken ((look rm).held x).standing ≡ ((look rm).held x).standing
-  all_still r rm at x =
-      let from = crashed_from r rm at in
-      let is = ap (λ (h : HeldBranch). h.standing) (from.2.held x) in
-      ap broken is ∙ broken_once ((look from.0).held x).standing ∙ sym is
-
-  -- what is clear before is clear
-  pub still_clear : (incarnation : ℕ) → ArePast look incarnation new → AreClear look old → AreClear look new
-  still_clear incarnation past clear r rm at =
-      let from = crashed_from r rm at in
-      record {
-        no_branch = record {
-          unstarted = λ x own. ap (λ (h : HeldBranch). fate_of h.standing) (from.2.held x)
-              ∙ ap (λ f. fate_of (broken f)) (never ((look from.0).held x).standing ((clear r from.0 from.1).no_branch.unstarted x own));
-        };
-        listed = (past r rm at).listed;
-      }
-
-  -- a branch that is newer is so after
-  pub newer_after : (incarnation : ℕ) → HasNewer look incarnation old → HasNewer look incarnation new
-  newer_after incarnation newer =
-      let after = crashes.each newer.place newer.rm newer.there in
-      record {
-        place = newer.place;
-        rm = after.0;
-        there = after.1;
-        holds = record {
-          xid = newer.holds.xid;
-          newer = newer.holds.newer;
-          started = λ none. newer.holds.started
-              (never_broken ((look newer.rm).held newer.holds.xid).standing
-              (sym (ap (λ (h : HeldBranch). fate_of h.standing) (after.2.held newer.holds.xid)) ∙ none));
-        };
-      }
-
-  -- a branch that is newer was so before
-  pub newer_before : (incarnation : ℕ) → HasNewer look incarnation new → HasNewer look incarnation old
-  newer_before incarnation newer =
-      let from = crashed_from newer.place newer.rm newer.there in
-      record {
-        place = newer.place;
-        rm = from.0;
-        there = from.1;
-        holds = record {
-          xid = newer.holds.xid;
-          newer = newer.holds.newer;
-          started = λ none. newer.holds.started
-              (ap (λ (h : HeldBranch). fate_of h.standing) (from.2.held newer.holds.xid)
-              ∙ ap (λ f. fate_of (broken f)) (never ((look from.0).held newer.holds.xid).standing none));
-        };
-      }
-
--- ** the start
 
 module _ {R L : Type 0} (see : Sees R L) (threads : ℕ) (rms : List R) (manager : Manager L) (new : IsStarted threads (length rms) manager)
     (few : length rms ≤ 8) (past : ArePast see.look (book_in manager).incarnation rms)

@@ -7,6 +7,7 @@ use Rattle.std.specs.Map.{keys_of}
 use Rattle.std.specs.Ordering.{eq_by_cmp}
 use Rattle.std.proofs.lemmas.Cmp.{eq_by_cmp_equiv}
 use Rattle.std.proofs.lemmas.Bool.{or_right}
+use Rattle.std.proofs.lemmas.List.{map_more, take_all}
 use Rattle.xa_base.specs.Branch.{IsBranch, branch_cmp, branch_eq, xid_of_branch}
 use Rattle.xa_model.specs.Facts.{branches, fate, started}
 use Rattle.xa_model.specs.Replies.History.{history, read}
@@ -17,7 +18,7 @@ use Rattle.xa_base.specs.declared.call.Call.TheVariants as Calls
 use Rattle.xa_base.specs.declared.state.Fate.{Fate}
 use Rattle.xa_base.proofs.BranchOrder.{branches_total}
 use Rattle.xa_base.proofs.BytesOrder.{branch_order}
-use Rattle.xa_base.proofs.Orders.{same_branch}
+use Rattle.xa_base.proofs.Orders.{same_branch, branch_tie}
 use Rattle.xa_log.specs.KeySet.{contains-from_list, contains-items, from_list, items}
 use Rattle.xa_system.specs.Parts.{Sees}
 use Rattle.xa_system.specs.Report.{IsReported}
@@ -30,7 +31,6 @@ use Rattle.xa_system.proofs.Histories.SystemView.{origin_is}
 use Rattle.xa_system.proofs.Histories.StartedBranches.{all_within, none_started}
 use Rattle.xa_tm.specs.Book.{Book}
 use Rattle.xa_tm.specs.Calls.{book_in}
-use Rattle.xa_tm.proofs.Maps.Transactions.{branch_tie}
 
 -- a branch with what became of it
 abbrev pub reported : Trace → Branch → Xid × Fate
@@ -71,21 +71,6 @@ goes g (c ∷ cs) b is = by (eq_by_cmp branch_cmp b c) refl is (goes g cs b)
 
 -- ** a loop over a list
 
-take_more : (xs : List Branch) (i : ℕ) (d : Branch) → i < length xs → take (suc i) xs ≡ take i xs ++ slice_index_or xs i d ∷ []
-take_more [] i d low = absurd (omega (arith, low))
-take_more (x ∷ xs) zero d low = refl
-take_more (x ∷ xs) (suc i) d low = ap (λ l. x ∷ l) (take_more xs i d (omega (arith, low)))
-
-map_more : (g : Branch → Xid × Fate) (xs : List Branch) (b : Branch) → map g (xs ++ b ∷ []) ≡ map g xs ++ g b ∷ []
-map_more g [] b = refl
-map_more g (x ∷ xs) b = ap (λ l. g x ∷ l) (map_more g xs b)
-
-take_all : (xs : List Branch) (i : ℕ) → length xs ≤ i → take i xs ≡ xs
-take_all [] zero past = refl
-take_all [] (suc i) past = refl
-take_all (x ∷ xs) zero past = absurd (omega (arith, past))
-take_all (x ∷ xs) (suc i) past = ap (λ l. x ∷ l) (take_all xs i (omega (arith, past)))
-
 at_place : (P : Branch → Type 0) (xs : List Branch) (i : ℕ) (d : Branch) → AllByRecursion P xs → i < length xs → P (slice_index_or xs i d)
 at_place P [] i d all low = absurd (omega (arith, low))
 at_place P (x ∷ xs) zero d all low = all.0
@@ -96,10 +81,8 @@ pub one_more : (tr : Trace) (xs : List Branch) (i : ℕ) (d : Branch) (old new :
     → old ≡ map (reported tr) (take i xs) → new ≡ old ++ (x, f) ∷ [] → x ≡ xid_of_branch (slice_index_or xs i d) → f ≡ fate tr (slice_index_or xs i d)
     → new ≡ map (reported tr) (take (i + 1) xs)
 one_more tr xs i d old new x f low so is names ends =
-    let next : suc i ≡ i + 1 = omega arith in
     is ∙ ap (λ l. l ++ (x, f) ∷ []) so ∙ ap (λ (p : Xid × Fate). map (reported tr) (take i xs) ++ p ∷ []) (λ k. (names k, ends k))
-    ∙ sym (map_more (reported tr) (take i xs) (slice_index_or xs i d)) ∙ ap (map (reported tr)) (sym (take_more xs i d low))
-    ∙ ap (λ n. map (reported tr) (take n xs)) next
+    ∙ sym (map_more (reported tr) xs i d low)
 
 -- ** the order of identifiers is that of branches
 
@@ -187,7 +170,7 @@ module _ {R L : Type 0} (see : Sees R (Slot L)) (moment : L → Moment) where
       → IsWhole s xs i list
       → list ≡ map (reported (trace_of a)) bs
   whole a s view xs bs i list same all =
-      all.1 ∙ ap (map (reported (trace_in see.look s))) (take_all xs i all.0 ∙ same) ∙ ap (λ v. map (reported (trace_in see.look v)) bs) (sym view)
+      all.1 ∙ ap (map (reported (trace_in see.look s))) (take_all i xs all.0 ∙ same) ∙ ap (λ v. map (reported (trace_in see.look v)) bs) (sym view)
 
   pub own_at : (a : Inside R L) → IsSound see moment a → (s : SystemView R L) → system_view_of a ≡ s → (xs bs : List Branch) (i : ℕ) (d : Branch) → xs ≡ bs
       → bs ≡ items (book_in a.parts.manager).known → i < length xs → IsOwnIn s (slice_index_or xs i d)

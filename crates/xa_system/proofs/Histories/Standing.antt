@@ -1,37 +1,35 @@
 -- Where the parts stand after one event more.
-use Rattle.std.proofs.Common.{◌≡◌, ◌≢◌, ◌<◌, ◌≤◌, inl, inr, ℕ, zero, suc, Bool, true, false, get_or, List, [], ◌∷◌, set, refl, sym, ap, ◌∙◌, subst, arith, Vec, Global}
-use Rattle.std.specs.Prelude.{◌&&◌, Some, None, slice_get, vec_len, nat_eq, nat_lt}
+use Rattle.std.proofs.Common.{◌≡◌, ◌≢◌, ◌<◌, ◌≤◌, inl, inr, ℕ, zero, suc, true, get_or, List, [], ◌∷◌, set, refl, sym, ap, ◌∙◌, subst, arith, Vec, Global}
+use Rattle.std.specs.Prelude.{◌&&◌, Some, slice_get, vec_len, nat_lt}
 use Rattle.std.specs.Vec.{with_item}
-use Rattle.std.proofs.lemmas.Bool.{and_parts, ltb-true, ne_eqb}
+use Rattle.std.proofs.lemmas.Bool.{and_parts, ltb-true}
 use Rattle.std.proofs.lemmas.Bool.Decides.{eqb_tells}
 use Rattle.std.proofs.lemmas.Option.{slice_get_read}
 use Rattle.xa_log.specs.Content.{last_number}
 use Rattle.xa_model.specs.Facts as facts
 use Rattle.xa_base.specs.Xid.{Xid}
-use Rattle.xa_model.specs.Replies.Allowed.{Allowed, Allowed.By_rule, Allowed.For_memory, MayLackMemory}
+use Rattle.xa_model.specs.Replies.Allowed.{Allowed}
 use Rattle.xa_model.specs.Replies.History.{reply_of, step_of}
 use Rattle.xa_model.specs.Facts.{rm_up}
 use Rattle.xa_model.specs.Replies.ReadBack.{StepHasXids}
-use Rattle.xa_model.specs.Replies.Rules.{has_rm, has_thread, must_refuse}
+use Rattle.xa_model.specs.Replies.Rules.{has_rm, has_thread}
 use Rattle.xa_model.specs.Replies.Steps.{Reply as KnownReply, Step as Known, happened}
-use Rattle.xa_model.specs.Trace.{Happening, Happening.Nothing, Trace, Trace.Then, line, line_eq}
+use Rattle.xa_model.specs.Trace.{Happening, Happening.Nothing, Trace, Trace.Then, line}
 use Rattle.xa_base.specs.declared.refusal.Refusal.{Refusal}
 use Rattle.xa_base.specs.declared.refusal.Refusal.TheVariants as Refusals
 use Rattle.xa_base.specs.declared.reply.Reply.{Reply}
 use Rattle.xa_base.specs.declared.reply.Reply.TheVariants as Replies
-use Rattle.xa_model.proofs.Replies.Guards.{IsForced, forced}
 use Rattle.xa_base.specs.declared.step.Step.{Step}
-use Rattle.xa_line.specs.Grid.{Grid, HasLine, IsWhole, line_at, with_line}
+use Rattle.xa_line.specs.Grid.{HasLine, IsWhole, line_at, with_line}
 use Rattle.xa_line.specs.Traffic.{Traffic}
-use Rattle.xa_line.proofs.GridLaws.{line_at-with_line_other_rm, line_at-with_line_other_thread, line_at-with_line_same}
 use Rattle.xa_tm.specs.declared.manager.Manager.{Manager}
 use Rattle.xa_tm.specs.Calls.{book_in, log_in}
 use Rattle.xa_line.specs.Histories.{LineStands}
+use Rattle.xa_line.proofs.ChangedLines.{line_stays}
 use Rattle.xa_system.specs.LogInHistory.{LogFollows}
-use Rattle.xa_system.specs.Parts.{GoesOn, IsUnchanged, OneMore, Sees, SiteStands, Stands, origin_of}
+use Rattle.xa_system.specs.Parts.{IsUnchanged, OneMore, Sees, SiteStands, Stands, origin_of}
 use Rattle.xa_system.specs.RmInHistory.{RmStands}
 use Rattle.xa_system.specs.Steps.{IsSame}
-use Rattle.xa_system.proofs.LineLaws.{line_stays}
 use Rattle.xa_system.proofs.Log.Changes.{log_same_book}
 use Rattle.xa_system.specs.declared.parts.Parts.{Parts}
 use Rattle.xa_system.specs.declared.site.Site.{Site}
@@ -53,48 +51,6 @@ get_set_other (x ∷ xs) zero zero y other = absurd (other refl)
 get_set_other (x ∷ xs) zero (suc j) y other = refl
 get_set_other (x ∷ xs) (suc i) zero y other = refl
 get_set_other (x ∷ xs) (suc i) (suc j) y other = get_set_other xs i j y (λ e. other (ap suc e))
-
--- ** lines
-
-pub lines_apart_rm : (t r u s : ℕ) → s ≢ r → line_eq (line t r) (line u s) ≡ false
-lines_apart_rm t r u s apart = by_thread (nat_eq t u)
-  where
-    by_thread : (b : Bool) → (b && nat_eq r s) ≡ false
-    by_thread true = ne_eqb r s (λ e. apart (sym e))
-    by_thread false = refl
-
-pub lines_apart_thread : (t r u s : ℕ) → u ≢ t → line_eq (line t r) (line u s) ≡ false
-lines_apart_thread t r u s apart = ap (λ b. b && nat_eq r s) (ne_eqb t u (λ e. apart (sym e)))
-
--- one line changed, and the others stay
-pub lines_with : (tr : Trace) (g : Grid) (t r : ℕ) (x : Traffic) → IsWhole g → HasLine g t r → LineStands tr (line t r) x
-    → ((u s : ℕ) → HasLine g u s → line_eq (line t r) (line u s) ≡ false → LineStands tr (line u s) (line_at g u s))
-    → (u s : ℕ) → HasLine g u s → LineStands tr (line u s) (line_at (with_line g t r x) u s)
-lines_with tr g t r x whole has here others u s has_u =
-    elim (eqb_tells s r) [
-      | inr apart ↦ subst (LineStands tr (line u s)) (sym (line_at-with_line_other_rm g t r u s x has.1 has_u.1 apart.1))
-          (others u s has_u (lines_apart_rm t r u s apart.1))
-      | inl same_rm ↦ (elim (eqb_tells u t) [
-        | inr apart ↦ subst (LineStands tr (line u s)) (sym (line_at-with_line_other_thread g t r u s x has.1 has_u.1 apart.1))
-            (others u s has_u (lines_apart_thread t r u s apart.1))
-        | inl same_thread ↦ subst (λ n. LineStands tr (line n s) (line_at (with_line g t r x) n s)) (sym same_thread.1)
-            (subst (λ n. LineStands tr (line t n) (line_at (with_line g t r x) t n)) (sym same_rm.1)
-            (subst (LineStands tr (line t r)) (sym (line_at-with_line_same g t r x whole has)) here))
-      ])
-    ]
-
--- one line changed into what it was
-pub lines_same : (g : Grid) (t r : ℕ) (x : Traffic) → IsWhole g → HasLine g t r → x ≡ line_at g t r → (u s : ℕ) → HasLine g u s
-    → line_at (with_line g t r x) u s ≡ line_at g u s
-lines_same g t r x whole has same u s has_u =
-    elim (eqb_tells s r) [
-      | inr apart ↦ line_at-with_line_other_rm g t r u s x has.1 has_u.1 apart.1
-      | inl same_rm ↦ (elim (eqb_tells u t) [
-        | inr apart ↦ line_at-with_line_other_thread g t r u s x has.1 has_u.1 apart.1
-        | inl same_thread ↦ subst (λ n. line_at (with_line g t r x) n s ≡ line_at g n s) (sym same_thread.1)
-            (subst (λ n. line_at (with_line g t r x) t n ≡ line_at g t n) (sym same_rm.1) (line_at-with_line_same g t r x whole has ∙ same))
-      ])
-    ]
 
 -- nothing happens in a refused step, unless the log failed
 pub refused_as_nothing : (n : Refusal) (s : Known) → n ≢ Refusals.LogFault → happened s (Replies.Refused n) ≡ Nothing
@@ -271,40 +227,6 @@ module _ {R L : Type 0} (see : Sees R L) where
     unchanged = λ q. record { sites = λ r before at. (before, at, refl, stays_same see.look before.rm); lines = λ t r has. refl; book = same; log = log };
   }
 
-  -- ** refusals
-
-  -- a refusal that is forced comes to nothing
-  comes_to_nothing : (n : Refusal) (s : Known) → IsForced n → happened s (Replies.Refused n) ≡ Nothing
-  comes_to_nothing Refusals.LogFault s f = absurd f
-  comes_to_nothing n s f = refl
-
-  -- a refused step goes on with nothing changed
-  pub refused_goes : (step : Step Xid) (parts : Parts R L) (reply : Reply Xid) (n : Refusal) → StepHasXids step
-      → reply ≡ Replies.Refused n → ((tr : Trace) → Stands see tr parts → must_refuse tr (step_of step) ≡ Some n)
-      → GoesOn see step reply parts parts
-  refused_goes step parts reply n has is forced_so tr stands few =
-      let why = forced_so tr stands in
-      goes_as tr step reply (Replies.Refused n) parts parts stands has (ap reply_of is) (By_rule n why refl)
-      (subst (λ e. Follows tr e parts parts) (sym (comes_to_nothing n (step_of step) (forced tr (step_of step) n why)))
-      (nothing_follows tr parts parts.manager stands refl refl))
-
-  -- so does one that memory was refused to
-  pub lacking_goes : (tr : Trace) (step : Step Xid) (parts : Parts R L) (manager : Manager L) (reply : Reply Xid)
-      → Stands see tr parts → StepHasXids step → reply ≡ Replies.Refused Refusals.Memory → must_refuse tr (step_of step) ≡ None
-      → MayLackMemory tr (step_of step)
-      → book_in manager ≡ book_in parts.manager → log_in manager ≡ log_in parts.manager
-      → OneMore see step reply tr parts (record {
-        alloc = parts.alloc;
-        start = parts.start;
-        began = parts.began;
-        sites = parts.sites;
-        lines = parts.lines;
-        manager = manager;
-      })
-  lacking_goes tr step parts manager reply stands has is none may same log =
-      goes_as tr step reply (Replies.Refused Refusals.Memory) parts _ stands has (ap reply_of is) (For_memory none may refl)
-      (nothing_follows tr parts manager stands same log)
-
   -- the site that was read
   pub site_read : (tr : Trace) (parts : Parts R L) (t r : ℕ) (site : Site R) → Stands see tr parts
       → (nat_lt t parts.lines.threads && nat_lt r parts.lines.rms) ≡ true → site ≡ get_or parts.sites.items r site
@@ -313,26 +235,3 @@ module _ {R L : Type 0} (see : Sees R L) where
       let within : r < parts.lines.rms = ltb-true r parts.lines.rms (and_parts _ _ e).1 in
       let count : vec_len parts.sites ≡ parts.lines.rms = stands.count ∙ sym stands.rms in
       slice_get_read parts.sites.items (vec_len parts.sites) r site parts.sites.ok.0 (omega (arith, within, count)) is
-
-  -- a refusal that is forced, where the manager holds what it held
-  pub rule_goes : (tr : Trace) (step : Step Xid) (reply : Reply Xid) (parts : Parts R L) (manager : Manager L) (n : Refusal)
-      → Stands see tr parts → StepHasXids step → reply ≡ Replies.Refused n → must_refuse tr (step_of step) ≡ Some n
-      → book_in manager ≡ book_in parts.manager → log_in manager ≡ log_in parts.manager
-      → OneMore see step reply tr parts (record {
-        alloc = parts.alloc;
-        start = parts.start;
-        began = parts.began;
-        sites = parts.sites;
-        lines = parts.lines;
-        manager = manager;
-      })
-  rule_goes tr step reply parts manager n stands has is why same log =
-      goes_as tr step reply (Replies.Refused n) parts _ stands has (ap reply_of is) (By_rule n why refl)
-      (subst (λ e. Follows tr e parts (record {
-        alloc = parts.alloc;
-        start = parts.start;
-        began = parts.began;
-        sites = parts.sites;
-        lines = parts.lines;
-        manager = manager;
-      })) (sym (comes_to_nothing n (step_of step) (forced tr (step_of step) n why))) (nothing_follows tr parts manager stands same log))

@@ -1,85 +1,52 @@
 -- A new system stands where its history begins.
-use Rattle.std.proofs.Common.{◌≡◌, ◌≤◌, ◌<◌, ◌+◌, ◌⊎◌, inl, inr, ℕ, Bool, true, false, List, [], ◌∷◌, map, length, refl, sym, ap, subst, ◌∙◌, arith}
-use Rattle.std.specs.Prelude.{if◌then◌else◌, Option, Some, None, IsSomeAnd, Contains, slice_get, vec_len}
-use Rattle.std.specs.List.Sorted.{IsStrictlySortedBy}
+use Rattle.std.proofs.Common.{◌≡◌, ◌<◌, inl, ℕ, Bool, true, false, List, [], ◌∷◌, map, length, refl, sym, ap, subst, ◌∙◌, arith}
+use Rattle.std.specs.Prelude.{if◌then◌else◌, Option, Some, None, IsSomeAnd, slice_get, vec_len}
 use Rattle.std.specs.Option.{option_map, option_map_or}
-use Rattle.std.specs.Ordering.{int_eq}
 use Rattle.std.specs.Vec.{vec_capacity}
-use Rattle.std.proofs.lemmas.Bool.{cases_Bool, cases_lt, true≢false}
 use Rattle.std.proofs.lemmas.List.{length-map}
 use Rattle.std.proofs.lemmas.Option.{slice_get-map, slice_get_within}
-use Rattle.xa_tm.proofs.History.Limits.{old_start_is_right}
-use Rattle.xa_tm.specs.Starting.{IsOld, book_at_start}
+use Rattle.xa_tm.specs.Starting.{book_at_start}
 use Rattle.xa_tm.specs.Limits.{HasRoomForRun}
-use Rattle.xa_tm.specs.Release.{RowsAreOwn}
-use Rattle.xa_log.specs.Content.{with_bump}
-use Rattle.xa_log.specs.Contract.{Makes, Moment}
+use Rattle.xa_log.specs.Contract.{Moment}
 use Rattle.xa_system.specs.declared.parts.Parts.{Parts}
 use Rattle.xa_model.specs.Facts.{fits, held_of}
-use Rattle.xa_model.specs.Facts.Distinct.{ApartRows}
 use Rattle.xa_model.proofs.ProcessLemmas.Leaving.{branch_fits, fits_branch}
 use Rattle.xa_base.specs.declared.branch.Branch.{Branch}
-use Rattle.xa_tm.specs.Begins.{records_begun, rows_begun}
 use Rattle.xa_tm.specs.Book.{Book, book_of}
-use Rattle.xa_tm.specs.Slots.{content_in, honest_in, last_out, log_held, moment_in, order_in, slot_moment}
 use Rattle.xa_tm.specs.declared.slot.Slot.{Slot}
 use Rattle.xa_tm.specs.LedgerBook as books
-use Rattle.xa_base.specs.Branch.{IsBranch, branch_of_xid, own_format, xid_of_branch}
+use Rattle.xa_base.specs.Branch.{IsBranch, xid_of_branch}
 use Rattle.xa_base.specs.HeldBranch.{HeldBranch, new_branch}
 use Rattle.xa_model.specs.Replies.History.{history}
 use Rattle.xa_model.specs.Facts.InDoubt.{xid_of_name}
-use Rattle.xa_base.specs.Recover.{IsInDoubtList}
-use Rattle.xa_model.specs.Protocol.{OldOrigin, RightOrigin}
-use Rattle.xa_model.proofs.Invariant.Preservation.{run_of}
+use Rattle.xa_model.specs.Protocol.{OldOrigin}
 use Rattle.xa_base.specs.Scan.{Scan, Scan.Behind, Scan.NotOpen}
-use Rattle.xa_base.specs.Standing.{fate_of, is_in_doubt}
+use Rattle.xa_base.specs.Standing.{is_in_doubt}
 use Rattle.xa_base.specs.StateTable.{broken}
 use Rattle.xa_model.specs.Trace.{Name.Foreign, Origin, Trace.From, line}
 use Rattle.xa_base.specs.Xid.{Xid}
-use Rattle.xa_base.specs.declared.state.Fate.TheVariants as Fates
-use Rattle.xa_base.specs.declared.state.Standing.{Standing}
-use Rattle.xa_base.specs.declared.state.Standing.TheVariants.{Unstarted, Active, Idle, Prepared, RollbackOnly, Completed, Committed, RolledBack, Lost, ReadOnly, Forgotten}
-use Rattle.xa_base.proofs.BranchLemmas.{own_format_of}
 use Rattle.xa_line.specs.Grid.{Grid, line_at}
 use Rattle.xa_line.proofs.GridLaws.{line_at-new_grid, whole-new_grid}
 use Rattle.xa_tm.specs.declared.manager.Manager.{Manager}
 use Rattle.xa_tm.specs.Calls.{book_in, log_in}
 use Rattle.xa_tm.specs.BookAndLog.{IsTied}
 use Rattle.xa_system.specs.LogInHistory.{IsDurable, StartsOver}
-use Rattle.xa_system.proofs.Log.Changes.{left_up}
 use Rattle.xa_system.specs.declared.system.System.TheInside.{Inside}
 use Rattle.xa_system.proofs.Log.Laws.{near_restarts, starts_over}
 use Rattle.xa_line.specs.Histories.{LineStands}
 use Rattle.xa_system.specs.Parts.{Sees, SiteStands, Stands, origin_of}
 use Rattle.xa_system.specs.declared.system.TheConstants.{EVENT_LIMIT}
-use Rattle.xa_system.specs.SystemView.{AreClear, AreNew, IsSound, IsUnclear, MayRestart, new_site, observes_parts, system_view_of, start_of}
+use Rattle.xa_system.specs.SystemView.{AreNew, IsSound, MayRestart, new_site, observes_parts, system_view_of, start_of}
 use Rattle.xa_tm.specs.Started.{IsStarted, IsStartedOver}
+use Rattle.xa_tm.proofs.Log.Leaves.{left_up}
 use Rattle.xa_system.specs.Trace.{IsElsewhere, IsUnknown}
 use Rattle.xa_system.specs.RmInHistory.{BeginsOver, RmStands, scan_by}
 use Rattle.xa_system.specs.declared.site.Site.{Site}
-use Rattle.xa_rm.specs.Look.{Look}
-
--- ** branches that never were
-
-pub never : (f : Standing) → fate_of f ≡ Fates.Unstarted → f ≡ Unstarted
-never Unstarted e = refl
-never Active e = absurd (cc)
-never Idle e = absurd (cc)
-never Prepared e = absurd (cc)
-never RollbackOnly e = absurd (cc)
-never (Completed how) e = absurd (cc)
-never Committed e = absurd (cc)
-never RolledBack e = absurd (cc)
-never Lost e = absurd (cc)
-never ReadOnly e = absurd (cc)
-never (Forgotten how) e = absurd (cc)
 
 scan_back : (s : Scan Xid) → s ≡ scan_by xid_of_name (scan_by (λ x. Foreign x) s)
 scan_back NotOpen = refl
 scan_back (Behind None) = refl
 scan_back (Behind (Some x)) = refl
-
--- ** the start
 
 mapped_site : {R : Type 0} (rms : List R) (r : ℕ) (site : Site R) → slice_get (map new_site rms) r ≡ Some site
     → (rm : R) × (slice_get rms r ≡ Some rm) × (new_site rm ≡ site)
@@ -150,126 +117,6 @@ module _ {R L : Type 0} (see : Sees R L) (threads : ℕ) (rms : List R) (manager
     scan = scan_back ((see.look rm).scan 0)
         ∙ ap (λ o. scan_by xid_of_name (option_map_or (λ q. scan_by (λ x. Foreign x) ((see.look q).scan 0)) o NotOpen)) (sym at);
   }
-
--- ** a start where nothing of this manager's was
-
-pub none_listed : IsInDoubtList (λ x. new_branch) []
-unfolding IsStrictlySortedBy
-none_listed = record { in_order = tt; listed = λ x. (λ in_none. absurd (omega (arith, in_none.1)), λ e. absurd (cc)) }
-
-module _ {R L : Type 0} (see : Sees R L) (threads : ℕ) (rms : List R) (manager : Manager L) (clear : AreClear see.look rms)
-    (new : IsStarted threads (length rms) manager) where
-  none_started : (r : ℕ) (x : Xid) → x.format ≡ own_format → ((origin_of see threads rms manager).held r x).standing ≡ Unstarted
-  none_started r x e = from_option (slice_get rms r) refl
-    where
-      from_option : (o : Option R) → slice_get rms r ≡ o → (option_map_or (λ rm. (see.look rm).held) o (λ x. new_branch) x).standing ≡ Unstarted
-      from_option None at = refl
-      from_option (Some rm) at = never _ ((clear r rm at).no_branch.unstarted x e)
-
-  all_listed : (r : ℕ) → IsInDoubtList ((origin_of see threads rms manager).held r) ((origin_of see threads rms manager).in_doubt r)
-  all_listed r = from_option (slice_get rms r) refl
-    where
-      from_option : (o : Option R) → slice_get rms r ≡ o
-          → IsInDoubtList (option_map_or (λ rm. (see.look rm).held) o (λ x. new_branch)) (option_map_or (λ rm. (see.look rm).in_doubt) o [])
-      from_option None at = none_listed
-      from_option (Some rm) at = (clear r rm at).listed
-
-  foreign_listed : (r : ℕ) (x : Xid) → Contains ((origin_of see threads rms manager).in_doubt r) x → branch_of_xid x ≡ None
-  foreign_listed r x listed = by_format (cases_Bool (int_eq x.format own_format))
-    where
-      by_format : (int_eq x.format own_format ≡ true) ⊎ (int_eq x.format own_format ≡ false) → branch_of_xid x ≡ None
-      by_format (inr other) = rw other refl
-      by_format (inl own) =
-          let doubt = ((all_listed r).listed x).0 listed in
-          absurd (true≢false (sym doubt ∙ ap is_in_doubt (none_started r x (own_format_of x own))))
-
-  none_there : (b : Branch) → (held_of (origin_of see threads rms manager) b).standing ≡ Unstarted
-  none_there b = by_fit (fits b)
-    where
-      by_fit : (t : Bool)
-          → (if t then (origin_of see threads rms manager).held b.rm (xid_of_branch b) else new_branch).standing ≡ Unstarted
-      by_fit true = none_started b.rm (xid_of_branch b) refl
-      by_fit false = refl
-
-  pub starts_clear : BeginsOver (origin_of see threads rms manager)
-  starts_clear = record {
-    still = λ b. subst (λ s. broken s ≡ s) (sym (none_there b)) refl;
-    numbers = λ b. inl (none_there b);
-    listed = all_listed;
-    home = λ r x listed. inr (foreign_listed r x listed);
-  }
-
-  pub starts_right : RightOrigin (origin_of see threads rms manager)
-  starts_right =
-      old_start_is_right (origin_of see threads rms manager) (subst IsOld (begun see threads rms manager new) new.old) none_there foreign_listed
-
-  pub starts_old : OldOrigin (origin_of see threads rms manager)
-  starts_old = run_of (From (origin_of see threads rms manager)) starts_right
-
--- ** a manager whose log may be taken out
-
--- two moments tell the same
-pub record IsLike (a b : Moment) : Type 0 where
-  pub content : a.content ≡ b.content
-  pub order : b.is_in_order → a.is_in_order
-  pub honest : a.is_honest → b.is_honest
-  pub faults : a.fault_count ≡ b.fault_count
-
--- the manager and its log tell what they told before
-pub record IsInSlot {L : Type 0} (place : Slot L → Moment) (moment : L → Moment) (started : Manager L) (manager : Manager (Slot L)) : Type 0 where
-  pub book : book_in manager ≡ book_in started
-  pub rows : rows_begun manager ≡ rows_begun started
-  pub records : records_begun manager ≡ records_begun started
-  pub log : IsLike (place (log_in manager)) (moment (log_in started))
-
-pub started_in_slot : {L : Type 0} (place : Slot L → Moment) (moment : L → Moment) (threads rms : ℕ) (started : Manager L) (manager : Manager (Slot L))
-    → IsInSlot place moment started manager → IsStarted threads rms started → IsStarted threads rms manager
-started_in_slot place moment threads rms started manager at new = record {
-  book = λ o begins. at.book ∙ new.book o (record {
-    threads_are = begins.threads_are;
-    rms_are = begins.rms_are;
-    incarnation = begins.incarnation ∙ ap (λ (k : Book). k.incarnation) at.book;
-    rows = begins.rows ∙ at.rows;
-    records = begins.records ∙ at.records;
-  });
-  old = subst IsOld (sym at.book) new.old;
-  own = subst RowsAreOwn (sym at.book) new.own;
-  apart = subst ApartRows (sym at.rows) new.apart;
-  sound = subst books.IsSound (sym at.book) new.sound;
-  room = subst HasRoomForRun (sym at.book) new.room;
-}
-
-pub in_slot : {L : Type 0} (moment : L → Moment) (started : Manager L) (manager : Manager (Slot L)) → log_held (log_in manager) ≡ Some (log_in started)
-    → book_in manager ≡ book_in started → rows_begun manager ≡ rows_begun started → records_begun manager ≡ records_begun started
-    → IsInSlot (slot_moment moment) moment started manager
-in_slot moment started manager held book rows records = record {
-  book = book;
-  rows = rows;
-  records = records;
-  log = record {
-    content = ap (content_in (λ l. (moment l).content)) held;
-    order = λ h. subst (order_in (λ l. (moment l).is_in_order)) (sym held) h;
-    honest = λ h. subst (honest_in (λ l. (moment l).is_honest) (last_out (log_in manager))) held h;
-    faults = ap (λ o. (moment_in moment (last_out (log_in manager)) o (log_in manager).faults).fault_count) held;
-  };
-}
-
--- so it was started over the log that was handed in
-pub over_in_slot : {L : Type 0} (place : Slot L → Moment) (moment : L → Moment) (threads rms : ℕ) (started : Manager L)
-    (manager : Manager (Slot L)) (handed : Moment)
-    → IsInSlot place moment started manager → IsStartedOver moment threads rms handed started → IsStartedOver place threads rms handed manager
-over_in_slot place moment threads rms started manager handed at over = record {
-  order = λ h. at.log.order (over.order h);
-  honest = λ h. over.honest (at.log.honest h);
-  tied = λ near order honest. subst (IsTied near (book_in manager)) (sym at.log.content)
-      (subst (λ k. IsTied near k (moment (log_in started)).content) (sym at.book) (over.tied near order (at.log.honest honest)));
-  book = λ order honest. subst (λ o. IsSomeAnd o (λ c. book_in manager ≡ book_at_start threads rms c)) (sym at.log.content)
-      (subst (λ k. IsSomeAnd (moment (log_in started)).content (λ c. k ≡ book_at_start threads rms c)) (sym at.book)
-      (over.book order (at.log.honest honest)));
-  raised = λ order honest. subst (Makes with_bump handed.content) (sym at.log.content) (over.raised order (at.log.honest honest));
-  past = λ order honest. over.past order (at.log.honest honest);
-  faults = at.log.faults ∙ over.faults;
-}
 
 module _ {R L : Type 0} (see : Sees R (Slot L)) (moment : L → Moment) (threads : ℕ) (rms : List R) (parts : Parts R (Slot L))
     (first : AreNew threads rms parts) (new : IsStarted threads (length rms) parts.manager) where
@@ -384,28 +231,3 @@ module _ {R L : Type 0} (see : Sees R (Slot L)) (moment : L → Moment) (threads
         (subst (λ k. IsTied true k (see.moment (log_in a.parts.manager)).content) sound.stands.book
         (subst (λ (p : Parts R (Slot L)). IsTied true (book_in p.manager) (see.moment (log_in p.manager)).content) (sym same)
         (over.tied true order now)))
-
--- ** the look at the resource managers
-
--- it holds of those so far, and of one more
-module _ {X : Type 0} (P : ℕ → X → Type 0) where
-  abbrev pub HoldsBelow : List X → ℕ → Type 0
-  HoldsBelow xs n = (r : ℕ) (x : X) → slice_get xs r ≡ Some x → r < n → P r x
-
-  pub below_more : (xs : List X) (n : ℕ) (x : X) → HoldsBelow xs n → slice_get xs n ≡ Some x → P n x → HoldsBelow xs (n + 1)
-  below_more xs n x below at is r y there lt = elim (cases_lt r n) [
-    | inl less ↦ below r y there less
-    | inr more ↦ (
-        let same : n ≡ r = omega arith in
-        let one : Some x ≡ Some y = sym at ∙ ap (slice_get xs) same ∙ there in
-        let is_same : x ≡ y = cc in
-        subst (λ k. P k y) same (subst (P n) is_same is))
-  ]
-
-  pub below_all : (xs : List X) (n : ℕ) → length xs ≤ n → HoldsBelow xs n → (r : ℕ) (x : X) → slice_get xs r ≡ Some x → P r x
-  below_all xs n past below r x at = below r x at (let within = slice_get_within xs r x at in omega (arith, within, past))
-
-module _ {R : Type 0} (look : R → Look) where
-  -- what is clear isn't unclear
-  pub not_both : (rms : List R) → AreClear look rms → IsUnclear look rms → ⊥
-  not_both rms clear un = un.holds.started ((clear un.place un.rm un.there).no_branch.unstarted un.holds.xid un.holds.format)

@@ -1,7 +1,7 @@
 -- Each branch that was started is on a line that the system has, and each that a script is of is at a resource manager that it has.
 use Rattle.std.proofs.Common.{◌≡◌, ◌<◌, Bool, true, false, refl, sym, subst, List, [], ◌∷◌}
 use Rattle.std.specs.Prelude.{not, ◌&&◌, ◌||◌, if◌then◌else◌, nat_eq, nat_lt, Option, Some, None}
-use Rattle.std.proofs.lemmas.Bool.{and_parts, eqb-true, ltb-true, or_parts}
+use Rattle.std.proofs.lemmas.Bool.{and_parts, eqb-true, ltb-true, not-false, or_parts}
 use Rattle.xa_base.specs.Branch.{branch_eq}
 use Rattle.xa_model.specs.Replies.Allowed.{AllAllowed, Allowed, Allowed.By_rule, Allowed.As_value, Allowed.For_memory, Allowed.For_log, Hears, Hears.Hears_none, Hears.Hears_one, IsValue, Restarts, Restarts.Restarts_as, Takes, Takes.Takes_none, Takes.Takes_one, with_steps}
 use Rattle.xa_base.specs.Standing.{is_in_doubt}
@@ -41,10 +41,6 @@ both : (a b : Bool) → (not a || (true && not b)) ≡ false → (a ≡ true) ×
 both true true e = (refl, refl)
 both true false e = absurd (cc)
 both false b e = absurd (cc)
-
-not_false : (t : Bool) → not t ≡ false → t ≡ true
-not_false true e = refl
-not_false false e = absurd (cc)
 
 start_within : (tr : Trace) (t r : _) (b : Branch) → (nat_lt t (origin tr).threads && nat_lt r (origin tr).rms) ≡ true
     → (not (nat_eq r b.rm) || (true && not (nat_eq t b.thread))) ≡ false → IsWithin (origin tr) b
@@ -106,11 +102,11 @@ value_within tr (Steps.Hear t n) r e v = hears_within (origin tr) tr t n r v
 value_within tr (Steps.Vote n (Ours b) x) r e v =
     let s : Step = Steps.Vote n (Ours b) x in
     by (origin tr) s r _ v (script_within tr n b (there (is_there (view_of tr) s) _ e)
-    (not_false _ (or_parts (not (nat_eq b.rm n)) (is_in_doubt (standing tr b)) (none_applies tr s Refusals.Script e)).0))
+    (not-false _ (or_parts (not (nat_eq b.rm n)) (is_in_doubt (standing tr b)) (none_applies tr s Refusals.Script e)).0))
 value_within tr (Steps.Vote n (Foreign y) x) r e v = by (origin tr) (Steps.Vote n (Foreign y) x) r _ v tt
 value_within tr (Steps.Busy n (Ours b) x) r e v =
     let s : Step = Steps.Busy n (Ours b) x in
-    by (origin tr) s r _ v (script_within tr n b (there (is_there (view_of tr) s) _ e) (not_false _ (none_applies tr s Refusals.Script e)))
+    by (origin tr) s r _ v (script_within tr n b (there (is_there (view_of tr) s) _ e) (not-false _ (none_applies tr s Refusals.Script e)))
 value_within tr (Steps.Busy n (Foreign y) x) r e v = by (origin tr) (Steps.Busy n (Foreign y) x) r _ v tt
 value_within tr (Steps.Heuristic n (Ours b) how) r e v = by (origin tr) (Steps.Heuristic n (Ours b) how) r _ v tt
 value_within tr (Steps.Heuristic n (Foreign y) how) r e v = by (origin tr) (Steps.Heuristic n (Foreign y) how) r _ v tt

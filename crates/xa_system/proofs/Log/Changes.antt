@@ -12,12 +12,12 @@ use Rattle.xa_base.specs.declared.refusal.Refusal.TheVariants as Refusals
 use Rattle.xa_log.specs.Content.{Content, with_bump}
 use Rattle.xa_log.specs.Contract.{LeavesAlso, MayMake, Moment, one_more_fault}
 use Rattle.xa_model.proofs.AgreementLemmas.Distinct.{doubt_is_new_to}
-use Rattle.xa_tm.proofs.Log.Leaves.{left_by_a_fault, left_by_a_restart}
-use Rattle.xa_tm.proofs.Log.Ties.{tied_same, up_content}
+use Rattle.xa_tm.proofs.Log.Leaves.{left_by_a_fault, left_by_a_restart, left_up, tied_down}
+use Rattle.xa_tm.proofs.Log.Ties.{tied_same}
 use Rattle.xa_tm.specs.Book.{Book, Doubt.NoDoubt, after, book_after, book_of, doubt_of, failed_restarts_after}
 use Rattle.xa_tm.specs.Calls.{AsksFor, book_in, faults_by, log_in}
 use Rattle.xa_tm.specs.Slots.{durable_in, last_out, log_held, slot_moment}
-use Rattle.xa_tm.specs.BookAndLog.{IsChangeOf, IsTied, IsTiedDown, IsTiedUp, TiedBy, changed_by}
+use Rattle.xa_tm.specs.BookAndLog.{IsChangeOf, IsTied, IsTiedDown, TiedBy, changed_by}
 use Rattle.xa_tm.specs.declared.manager.Manager.{Manager}
 use Rattle.xa_system.specs.LogInHistory.{AreTied, IsDurable, LogFollows, MayHaveFailed, change_in, count_after}
 use Rattle.xa_tm.proofs.Log.TellsRows.{change_of, made_is}
@@ -51,20 +51,12 @@ pub left_of_some : (near : Bool) (k : Book) (held : Option Content) (may : Conte
 left_of_some near k None may P some tied durable d left = absurd some
 left_of_some near k (Some c) may P some tied durable d left = subst (λ x. IsTied near k (Some x)) (sym (durable c d refl left)) tied
 
--- so it is while the manager is up
-pub left_up : (near : Bool) (k : Book) (held : Option Content) (may : Content → Type 0) → k.up ≡ true → IsTied near k held
-    → ((c d : Content) → held ≡ Some c → may d → d ≡ c) → AreTied near k may
-left_up near k held may up tied durable = left_of_some near k held may (IsTiedUp k) (up_content near k held up tied) tied durable
-
 -- a place for a log is as durable as that
 pub slot_durable : {L : Type 0} (moment : L → Moment) → IsDurable moment → IsDurable (slot_moment moment)
 slot_durable moment durable slot c d order is left =
     durable_in (λ l. (moment l).content) (λ l. (moment l).is_in_order) (λ l. (moment l).may_leave) durable (log_held slot) (last_out slot) c d order is left
 
 -- while it is down
-tied_down : (near : Bool) (k : Book) (d : Content) → k.up ≡ false → IsTiedDown near k d → IsTied near k (Some d)
-tied_down near k d down t = subst (λ u. TiedBy u near k (Some d)) (sym down) (λ c is. subst (IsTiedDown near k) (let same : d ≡ c = cc in same) t)
-
 down_tied : (near : Bool) (k : Book) (d : Content) → k.up ≡ false → IsTied near k (Some d) → IsTiedDown near k d
 down_tied near k d down tied = let t : TiedBy false near k (Some d) = subst (λ u. TiedBy u near k (Some d)) down tied in t d refl
 

@@ -12,27 +12,12 @@ use Rattle.xa_base.specs.Standing.{is_in_doubt}
 use Rattle.xa_base.specs.StateTable.{broken}
 use Rattle.xa_model.specs.Trace.{Happening, Happening.Crashed, Trace, Trace.Then}
 use Rattle.xa_base.specs.declared.branch.Branch.{Branch}
-use Rattle.xa_base.specs.declared.state.Standing.{Standing}
-use Rattle.xa_base.specs.declared.state.Standing.TheVariants.{Unstarted, Active, Idle, Prepared, RollbackOnly, Completed, Committed, RolledBack, Lost, ReadOnly, Forgotten}
 use Rattle.xa_base.specs.declared.step.Part.TheVariants as Parts
-use Rattle.xa_base.proofs.StateLemmas.{broken_in_doubt}
+use Rattle.xa_base.proofs.StateLemmas.{broken_in_doubt, broken_twice}
 use Rattle.xa_rm.proofs.TableLemmas.{broken_by_in_doubt}
 use Rattle.xa_system.specs.RmInHistory.{IsHeldAs, RmStands, scan_by}
 use Rattle.xa_system.specs.Steps.{Breaks, Crashes}
 use Rattle.xa_rm.specs.Look.{Look}
-
-broken_twice : (f : Standing) → broken (broken f) ≡ broken f
-broken_twice Unstarted = refl
-broken_twice Active = refl
-broken_twice Idle = refl
-broken_twice Prepared = refl
-broken_twice RollbackOnly = refl
-broken_twice (Completed how) = refl
-broken_twice Committed = refl
-broken_twice RolledBack = refl
-broken_twice Lost = refl
-broken_twice ReadOnly = refl
-broken_twice (Forgotten how) = refl
 
 -- ** all lines
 

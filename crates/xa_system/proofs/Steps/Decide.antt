@@ -20,6 +20,7 @@ use Rattle.xa_base.specs.declared.refusal.Refusal.TheVariants as Refusals
 use Rattle.xa_base.specs.declared.reply.Reply.{Reply}
 use Rattle.xa_base.specs.declared.reply.Reply.TheVariants as Replies
 use Rattle.xa_base.specs.declared.step.Step.{Step}
+use Rattle.xa_base.proofs.Options.{err_is}
 use Rattle.xa_model.proofs.Replies.Guards.{IsForced, forced}
 use Rattle.xa_model.proofs.Replies.Replies.{fault_right}
 use Rattle.xa_model.specs.Protocol.{Right}
@@ -31,10 +32,10 @@ use Rattle.xa_system.specs.Parts.{GoesOn, OneMore, Sees}
 use Rattle.xa_system.specs.Steps.{AllCrash}
 use Rattle.xa_system.specs.declared.parts.Parts.{Parts}
 use Rattle.xa_system.specs.declared.site.Site.{Site}
-use Rattle.xa_system.proofs.Steps.Hear.{fail_goes}
+use Rattle.xa_system.proofs.Steps.FailedLog.{fail_goes}
 use Rattle.xa_system.proofs.Log.Changes.{LogUndone, fault_is_change, log_failing}
-use Rattle.xa_system.proofs.Steps.OfManager.{err_is, judged, not_fault}
-use Rattle.xa_system.proofs.Histories.Standing.{lacking_goes, rule_goes}
+use Rattle.xa_system.proofs.Steps.OfManager.{judged, not_fault}
+use Rattle.xa_system.proofs.Histories.RefusedSteps.{lacking_goes, rule_goes}
 use Rattle.xa_tm.specs.Book.{Book, Doubt, doubt_of_happening, book_after, book_of, failed_restarts_after}
 use Rattle.xa_tm.specs.Refusing.{managers_refusal, refusal_in}
 

@@ -1,23 +1,18 @@
--- An answer that is heard, and steps in which the log failed.
-use Rattle.std.proofs.Common.{◌≡◌, ◌≢◌, ◌<◌, ◌⊎◌, inl, inr, ℕ, Bool, true, false, List, [], ◌∷◌, map, refl, sym, ap, ◌∙◌, subst, Vec, Global}
-use Rattle.std.specs.Prelude.{◌&&◌, Result, Ok, Option, Some, None, IsSomeAnd, slice_get, nat_lt, IsSome}
+-- A Hear leads to where the history with it leaves the parts.
+use Rattle.std.proofs.Common.{◌≡◌, ◌≢◌, ◌<◌, ◌⊎◌, inl, inr, ℕ, Bool, true, false, refl, sym, ap, ◌∙◌, subst, Vec, Global}
+use Rattle.std.specs.Prelude.{◌&&◌, Result, Ok, Some, None, slice_get, nat_lt}
 use Rattle.std.specs.Option.{option_map}
-use Rattle.std.proofs.lemmas.Bool.{true≢false}
-use Rattle.std.proofs.lemmas.List.{append-nil}
-use Rattle.xa_base.specs.declared.code.Code.{Code}
-use Rattle.xa_base.specs.StateTable.{asks_of, Kind, Kind.Start, Kind.Join, Kind.End, Kind.Prepare, Kind.Commit, Kind.OnePhase, Kind.Rollback, Kind.Forget}
 use Rattle.xa_base.specs.Xid.{Xid}
-use Rattle.xa_model.specs.Replies.Allowed.{Allowed, Allowed.As_value, Allowed.For_log, Hears.Hears_none, Hears.Hears_one, NeedsLog}
+use Rattle.xa_model.specs.Replies.Allowed.{Allowed, Allowed.As_value, Hears.Hears_none, Hears.Hears_one}
 use Rattle.xa_model.specs.Facts as facts
 use Rattle.xa_base.specs.Call.{map_call}
 use Rattle.xa_base.specs.Answer.{map_answer}
-use Rattle.xa_model.specs.Replies.Steps.{accepted, happened, log_failed, if_ours}
-use Rattle.xa_model.specs.Replies.History.{reply_of, step_of, name_of}
+use Rattle.xa_model.specs.Replies.Steps.{accepted, happened, if_ours}
+use Rattle.xa_model.specs.Replies.History.{reply_of, name_of}
 use Rattle.xa_model.specs.Facts.{rm_up}
-use Rattle.xa_model.specs.Replies.ReadBack.{StepHasXids}
 use Rattle.xa_model.specs.Protocol.{Right}
 use Rattle.xa_model.specs.Replies.Rules.{must_refuse}
-use Rattle.xa_model.specs.Trace.{Answer, Call, Fault, Fault.InHear, Happening.Failed, Happening.Heard, Line, Trace, Trace.Then, line, Name.Ours, Name}
+use Rattle.xa_model.specs.Trace.{Call, Fault.InHear, Happening.Failed, Happening.Heard, Trace, Trace.Then, line, Name.Ours}
 use Rattle.xa_base.specs.declared.code.How.{How}
 use Rattle.xa_base.specs.declared.answer.Answer as Given
 use Rattle.xa_base.specs.declared.answer.Answer.TheVariants as Answers
@@ -27,32 +22,27 @@ use Rattle.xa_base.specs.declared.refusal.Refusal.{Refusal}
 use Rattle.xa_base.specs.declared.refusal.Refusal.TheVariants as Refusals
 use Rattle.xa_base.specs.declared.reply.Reply.{Reply}
 use Rattle.xa_base.specs.declared.reply.Reply.TheVariants as Replies
-use Rattle.xa_base.specs.declared.step.Step.{Step}
 use Rattle.xa_base.specs.declared.step.Step.TheVariants as Steps
 use Rattle.xa_base.proofs.Options.{some_is}
 use Rattle.xa_base.proofs.Lists.{none_first}
-use Rattle.xa_model.proofs.Keys.{line_eq-refl}
 use Rattle.xa_model.proofs.Replies.Replies.{allowed_right, accepted_ours}
 use Rattle.xa_line.specs.Grid.{Grid, HasLine, line_at, new_grid, with_line}
-use Rattle.xa_line.specs.Traffic.{Flow, PassesOn, Traffic, all_of, answered, calls_issued}
-use Rattle.xa_line.proofs.FlowLaws.{all_of-PassesOn}
-use Rattle.xa_line.proofs.GridLaws.{line_at-new_grid, whole-new_grid, whole-with_line}
+use Rattle.xa_line.specs.Traffic.{PassesOn, Traffic}
+use Rattle.xa_line.proofs.GridLaws.{whole-with_line}
 use Rattle.xa_tm.specs.declared.manager.Manager.{Manager}
-use Rattle.xa_tm.specs.Answering.{FitsRecord, IsAnswerTo, MakesRecord}
+use Rattle.xa_tm.specs.Answering.{FitsRecord, IsAnswerTo}
 use Rattle.xa_tm.specs.Calls.{book_in, log_in, FailsBy}
 use Rattle.xa_tm.specs.Limits.{happenings}
-use Rattle.xa_tm.specs.News.{Asked, heuristic_end, news_by, news_for}
 use Rattle.xa_tm.proofs.History.NextAnswer.{answer_is_code, record_fits}
-use Rattle.xa_line.specs.Histories.{LineStands, known as known_call, known_answered}
+use Rattle.xa_line.specs.Histories.{known as known_call}
+use Rattle.xa_line.proofs.ChangedLines.{line_stays, lines_with}
 use Rattle.xa_system.specs.Parts.{OneMore, Sees, Stands}
 use Rattle.xa_system.specs.declared.system.TheConstants.{EVENT_LIMIT}
 use Rattle.xa_system.specs.Steps.{AllCrash}
 use Rattle.xa_system.specs.declared.parts.Parts.{Parts}
 use Rattle.xa_system.specs.declared.site.Site.{Site}
-use Rattle.xa_system.proofs.Rms.BrokenLines.{BreaksAll}
-use Rattle.xa_system.proofs.Steps.Crash.{all_stand, line_why}
-use Rattle.xa_line.proofs.TrafficLaws.{line_goes_on, line_renewed}
-use Rattle.xa_system.proofs.LineLaws.{line_stays, no_waiting_answer, waiting_answer}
+use Rattle.xa_system.proofs.Steps.Crash.{line_why}
+use Rattle.xa_system.proofs.LineLaws.{no_waiting_answer, waiting_answer}
 use Rattle.xa_system.proofs.OnBranch.{ours_back}
 use Rattle.xa_tm.proofs.Log.TellsRows.{made_is}
 use Rattle.xa_log.specs.Content.{Content}
@@ -60,119 +50,14 @@ use Rattle.xa_tm.specs.BookAndLog.{changed_by}
 use Rattle.xa_system.proofs.Log.Changes.{LogCalled, LogUndone, fault_is_change, log_done, log_failing}
 use Rattle.xa_system.specs.LogInHistory.{LogFollows, after_change}
 use Rattle.xa_system.proofs.Steps.OfManager.{book_then, up_where, within}
-use Rattle.xa_system.proofs.Histories.Standing.{Follows, IsEvent, goes_as, has_line, lacking_goes, lines_with, nothing_follows, site_stays, there_is}
-use Rattle.xa_tm.specs.Book.{Book, after, doubt_of_happening, book_after, doubt_of}
-
-failed_breaks : (tr : Trace) (f : Fault) → facts.up tr ≡ true → (r : ℕ) → BreaksAll tr (Failed f) r
-failed_breaks tr f up r = record { standing = λ b at. rw up refl; vote = λ b at. refl; retries = λ b at. refl; closed = rw up refl }
-
--- a call and its answer, as they are known
-known_pair : (o : Option Call) (a : Answer) (q : Call × Answer) → option_map (λ c. (c, a)) o ≡ Some q → (o ≡ Some q.0) × (q ≡ (q.0, a))
-known_pair (Some c) a q e = let same : (c, a) ≡ q = some_is _ _ e in (ap (λ p. Some p.0) same, ap (λ p. (q.0, p.1)) (sym same))
-known_pair None a q e = absurd (cc)
-
--- the first of a list that a look found
-pub first_is : {A : Type 0} (xs : List A) (x : A) → Some x ≡ slice_get xs 0 → (rest : List A) × (xs ≡ x ∷ rest)
-first_is [] x e = absurd (cc)
-first_is (y ∷ ys) x e = (ys, ap (λ z. z ∷ ys) (some_is y x (sym e)))
-
--- what is said of the first of a list, where that is at hand
-pub some_and : {A : Type 0} (P : A → Type 0) (o : Option A) (x : A) → Some x ≡ o → IsSomeAnd o P → P x
-some_and P (Some y) x e h = subst P (some_is y x (sym e)) h
-some_and P None x e h = absurd (cc)
-
-heard_line : (tr : Trace) (l : Line) (p : Asking.Call Xid × Given.Answer Xid) (c : Call) (a : Answer) (before after : Traffic)
-    → LineStands tr l before → known_answered p ≡ Some (c, a)
-    → PassesOn before.answers p after.answers → after.calls ≡ before.calls → LineStands (Then tr (Heard l c a)) l after
-heard_line tr l p c a before after stands is passes same =
-    line_goes_on tr (Heard l c a) l before after [] [] (p ∷ []) stands refl
-    (ap all_of same ∙ sym (append-nil (calls_issued before))) refl
-    (all_of-PassesOn before.answers p after.answers passes ∙ sym (append-nil (answered before))) refl
-    passes.through (rw (is, line_eq-refl l) refl)
-    (ap (λ (f : Flow (Asking.Call Xid)). f.gone) same ∙ stands.each_answered ∙ ap (map (λ q. q.0))
-    (sym (all_of-PassesOn before.answers p after.answers passes)))
-
--- an answer that makes a record is a heuristic code
-ended_alone : (code : Code) → IsSome (heuristic_end code) → (how : How) × (code ≡ Codes.Heuristic how)
-ended_alone (Codes.Heuristic how) h = (how, refl)
-ended_alone (Codes.RolledBack why) h = absurd (true≢false (sym h))
-ended_alone Codes.Retry h = absurd (true≢false (sym h))
-ended_alone Codes.ReadOnly h = absurd (true≢false (sym h))
-ended_alone Codes.Success h = absurd (true≢false (sym h))
-ended_alone Codes.RmError h = absurd (true≢false (sym h))
-ended_alone Codes.NotAnXid h = absurd (true≢false (sym h))
-ended_alone Codes.Invalid h = absurd (true≢false (sym h))
-ended_alone Codes.Protocol h = absurd (true≢false (sym h))
-ended_alone Codes.RmFailed h = absurd (true≢false (sym h))
-ended_alone Codes.DuplicateXid h = absurd (true≢false (sym h))
-
-heuristic_code : (asks : Option (Kind × Name)) (code : Code) → IsSome (news_for asks code).how → (how : How) × (code ≡ Codes.Heuristic how)
-heuristic_code None code h = absurd (true≢false (sym h))
-heuristic_code (Some (kind, x)) code h = by_kind kind h
-  where
-    by_kind : (k : Kind) → IsSome (news_by k code).how → (how : How) × (code ≡ Codes.Heuristic how)
-    by_kind Start e = absurd (true≢false (sym e))
-    by_kind Join e = absurd (true≢false (sym e))
-    by_kind (End fail) e = absurd (true≢false (sym e))
-    by_kind Prepare e = absurd (true≢false (sym e))
-    by_kind Commit e = ended_alone code e
-    by_kind OnePhase e = ended_alone code e
-    by_kind Rollback e = ended_alone code e
-    by_kind Forget e = absurd (true≢false (sym e))
-
-pub recorded_answer : (asked : Asked) (a : Given.Answer Xid) → MakesRecord asked (map_answer name_of a) → (how : How) × (a ≡ Answers.Ret (Codes.Heuristic how))
-recorded_answer asked (Answers.Ret code) m = let w = heuristic_code (asks_of asked) code m in (w.0, ap Answers.Ret w.1)
-recorded_answer asked (Answers.Page xids) m = absurd m
+use Rattle.xa_system.proofs.Histories.Standing.{Follows, IsEvent, goes_as, has_line, nothing_follows, site_stays, there_is, up_is}
+use Rattle.xa_system.proofs.Histories.RefusedSteps.{lacking_goes}
+use Rattle.xa_tm.specs.Book.{Book, after, book_after, doubt_of}
+use Rattle.xa_system.proofs.Steps.HeardAnswers.{first_is, heard_line, known_pair}
+use Rattle.xa_system.proofs.Steps.FailedLog.{fail_goes}
 
 module _ {R L : Type 0} (see : Sees R L) where
-  -- a step in which the log failed: all lines break
-  pub fail_goes : (tr : Trace) (step : Step Xid) (f : Fault) (reply : Reply Xid) (parts : Parts R L) (sites : Vec (Site R) Global)
-      (lines : Grid) (manager : Manager L) → Stands see tr parts → StepHasXids step → reply ≡ Replies.Refused Refusals.LogFault
-      → must_refuse tr (step_of step) ≡ None → NeedsLog tr (step_of step) → log_failed (step_of step) ≡ Failed f → facts.up tr ≡ true
-      → AllCrash see.look parts.sites.items sites.items → lines ≡ new_grid parts.lines.threads parts.lines.rms
-      → book_in manager ≡ book_after (book_in parts.manager) (doubt_of_happening tr (Failed f)) (Failed f)
-      → LogFollows see.moment tr (Failed f) parts.manager manager
-      → OneMore see step reply tr parts (record {
-        alloc = parts.alloc;
-        start = parts.start;
-        began = parts.began;
-        sites = sites;
-        lines = lines;
-        manager = manager;
-      })
-  fail_goes tr step f reply parts sites lines manager stands has is none uses fault up did renewed book log =
-      let allowed : Allowed tr (step_of step) (Replies.Refused Refusals.LogFault) = For_log none uses refl in
-      let e = Failed f in
-      goes_as see tr step reply (Replies.Refused Refusals.LogFault) parts _ stands has (ap reply_of is) allowed
-      (subst (λ h. Follows see tr h parts (record {
-        alloc = parts.alloc;
-        start = parts.start;
-        began = parts.began;
-        sites = sites;
-        lines = lines;
-        manager = manager;
-      })) (sym fault) (record {
-        start = refl;
-        began = refl;
-        threads = ap (λ (g : Grid). g.threads) renewed;
-        rms = ap (λ (g : Grid). g.rms) renewed;
-        fits = stands.fits;
-        whole = rw renewed (whole-new_grid parts.lines.threads parts.lines.rms);
-        count = sites.ok.0 ∙ did.count ∙ sym parts.sites.ok.0;
-        sites = all_stand see tr e parts.sites sites (failed_breaks tr f up) (λ r. refl) did stands.sites;
-        lines =
-            λ t r has. subst (LineStands (Then tr e) (line t r))
-            (sym (ap (λ g. line_at g t r) renewed ∙ line_at-new_grid parts.lines.threads parts.lines.rms t r)) (line_renewed tr e (line t r) up);
-        book = book_then see tr e parts manager stands
-            (subst (Right tr) fault (allowed_right tr (step_of step) (Replies.Refused Refusals.LogFault) allowed)) book;
-        log = log;
-        unchanged = λ q. absurd (subst IsEvent q tt);
-      }))
-
   -- ** refusals of a Hear
-
-  pub book_up : (tr : Trace) (parts : Parts R L) → Stands see tr parts → (book_in parts.manager).up ≡ facts.up tr
-  book_up tr parts stands = ap (λ (k : Book). k.up) stands.book
 
   pub hear_limit : (tr : Trace) (parts : Parts R L) (t r : ℕ) → (nat_lt t parts.lines.threads && nat_lt r parts.lines.rms) ≡ false
       → Stands see tr parts → must_refuse tr (Steps.Hear t r) ≡ Some Refusals.Limit
@@ -182,7 +67,7 @@ module _ {R L : Type 0} (see : Sees R L) where
       → (nat_lt t parts.lines.threads && nat_lt r parts.lines.rms) ≡ true → (book_in parts.manager).up ≡ up → rm_up tr r ≡ rm_is_up → Stands see tr parts
       → must_refuse tr (Steps.Hear t r) ≡ line_why true up rm_is_up
   hear_found tr parts t r up rm_is_up e is_up is_rm stands =
-      λ i. line_why ((sym (there_is see tr parts t r stands) ∙ e) i) ((sym (book_up tr parts stands) ∙ is_up) i) (is_rm i)
+      λ i. line_why ((sym (there_is see tr parts t r stands) ∙ e) i) ((sym (up_is see tr parts stands) ∙ is_up) i) (is_rm i)
 
   -- ** a Hear that isn't refused
 
@@ -294,7 +179,7 @@ module _ {R L : Type 0} (see : Sees R L) where
         (record { alloc = parts.alloc; start = parts.start; began = parts.began; sites = sites; lines = lines; manager = manager })
     hear_failed call a how sites lines manager reply first is code up did renewed book log =
         let k = heard_known call a first in
-        fail_goes tr (Steps.Hear t r) (InHear (line t r)) reply parts sites lines manager stands tt is none
+        fail_goes see tr (Steps.Hear t r) (InHear (line t r)) reply parts sites lines manager stands tt is none
         (k.0, how, k.2 ∙ ap (λ b. Some (k.0, map_answer name_of b)) code) refl up did renewed
         (book k.0 k.1 ∙ ap (λ d. book_after (book_in parts.manager) (doubt_of d) (Failed (InHear (line t r)))) (sym (ap facts.record_of_next k.2))) log
 

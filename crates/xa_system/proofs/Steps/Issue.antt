@@ -38,10 +38,10 @@ use Rattle.xa_system.specs.Parts.{OneMore, Sees, Stands}
 use Rattle.xa_system.specs.declared.parts.Parts.{Parts}
 use Rattle.xa_system.specs.declared.site.Site.{Site}
 use Rattle.xa_line.proofs.TrafficLaws.{as_many_calls, line_goes_on}
-use Rattle.xa_system.proofs.LineLaws.{line_stays}
+use Rattle.xa_line.proofs.ChangedLines.{line_stays, lines_with}
 use Rattle.xa_system.proofs.Log.Changes.{log_kept, tied_issued}
 use Rattle.xa_system.proofs.Steps.OfManager.{book_then}
-use Rattle.xa_system.proofs.Histories.Standing.{Follows, IsEvent, goes_as, has_line, lines_with, site_stays, there_is, up_is}
+use Rattle.xa_system.proofs.Histories.Standing.{Follows, IsEvent, goes_as, has_line, site_stays, there_is, up_is}
 use Rattle.xa_tm.specs.Book.{after, book_of}
 use Rattle.xa_tm.specs.Refusing.{at_rest, refusal_in}
 use Rattle.xa_tm.proofs.History.Refusals.{view_is}

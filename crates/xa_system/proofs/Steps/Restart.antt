@@ -23,7 +23,8 @@ use Rattle.xa_tm.specs.Calls.{book_in, FailsBy}
 use Rattle.xa_system.specs.Parts.{OneMore, Sees, Stands}
 use Rattle.xa_system.specs.declared.parts.Parts.{Parts}
 use Rattle.xa_system.proofs.Steps.OfManager.{IsOwn, book_then, own_follows, with_manager}
-use Rattle.xa_system.proofs.Histories.Standing.{goes_as, lacking_goes, rule_goes, up_is}
+use Rattle.xa_system.proofs.Histories.Standing.{goes_as, up_is}
+use Rattle.xa_system.proofs.Histories.RefusedSteps.{lacking_goes, rule_goes}
 use Rattle.xa_tm.specs.Book.{Doubt.NoDoubt, after, book_of}
 use Rattle.xa_tm.specs.BookAndLog.{IsFound}
 use Rattle.xa_tm.proofs.History.Finds.{found_is_allowed}

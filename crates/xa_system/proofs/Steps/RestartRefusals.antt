@@ -9,7 +9,7 @@ use Rattle.xa_base.specs.declared.reply.Reply.TheVariants as Replies
 use Rattle.xa_base.specs.declared.step.Side.TheVariants as Sides
 use Rattle.xa_base.specs.declared.step.Step.TheVariants as Steps
 use Rattle.xa_log.specs.Content.{Content}
-use Rattle.xa_log.specs.declared.fail_plan.LogCall.{LogCall}
+use Rattle.xa_log.specs.declared.decision_log.LogCall.{LogCall}
 use Rattle.xa_log.specs.declared.log_fault.LogFault.{LogFault}
 use Rattle.xa_model.specs.Facts as facts
 use Rattle.xa_model.specs.Replies.Allowed.{Allowed, Allowed.As_value, Allowed.By_rule, Allowed.For_log, Allowed.For_memory, Restarts, Restarts.Restarts_as, failed_restarts}

@@ -1,24 +1,17 @@
 -- A Take leads to where the history with it leaves the parts.
-use Rattle.std.proofs.Common.{◌≡◌, ◌≢◌, ◌-◌, ℕ, Bool, true, false, List, [], ◌∷◌, ◌++◌, map, length, refl, sym, ap, ◌∙◌, subst, arith, append_assoc}
-use Rattle.std.specs.Prelude.{◌&&◌, not, if◌then◌else◌, Option, Some, None, slice_get, nat_eq, nat_le, nat_lt}
-use Rattle.std.proofs.lemmas.Bool.{ne_eqb}
+use Rattle.std.proofs.Common.{◌≡◌, ◌≢◌, ◌-◌, ℕ, Bool, true, false, [], ◌∷◌, ◌++◌, map, length, refl, sym, ap, ◌∙◌, subst, arith, append_assoc}
+use Rattle.std.specs.Prelude.{◌&&◌, not, if◌then◌else◌, Option, Some, None, slice_get, nat_le, nat_lt}
 use Rattle.std.proofs.lemmas.Bool.Decides.{nat_tests}
 use Rattle.std.proofs.lemmas.List.{append-nil, map-append}
-use Rattle.xa_base.specs.declared.call.Call.TheVariants as Calls
-use Rattle.xa_base.specs.StateTable.{on}
-use Rattle.xa_base.specs.declared.answer.Answer.TheVariants.{Ret, Page}
 use Rattle.xa_base.specs.Xid.{Xid}
-use Rattle.xa_base.specs.Branch.{branch_eq, gtrid_eq}
 use Rattle.xa_model.specs.Replies.Allowed.{Allowed.As_value, Allowed.For_memory, Takes.Takes_none, Takes.Takes_one}
-use Rattle.xa_model.specs.Facts as facts
 use Rattle.xa_base.specs.Call.{map_call}
 use Rattle.xa_base.specs.Answer.{map_answer}
 use Rattle.xa_model.specs.Replies.History.{name_of}
 use Rattle.xa_model.specs.Facts.{rm_up, unheard}
 use Rattle.xa_model.specs.Replies.Rules.{has_rm, has_thread, must_refuse}
-use Rattle.xa_model.specs.Trace.{Answer, Call, Happening.Nothing, Happening.Took, Kind, Kind.Commit, Line, Name, Trace, Trace.Then, line, Name.Ours, Kind.Start, Kind.Join, Kind.End, Kind.Prepare, Kind.OnePhase, Kind.Rollback, Kind.Forget}
+use Rattle.xa_model.specs.Trace.{Call, Happening.Nothing, Happening.Took, Line, Trace, Trace.Then, line, Name.Ours}
 use Rattle.xa_base.specs.declared.answer.Answer as Given
-use Rattle.xa_base.specs.declared.branch.Branch.{Branch}
 use Rattle.xa_base.specs.declared.call.Call as Asking
 use Rattle.xa_base.specs.declared.refusal.Refusal.{Refusal}
 use Rattle.xa_base.specs.declared.refusal.Refusal.TheVariants as Refusals
@@ -33,130 +26,18 @@ use Rattle.xa_line.proofs.GridLaws.{whole-with_line}
 use Rattle.xa_line.specs.Histories.{LineStands, known}
 use Rattle.xa_system.specs.Parts.{Leads, OneMore, Sees, Stands}
 use Rattle.xa_system.specs.Steps.{IsSame, Takes, TakesOne}
-use Rattle.xa_system.specs.Trace.{IsHome}
 use Rattle.xa_system.specs.declared.parts.Parts.{Parts}
 use Rattle.xa_system.specs.declared.site.Site.{Site}
 use Rattle.xa_system.proofs.Log.Changes.{log_stays}
 use Rattle.xa_line.proofs.TrafficLaws.{as_many_answers, line_goes_on}
-use Rattle.xa_system.proofs.LineLaws.{line_stays, no_waiting_call, waiting_call}
+use Rattle.xa_line.proofs.ChangedLines.{line_stays, lines_same, lines_with}
+use Rattle.xa_system.proofs.LineLaws.{no_waiting_call, waiting_call}
 use Rattle.xa_model.proofs.Replies.Replies.{accepted_ours}
 use Rattle.xa_model.specs.Replies.Steps.{if_ours}
-use Rattle.xa_base.proofs.BranchOrder.{branch_numbers}
-use Rattle.xa_system.proofs.OnBranch.{ours_back, standing_none}
-use Rattle.xa_system.proofs.Rms.Unaffected.{IsQuiet}
-use Rattle.xa_system.proofs.Histories.Standing.{Follows, IsEvent, lines_same, site_same, goes_as, lines_apart_rm, has_line, lines_with, nothing_to, same_rm, site_stays, sites_with, there_is, with_site_and_line}
+use Rattle.xa_system.proofs.OnBranch.{ours_back}
+use Rattle.xa_system.proofs.Histories.Standing.{Follows, IsEvent, site_same, goes_as, has_line, nothing_to, same_rm, site_stays, sites_with, there_is, with_site_and_line}
 use Rattle.xa_system.proofs.Rms.TakeLaws.{took_rightly, waits_home}
-use Rattle.xa_system.proofs.Rms.AfterTake.{retries_stay}
-
--- ** elsewhere
-
--- a branch of another resource manager is another branch
-pub elsewhere : (b c : Branch) (r s : ℕ) → s ≢ r → c.rm ≡ r → b.rm ≡ s → branch_eq c b ≡ false
-elsewhere b c r s apart at there =
-    sym (branch_numbers c b) ∙ by_rest (gtrid_eq c.gtrid b.gtrid) (nat_eq c.thread b.thread) (ne_eqb c.rm b.rm (λ e. apart (sym there ∙ sym e ∙ at)))
-  where
-    by_rest : (p q : Bool) → nat_eq c.rm b.rm ≡ false → (p && (q && nat_eq c.rm b.rm)) ≡ false
-    by_rest true true e = e
-    by_rest true false e = refl
-    by_rest false q e = refl
-
-retries_page : (tr : Trace) (l : Line) (k : Kind) (b c : Branch) (ns : List Name) → facts.retries (Then tr (Took l (on k c) (Page ns))) b ≡ facts.retries tr b
-retries_page tr l Commit b c ns = refl
-retries_page tr l k b c ns = refl
-
-took_quiet : (tr : Trace) (l : Line) (k : Call) (a : Answer) (s : ℕ) → IsHome l k → s ≢ l.rm → IsQuiet tr (Took l k a) s
-took_quiet tr l (Calls.Start c false) (Ret code) s home apart = record {
-  branches = record {
-    standing = λ b at. rw (elsewhere b c l.rm s apart home at) refl;
-    vote = λ b at. refl;
-    retries = λ b at. retries_stay tr l Start b c code (elsewhere b c l.rm s apart home at);
-  };
-  scan_stays = refl;
-}
-took_quiet tr l (Calls.Start c false) (Page ns) s home apart =
-    record { branches = record { standing = λ b at. refl; vote = λ b at. refl; retries = λ b at. retries_page tr l Start b c ns }; scan_stays = refl }
-took_quiet tr l (Calls.Start c true) (Ret code) s home apart = record {
-  branches = record {
-    standing = λ b at. rw (elsewhere b c l.rm s apart home at) refl;
-    vote = λ b at. refl;
-    retries = λ b at. retries_stay tr l Join b c code (elsewhere b c l.rm s apart home at);
-  };
-  scan_stays = refl;
-}
-took_quiet tr l (Calls.Start c true) (Page ns) s home apart =
-    record { branches = record { standing = λ b at. refl; vote = λ b at. refl; retries = λ b at. retries_page tr l Join b c ns }; scan_stays = refl }
-took_quiet tr l (Calls.End c f) (Ret code) s home apart = record {
-  branches = record {
-    standing = λ b at. rw (elsewhere b c l.rm s apart home at) refl;
-    vote = λ b at. refl;
-    retries = λ b at. retries_stay tr l (End f) b c code (elsewhere b c l.rm s apart home at);
-  };
-  scan_stays = refl;
-}
-took_quiet tr l (Calls.End c f) (Page ns) s home apart =
-    record { branches = record { standing = λ b at. refl; vote = λ b at. refl; retries = λ b at. retries_page tr l (End f) b c ns }; scan_stays = refl }
-took_quiet tr l (Calls.Prepare c) (Ret code) s home apart = record {
-  branches = record {
-    standing = λ b at. rw (elsewhere b c l.rm s apart home at) refl;
-    vote = λ b at. refl;
-    retries = λ b at. retries_stay tr l Prepare b c code (elsewhere b c l.rm s apart home at);
-  };
-  scan_stays = refl;
-}
-took_quiet tr l (Calls.Prepare c) (Page ns) s home apart =
-    record { branches = record { standing = λ b at. refl; vote = λ b at. refl; retries = λ b at. retries_page tr l Prepare b c ns }; scan_stays = refl }
-took_quiet tr l (Calls.Commit c false) (Ret code) s home apart = record {
-  branches = record {
-    standing = λ b at. rw (elsewhere b c l.rm s apart home at) refl;
-    vote = λ b at. refl;
-    retries = λ b at. retries_stay tr l Commit b c code (elsewhere b c l.rm s apart home at);
-  };
-  scan_stays = refl;
-}
-took_quiet tr l (Calls.Commit c false) (Page ns) s home apart =
-    record { branches = record { standing = λ b at. refl; vote = λ b at. refl; retries = λ b at. retries_page tr l Commit b c ns }; scan_stays = refl }
-took_quiet tr l (Calls.Commit c true) (Ret code) s home apart = record {
-  branches = record {
-    standing = λ b at. rw (elsewhere b c l.rm s apart home at) refl;
-    vote = λ b at. refl;
-    retries = λ b at. retries_stay tr l OnePhase b c code (elsewhere b c l.rm s apart home at);
-  };
-  scan_stays = refl;
-}
-took_quiet tr l (Calls.Commit c true) (Page ns) s home apart =
-    record { branches = record { standing = λ b at. refl; vote = λ b at. refl; retries = λ b at. retries_page tr l OnePhase b c ns }; scan_stays = refl }
-took_quiet tr l (Calls.Rollback c) (Ret code) s home apart = record {
-  branches = record {
-    standing = λ b at. rw (elsewhere b c l.rm s apart home at) refl;
-    vote = λ b at. refl;
-    retries = λ b at. retries_stay tr l Rollback b c code (elsewhere b c l.rm s apart home at);
-  };
-  scan_stays = refl;
-}
-took_quiet tr l (Calls.Rollback c) (Page ns) s home apart =
-    record { branches = record { standing = λ b at. refl; vote = λ b at. refl; retries = λ b at. retries_page tr l Rollback b c ns }; scan_stays = refl }
-took_quiet tr l (Calls.Forget c) (Ret code) s home apart = record {
-  branches = record {
-    standing = λ b at. rw (elsewhere b c l.rm s apart home at) refl;
-    vote = λ b at. refl;
-    retries = λ b at. retries_stay tr l Forget b c code (elsewhere b c l.rm s apart home at);
-  };
-  scan_stays = refl;
-}
-took_quiet tr l (Calls.Forget c) (Page ns) s home apart =
-    record { branches = record { standing = λ b at. refl; vote = λ b at. refl; retries = λ b at. retries_page tr l Forget b c ns }; scan_stays = refl }
-took_quiet tr l Calls.OpenRm a s home apart =
-    record { branches = record { standing = λ b at. standing_none tr l Calls.OpenRm a b refl; vote = λ b at. refl; retries = λ b at. refl }; scan_stays = refl }
-took_quiet tr l Calls.CloseRm a s home apart =
-    record {
-      branches = record { standing = λ b at. standing_none tr l Calls.CloseRm a b refl; vote = λ b at. refl; retries = λ b at. refl };
-      scan_stays = refl;
-    }
-took_quiet tr l (Calls.Recover n x y) a s home apart =
-    record {
-      branches = record { standing = λ b at. standing_none tr l (Calls.Recover n x y) a b refl; vote = λ b at. refl; retries = λ b at. refl };
-      scan_stays = rw (lines_apart_rm l.thread l.rm 0 s apart) refl;
-    }
+use Rattle.xa_system.proofs.Steps.TakeElsewhere.{took_quiet}
 
 -- ** the line
 

@@ -31,13 +31,13 @@ impl<R: ResourceManager + Drop, L: DecisionLog + Drop> Parts<R, L> {
         if let Err(refusal) = self.lines.line(thread, rm).check(call) {
             return Twin::refused(refusal);
         }
-        if let Some(refusal) = self.manager.may_issue(thread, rm, call) {
+        if let Err(refusal) = self.manager.check_issue(thread, rm, call) {
             return Twin::refused(refusal);
         }
         if self.lines.line(thread, rm).free_calls() == 0 {
             return Twin::refused(Refusal::Full);
         }
-        if let Err(refusal) = self.manager.note_issued(thread, rm, call) {
+        if let Err(refusal) = self.manager.note_issued(call) {
             return Twin::refused(refusal);
         }
         let _ = self.lines.line_mut(thread, rm).issue(call.copy());

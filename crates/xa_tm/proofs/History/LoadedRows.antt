@@ -22,7 +22,8 @@ use Rattle.xa_log.specs.Content.{all_listed, last_number}
 use Rattle.xa_log.specs.Contract.{FitsRow}
 use Rattle.xa_log.specs.KeySet.{KeySet, contains, contains-from_list, contains-items, from_list, items, same_set}
 use Rattle.xa_tm.specs.Book.{Waiting}
-use Rattle.xa_tm.specs.Starting.{ended_among, fits_before, loaded, run_of}
+use Rattle.xa_log.specs.Starting.{fits_before}
+use Rattle.xa_tm.specs.Starting.{ended_among, loaded, run_of}
 
 -- ** rows of earlier incarnations
 

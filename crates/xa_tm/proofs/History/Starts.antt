@@ -22,7 +22,8 @@ use Rattle.xa_tm.specs.LedgerBook.{IsSound, numbered_by, as_book, no_branch, tra
 use Rattle.xa_tm.specs.declared.ledger.Ledger.{Ledger}
 use Rattle.xa_tm.specs.declared.notes.BranchNotes.{BranchNotes}
 use Rattle.xa_tm.proofs.Maps.Transactions.{transaction_is}
-use Rattle.xa_tm.specs.Starting.{IsOld, StartsAreHistories, StartsHaveContent, ended_among, fits_before, loaded, run_of, start_book, book_at_start}
+use Rattle.xa_log.specs.Starting.{fits_before}
+use Rattle.xa_tm.specs.Starting.{IsOld, StartsAreHistories, StartsHaveContent, ended_among, loaded, run_of, start_book, book_at_start}
 use Rattle.xa_tm.specs.BookAndLog.{IsTied}
 use Rattle.xa_tm.proofs.History.OneMore.{book_is}
 use Rattle.xa_log.proofs.Rising.{risen}

@@ -18,7 +18,7 @@ use Rattle.xa_base.proofs.BranchOrder.{branches_total, gtrids_total}
 use Rattle.xa_base.proofs.BranchKeys.{gtrid_eq-true}
 use Rattle.xa_base.proofs.Orders.{less_differs}
 use Rattle.xa_log.specs.KeySet.{from_list}
-use Rattle.xa_tm.specs.Ascending.{ascends, ascends_behind, is_behind}
+use Rattle.xa_log.specs.Starting.{ascends, ascends_behind, is_behind}
 use Rattle.xa_tm.specs.Begins.{records_listed, rows_listed}
 use Rattle.xa_tm.specs.Book.{Waiting, book_of, row_in}
 use Rattle.xa_tm.specs.Starting.{ended_among, loaded, run_of, start_book}

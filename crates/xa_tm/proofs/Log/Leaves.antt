@@ -11,6 +11,19 @@ use Rattle.xa_tm.specs.BookAndLog.{IsChangeOf, IsTied, IsTiedDown, IsTiedUp, Tie
 use Rattle.xa_tm.proofs.Log.Restart.{tied_no_restart}
 use Rattle.xa_tm.proofs.Log.Ties.{tied_fault, up_content}
 
+-- while the manager is up, a crash leaves what the log holds
+pub left_up : (near : Bool) (k : Book) (held : Option Content) (may : Content → Type 0) → k.up ≡ true → IsTied near k held
+    → ((c d : Content) → held ≡ Some c → may d → d ≡ c) → (c : Content) → may c → IsTied near k (Some c)
+left_up near k held may up tied durable d left = by held (up_content near k held up tied) tied durable
+  where
+    by : (held : Option Content) → IsSomeAnd held (IsTiedUp k) → IsTied near k held → ((c d : Content) → held ≡ Some c → may d → d ≡ c) → IsTied near k (Some d)
+    by None some tied durable = absurd some
+    by (Some c) some tied durable = subst (λ x. IsTied near k (Some x)) (sym (durable c d refl left)) tied
+
+-- what is tied once it is down
+pub tied_down : (near : Bool) (k : Book) (d : Content) → k.up ≡ false → IsTiedDown near k d → IsTied near k (Some d)
+tied_down near k d down t = subst (λ u. TiedBy u near k (Some d)) (sym down) (λ c is. subst (IsTiedDown near k) (let same : d ≡ c = cc in same) t)
+
 pub left_while_up : (near : Bool) (k : Book) (log : Option Content) (may : Content → Type 0) → k.up ≡ true → IsTied near k log
     → ((c d : Content) → log ≡ Some c → may d → d ≡ c) → LeavesTied near k may
 left_while_up near k log may up tied holds d left = by log (up_content near k log up tied) holds

@@ -14,9 +14,9 @@ use Rattle.xa_base.specs.declared.branch.Gtrid.{Gtrid}
 use Rattle.xa_base.specs.declared.code.How.{How}
 use Rattle.xa_log.specs.Content.{Content, with_bump, last_number, unchanged}
 use Rattle.xa_log.specs.Contract.{AllFit, Makes}
-use Rattle.xa_tm.specs.Ascending.{ascends, ascends_behind}
 use Rattle.xa_tm.specs.Book.{Book}
-use Rattle.xa_tm.specs.Starting.{IsOld, IsPast, fits_before, book_at_start}
+use Rattle.xa_log.specs.Starting.{ascends, ascends_behind, can_start, fits_before}
+use Rattle.xa_tm.specs.Starting.{IsOld, IsPast, book_at_start}
 use Rattle.xa_log.proofs.Rising.{risen}
 
 -- ** lists
@@ -55,10 +55,7 @@ fits_next : (i : ℕ) (g : Gtrid) → g.incarnation ≤ i → g.sequence ≤ las
 fits_next i g low fits = and_from (nat_lt g.incarnation (i + 1)) (nat_le g.sequence last_number) (lt-ltb _ _ (omega arith)) (le-leb _ _ fits)
 
 -- over such a log a manager can start
-can_start_over : (c : Content) → AllFit c → IsPast c
-    → ((list_all (fits_before (c.incarnation + 1)) (keys c.decisions)
-    && list_all (λ (e : Branch × How). fits_before (c.incarnation + 1) e.0.gtrid) (entries c.heuristics))
-    && (ascends gtrid_cmp (keys c.decisions) && ascends branch_cmp (map (λ (e : Branch × How). e.0) (entries c.heuristics)))) ≡ true
+can_start_over : (c : Content) → AllFit c → IsPast c → can_start (c.incarnation + 1) (keys c.decisions) (entries c.heuristics) ≡ true
 can_start_over c fits past =
     and_from _ _
     (and_from _ _
@@ -76,15 +73,11 @@ module _ (i : ℕ) (gs : List Gtrid) (hs : List (Branch × How)) where
   -- a manager that can't start has found a row or a record of a later incarnation
   pub not_past : (old mid : Option Content) → IsSomeAnd old (λ c. gs ≡ keys c.decisions) → IsSomeAnd old (λ c. hs ≡ entries c.heuristics)
       → Makes unchanged old mid → IsSomeAnd mid (λ c. i ≡ c.incarnation + 1) → ((c : Content) → old ≡ Some c → AllFit c)
-      → ((list_all (fits_before i) gs && list_all (λ (e : Branch × How). fits_before i e.0.gtrid) hs)
-      && (ascends gtrid_cmp gs && ascends branch_cmp (map (λ (e : Branch × How). e.0) hs))) ≡ false
-      → IsSomeAnd old (λ c. ¬ IsPast c)
+      → can_start i gs hs ≡ false → IsSomeAnd old (λ c. ¬ IsPast c)
   not_past None mid rows ends kept up fits cannot = absurd rows
   not_past (Some c) mid rows ends kept up fits cannot = λ past.
       let next : i ≡ c.incarnation + 1 = (subst (λ m. IsSomeAnd m (λ c. i ≡ c.incarnation + 1)) kept up) in
-      true≢false (sym (can_start_over c (fits c refl) past)
-      ∙ (λ j. (list_all (fits_before (sym next j)) (sym rows j) && list_all (λ (e : Branch × How). fits_before (sym next j) e.0.gtrid) (sym ends j))
-      && (ascends gtrid_cmp (sym rows j) && ascends branch_cmp (map (λ (e : Branch × How). e.0) (sym ends j)))) ∙ cannot)
+      true≢false (sym (can_start_over c (fits c refl) past) ∙ (λ j. can_start (sym next j) (sym rows j) (sym ends j)) ∙ cannot)
 
 -- the rows and records of a manager's start are of earlier incarnations than the one that it raised
 pub past_of : (t r : ℕ) (k : Book) (old new : Option Content) → Makes with_bump old new

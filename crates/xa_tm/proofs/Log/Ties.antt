@@ -12,12 +12,12 @@ use Rattle.xa_model.specs.Trace.{Fault, Happening.Failed}
 use Rattle.xa_base.proofs.BranchOrder.{branches_total}
 use Rattle.xa_base.proofs.BranchKeys.{branch_eq-true}
 use Rattle.xa_base.proofs.Options.{some_is}
+use Rattle.xa_base.proofs.Orders.{branch_tie}
 use Rattle.xa_log.specs.Content.{Content}
 use Rattle.xa_log.specs.Contract.{Makes, MayMake}
 use Rattle.xa_log.proofs.TakenTogether.{same_incarnation}
 use Rattle.xa_tm.specs.Book.{Book, Doubt, Doubt.Adds, Doubt.Drops, Doubt.Records, Doubt.NoDoubt, book_after, failed_restarts_after, row_with, recorded_with, records_with}
 use Rattle.xa_tm.specs.BookAndLog.{HoldsBook, IsChangeOf, changed_by, rows_of, SameRowsAndRecords, MayHold, IsReached, IsTiedUp, IsTiedDown, TiedBy, IsTied}
-use Rattle.xa_tm.proofs.Maps.Transactions.{branch_tie}
 use Rattle.xa_tm.proofs.Several.Contents.{added_incarnation, changed_at, changed_len, of_same}
 
 -- ** what the log doesn't see

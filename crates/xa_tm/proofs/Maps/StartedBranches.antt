@@ -12,11 +12,10 @@ use Rattle.xa_base.specs.declared.branch.Branch.{Branch}
 use Rattle.xa_base.specs.declared.branch.Gtrid.{Gtrid}
 use Rattle.xa_base.proofs.BranchOrder.{branches_total, exact_branches}
 use Rattle.xa_base.proofs.BranchKeys.{gtrid_eq-true}
-use Rattle.xa_base.proofs.Orders.{same_branch}
+use Rattle.xa_base.proofs.Orders.{same_branch, branch_tie}
 use Rattle.xa_log.specs.KeySet.{from_list, insert, items, contains, contains-from_list, contains-insert, contains-items, same_set}
 use Rattle.xa_tm.specs.LedgerBook.{no_branch, notes_at, known_in, started_keys, notes_of}
 use Rattle.xa_tm.specs.declared.notes.BranchNotes.{BranchNotes}
-use Rattle.xa_tm.proofs.Maps.Transactions.{branch_tie}
 use Rattle.xa_tm.proofs.History.OneMore.{any_filter}
 
 -- a name below all of a list isn't among them

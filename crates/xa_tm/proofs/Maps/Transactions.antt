@@ -9,14 +9,14 @@ use Rattle.std.proofs.lemmas.Bool.{true≢false, eq-eqb}
 use Rattle.std.proofs.lemmas.Cmp.{eq_by_cmp_equiv}
 use Rattle.std.proofs.Math.Bool.{and-false}
 use Rattle.xa_base.specs.declared.call.Call.TheVariants as Calls
-use Rattle.xa_base.specs.Branch.{gtrid_eq, branch_eq, gtrid_cmp, branch_cmp}
+use Rattle.xa_base.specs.Branch.{gtrid_eq, gtrid_cmp}
 use Rattle.xa_base.specs.declared.branch.Branch.{Branch}
 use Rattle.xa_base.specs.declared.branch.Gtrid.{Gtrid}
 use Rattle.xa_base.specs.declared.step.Outcome.{Outcome}
 use Rattle.xa_base.specs.declared.step.Outcome.TheVariants as Outcomes
 use Rattle.xa_model.specs.Trace.{Line, Happening.Begun, Happening.Issued, Happening.Claimed, Happening.Decided}
-use Rattle.xa_base.proofs.BranchOrder.{gtrids_total, exact_gtrids, branches_total, exact_branches}
-use Rattle.xa_base.proofs.BranchKeys.{gtrid_eq-true, gtrid_eq-refl, branch_eq-true, branch_eq-refl}
+use Rattle.xa_base.proofs.BranchOrder.{gtrids_total, exact_gtrids}
+use Rattle.xa_base.proofs.BranchKeys.{gtrid_eq-true, gtrid_eq-refl}
 use Rattle.xa_base.proofs.Orders.{equal_is}
 use Rattle.xa_tm.specs.Book.{TransactionNotes, Book, Waiting, transaction_after, with_branch, is_settled_in}
 use Rattle.xa_tm.specs.LedgerBook.{HasKept, transaction_at, no_transaction, numbered_by, transaction_notes_of, row_at, waiting_of}
@@ -34,15 +34,6 @@ gtrid_tie g q = by (is_at (gtrid_cmp g) q) (gtrid_eq g q) refl refl
     by false false e f = refl
     by true false e f = absurd (true≢false (sym (gtrid_eq-refl g) ∙ ap (gtrid_eq g) (exact_gtrids g q (equal_is _ e)) ∙ f))
     by false true e f = absurd (true≢false (sym ((eq_by_cmp_equiv gtrids_total).refl g) ∙ ap (eq_by_cmp gtrid_cmp g) (gtrid_eq-true g q f) ∙ e))
-
-pub branch_tie : (b q : Branch) → is_at (branch_cmp b) q ≡ branch_eq b q
-branch_tie b q = by (is_at (branch_cmp b) q) (branch_eq b q) refl refl
-  where
-    by : (s t : Bool) → is_at (branch_cmp b) q ≡ s → branch_eq b q ≡ t → s ≡ t
-    by true true e f = refl
-    by false false e f = refl
-    by true false e f = absurd (true≢false (sym (branch_eq-refl b) ∙ ap (branch_eq b) (exact_branches b q (equal_is _ e)) ∙ f))
-    by false true e f = absurd (true≢false (sym ((eq_by_cmp_equiv branches_total).refl b) ∙ ap (eq_by_cmp branch_cmp b) (branch_eq-true b q f) ∙ e))
 
 -- ** room
 

@@ -65,7 +65,7 @@ named_push (x ∷ gs) h g = ap (λ t. gtrid_eq x g || t) (named_push gs h g) ∙
     turned false true c = refl
     turned false false c = refl
 
-named_filter : (p : Gtrid → Bool) (gs : List Gtrid) (g : Gtrid) → has_gtrid gs g ≡ false → has_gtrid (filter p gs) g ≡ false
+pub named_filter : (p : Gtrid → Bool) (gs : List Gtrid) (g : Gtrid) → has_gtrid gs g ≡ false → has_gtrid (filter p gs) g ≡ false
 named_filter p [] g e = refl
 named_filter p (h ∷ gs) g e = let parts = or_parts (gtrid_eq h g) (has_gtrid gs g) e in by (p h) (named_filter p gs g parts.1) parts.0
   where

@@ -1,13 +1,10 @@
 //! The manager's book at a start, from the rows of a log.
 
-ghost use Rattle.std.specs.Prelude.{◌≡◌, ◌≤◌, [], length, if◌then◌else◌, Some, IfOk, OnOk, ◌&&◌};
-ghost use Rattle.std.specs.List.{list_all};
-ghost use Rattle.xa_base.specs.declared.branch.Branch.{Branch as Named};
-ghost use Rattle.xa_base.specs.declared.code.How.{How as End};
+ghost use Rattle.std.specs.Prelude.{◌≡◌, ◌≤◌, [], length, if◌then◌else◌, Some, IfOk, OnOk};
 ghost use Rattle.xa_log.specs.KeySet.{from_list};
 ghost use Rattle.xa_base.specs.Branch.{gtrid_eq, branch_eq};
 ghost use Rattle.xa_tm.specs.LedgerBook.{notes_at, as_book, known_in, no_branch, row_at, waiting_of};
-ghost use Rattle.xa_tm.specs.Starting.{AreUnstarted, ended_among, fits_before, loaded, run_of, start_book};
+ghost use Rattle.xa_tm.specs.Starting.{AreUnstarted, ended_among, loaded, run_of, start_book};
 
 use crate::change::Change;
 use crate::ledger::Ledger;
@@ -17,9 +14,6 @@ use std::alloc::{AllocError, Global};
 use std::collections::BTreeMap;
 use xa_base::{Branch, Gtrid, How};
 use xa_log::LogRows;
-
-/// The greatest number that a row can have.
-const LAST_NUMBER: u64 = i64::MAX as u64;
 
 /// The participants of a transaction that stand first.
 fn run_of(alloc: Global, participants: &[Branch], g: Gtrid) -> Result<Vec<Branch>, AllocError>
@@ -146,35 +140,4 @@ impl Ledger {
             alloc,
         })
     }
-}
-
-/// Whether all rows and records are of earlier incarnations, and their numbers fit.
-pub(crate) fn are_old(rows: &LogRows, incarnation: u64) -> bool
-    ensures { result ≡ (list_all (fits_before incarnation) rows.now.decisions.items &&
-        list_all (λ (e : Named × End). fits_before incarnation e.0.gtrid)
-        rows.now.heuristics.items) }
-{
-    are_rows_old(rows.decisions.as_slice(), incarnation)
-        && are_records_old(rows.heuristics.as_slice(), incarnation)
-}
-
-/// Whether all these transactions are of earlier incarnations, and their numbers fit.
-fn are_rows_old(decisions: &[Gtrid], incarnation: u64) -> bool
-    ensures { result ≡ list_all (fits_before incarnation) decisions.now }
-{
-    decisions.iter().all(|g| is_old(*g, incarnation))
-}
-
-/// The same of the branches with these ends.
-fn are_records_old(ends: &[(Branch, How)], incarnation: u64) -> bool
-    ensures { result ≡ list_all (λ (e : Named × End). fits_before incarnation e.0.gtrid) ends.now }
-{
-    ends.iter().all(|(b, _)| is_old(b.gtrid, incarnation))
-}
-
-/// Whether a transaction is of an earlier incarnation, and its numbers fit.
-fn is_old(g: Gtrid, incarnation: u64) -> bool
-    ensures { result ≡ fits_before incarnation g }
-{
-    g.incarnation < incarnation && g.sequence <= LAST_NUMBER
 }

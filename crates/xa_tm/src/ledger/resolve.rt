@@ -1,6 +1,6 @@
 //! The calls that end the branches which a recovery page lists (XA, section 2.3, Transaction Completion and Recovery).
 
-ghost use Rattle.std.specs.Prelude.{◌≡◌, map, length, Option, Some, IfOk};
+ghost use Rattle.std.specs.Prelude.{◌≡◌, map, length, Option, Some, is_some, IfOk};
 ghost use Rattle.xa_model.specs.Replies.History.{name_of};
 ghost use Rattle.xa_tm.specs.LedgerBook.{as_book, names_at};
 ghost use Rattle.xa_tm.specs.Refusing.{resolved_in, resolved_open_in};
@@ -64,13 +64,23 @@ impl Ledger {
             .collect(self.alloc)
     }
 
+    /// Whether a call ends what a page lists. No identifier is copied for that.
+    fn is_ended(&self, xid: &Xid) -> bool
+        ensures { result ≡ is_some (call_for (as_book self.now) xid.now) }
+    {
+        match xid.branch() {
+            Some(b) => !self.is_live(b.gtrid),
+            None => false,
+        }
+    }
+
     /// How many calls that are.
     pub(crate) fn resolving_len(&self, rm: u32) -> usize
         ensures { result ≡ length (resolved_in (as_book self.now) rm) }
     {
         self.page(rm)
             .iter()
-            .filter(|xid| self.call_for(xid).is_some())
+            .filter(|xid| self.is_ended(xid))
             .count()
     }
 
@@ -102,13 +112,23 @@ impl Ledger {
             .collect(self.alloc)
     }
 
+    /// Whether a call ends what a page lists once all that is open is rolled back.
+    fn is_ended_with_open(&self, xid: &Xid) -> bool
+        ensures { result ≡ is_some (open_call_for (as_book self.now) xid.now) }
+    {
+        match xid.branch() {
+            Some(b) => !(self.is_live(b.gtrid) && self.transaction(b.gtrid).is_claimed),
+            None => false,
+        }
+    }
+
     /// How many calls that are.
     pub(crate) fn open_len(&self, rm: u32) -> usize
         ensures { result ≡ length (resolved_open_in (as_book self.now) rm) }
     {
         self.page(rm)
             .iter()
-            .filter(|xid| self.open_call_for(xid).is_some())
+            .filter(|xid| self.is_ended_with_open(xid))
             .count()
     }
 }

@@ -19,7 +19,7 @@ impl<L: DecisionLog + Drop> Manager<L> {
     ///
     /// Without releases the manager remembers each transaction since its start. A step that names a transaction after
     /// its release is refused as one that was never begun; all else goes on as before
-    /// ([`released_books_go_on`](crate::released_books_go_on)).
+    /// ([`released_books_go_on`](crate::laws::released_books_go_on)).
     pub fn release(&mut self, g: Gtrid) -> bool
         ensures over { result ≡ true → IsOver (book_in self.old) g }
         ensures released { result ≡ true → book_in self.new ≡ book_without g (book_in self.old) }

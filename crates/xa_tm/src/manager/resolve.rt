@@ -7,11 +7,12 @@ ghost use Rattle.xa_model.specs.Trace.{Happening.ResolvedOpen};
 ghost use Rattle.xa_tm.specs.Book.{after};
 ghost use Rattle.xa_tm.specs.BookAndLog.{IsTied};
 ghost use Rattle.xa_tm.specs.Calls.{book_in, log_in};
+ghost use Rattle.xa_tm.specs.Owed.{AreOwed};
 ghost use Rattle.xa_tm.specs.Refusing.{resolved_in, resolved_open_in};
 ghost use Rattle.xa_tm.specs.Resolving.{waiting_call};
 
 use crate::manager::Manager;
-use xa_base::{Call, Refusal};
+use xa_base::{Call, Refusal, Xid};
 use xa_log::DecisionLog;
 
 impl<L: DecisionLog + Drop> Manager<L> {
@@ -24,7 +25,16 @@ impl<L: DecisionLog + Drop> Manager<L> {
         Ok(self.ledger.resolving_calls(rm)?)
     }
 
-    /// How many calls that gives.
+    /// The identifiers of the branches at a resource manager that rows of earlier incarnations wait for, in their order: what is
+    /// owed there until the rows are done, whether the resource manager lists it or not.
+    pub fn owed(&self, rm: u32) -> Result<Vec<Xid>, Refusal>
+        ensures ok { IfOk result (λ list. AreOwed (book_in self.now) rm list.items) }
+        ensures err { IfErr result (λ n. n ≡ Refusals.Memory) }
+    {
+        Ok(self.ledger.owed(rm)?)
+    }
+
+    /// How many calls [`Manager::resolve`] gives.
     pub fn resolve_len(&self, rm: u32) -> usize
         ensures { result ≡ length (resolved_in (book_in self.now) rm) }
     {

@@ -1,12 +1,13 @@
 //! A manager starts over a log.
 
 ghost use Rattle.std.specs.Prelude.{◌≡◌, Err, IfOk};
+ghost use Rattle.xa_tm.specs.Reading.{WasRead};
 ghost use Rattle.xa_tm.specs.StartFaults.{IsOnlyRead, IsToBlame};
 ghost use Rattle.xa_tm.specs.Started.{IsStarted, IsStartedOver};
 
 use crate::ledger::Ledger;
-use crate::ledger::order::can_start;
 use crate::manager::Manager;
+use crate::read_log::ReadLog;
 use std::alloc::{AllocError, Global};
 use std::snapshot::Snapshot;
 use thiserror::Error;
@@ -49,7 +50,7 @@ impl<L: DecisionLog + Drop> Manager<L> {
     ///
     /// The rows are read first, then all room for them is made, and only then the incarnation is raised: where memory is
     /// refused for that room, the log has only been read.
-    pub fn new(alloc: Global, threads: u32, rms: u32, mut log: L) -> Result<Manager<L>, StartFault>
+    pub fn new(alloc: Global, threads: u32, rms: u32, log: L) -> Result<Manager<L>, StartFault>
         ensures started { IfOk result (IsStarted threads rms) }
         ensures over { IfOk result (IsStartedOver L.moment threads rms (L.moment log)) }
         // Over which logs none starts, and what is left of them.
@@ -57,10 +58,31 @@ impl<L: DecisionLog + Drop> Manager<L> {
         ensures memory_fault { result ≡ Err StartFault.Memory →
             ((left : L) × IsOnlyRead L.DecisionLog log left) }
     {
-        let rows = log.rows()?;
+        let read = ReadLog::of(log)?;
+        Manager::over(alloc, threads, rms, read)
+    }
+
+    /// The same, over a log whose rows were read before: all room for them is made, and then the incarnation is raised.
+    pub fn over(
+        alloc: Global,
+        threads: u32,
+        rms: u32,
+        read: ReadLog<L>,
+    ) -> Result<Manager<L>, StartFault>
+        requires { WasRead L.DecisionLog read }
+        ensures started { IfOk result (IsStarted threads rms) }
+        ensures over { IfOk result
+            (IsStartedOver L.moment threads rms (L.moment read.handed.value)) }
+        // Over which logs none starts, and what is left of them.
+        ensures log_fault { result ≡ Err StartFault.Log →
+            IsToBlame L.DecisionLog read.handed.value }
+        ensures memory_fault { result ≡ Err StartFault.Memory →
+            ((left : L) × IsOnlyRead L.DecisionLog read.handed.value left) }
+    {
+        let ReadLog { mut log, rows, .. } = read;
         let ledger = Ledger::load(alloc, threads, rms, &rows)?;
         let incarnation = log.bump()?;
-        if can_start(&rows, incarnation) {
+        if rows.can_start(incarnation) {
             let ledger = ledger.in_incarnation(incarnation);
             let began = Snapshot::of(&rows);
             Ok(Manager { ledger, log, began })

@@ -2,7 +2,7 @@ use Rattle.std.proofs.Common.{◌∙◌, ap, map, string_bytes}
 use Rattle.std.proofs.lemmas.Result.{err_from_is_err_and}
 use Rattle.xa_display.proofs.ShowLemmas.{names_as, on_ok, spelled_as, told_as, writes_as}
 use Rattle.xa_story.specs.Naming.{unbegun}
-use Rattle.xa_scenario.specs.Scenarios.{plan_of, scenario_of}
+use Rattle.xa_scenario_file.specs.Scenarios.{plan_of, scenario_of}
 use Rattle.xa_files.proofs.ReadingLemmas.{ends_with}
 use Rattle.xa_scenario.proofs.RunLemmas.{explains, not_of_work}
 use Rattle.xa_display.proofs.explain.explain_scenario.Goals as goal

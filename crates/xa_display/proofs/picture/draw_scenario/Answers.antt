@@ -1,7 +1,7 @@
 use Rattle.std.proofs.Common.{ap, arith, length, string_bytes}
 use Rattle.std.proofs.lemmas.Result.{err_from_is_err_and}
 use Rattle.xa_display.proofs.ShowLemmas.{picture_as, writes_as}
-use Rattle.xa_scenario.specs.Scenarios.{plan_of}
+use Rattle.xa_scenario_file.specs.Scenarios.{plan_of}
 use Rattle.xa_scenario.proofs.RunLemmas.{explains}
 use Rattle.xa_display.proofs.picture.draw_scenario.Goals as goal
 

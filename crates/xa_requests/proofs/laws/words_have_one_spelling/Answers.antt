@@ -1,4 +1,5 @@
-use Rattle.xa_requests.proofs.SpellingLemmas.{codes_spelled, indexes, integers, kinds_spelled, transactions, xids}
+use Rattle.xa_files.proofs.WordLemmas.{code_spelled, kind_spelled}
+use Rattle.xa_requests.proofs.SpellingLemmas.{indexes, integers, transactions, xids}
 use Rattle.xa_requests.proofs.laws.words_have_one_spelling.Goals as goal
 
 pub returns : goal.returns
@@ -7,6 +8,6 @@ returns c = record {
   integers = integers;
   transactions = transactions;
   xids = xids;
-  kinds = kinds_spelled;
-  codes = codes_spelled;
+  kinds = kind_spelled;
+  codes = code_spelled;
 }

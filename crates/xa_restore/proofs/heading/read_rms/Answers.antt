@@ -1,5 +1,5 @@
 use Rattle.std.proofs.Common.{length, ap, sym, ◌∙◌, arith, rules}
-use Rattle.xa_restore.proofs.HeadingLemmas.{rms_pushed}
+use Rattle.xa_restore.proofs.HeadingLemmas.{rm_fault, rms_pushed}
 use Rattle.xa_restore.proofs.heading.read_rms.Goals as goal
 
 pub loop-at-preserved : goal.loop-at-preserved
@@ -9,3 +9,7 @@ loop-at-preserved c = record {
       (rw c.in-Some.is at c.in_ok-rm.ensures) c.in_ok-push-in-Some.ensures.items;
   count = search rules;
 }
+
+pub returns-in_default-clause-fault : goal.returns-in_default-clause-fault
+returns-in_default-clause-fault c =
+    rm_fault c.args.lines.now c.loop-at.at c.args.first _ c.starts_with.result (omega arith) c.starts_with.ensures.cases (search rules)

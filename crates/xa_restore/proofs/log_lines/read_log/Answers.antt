@@ -1,5 +1,6 @@
 use Rattle.std.proofs.Common.{arith}
-use Rattle.xa_restore.proofs.LineLemmas.{lines_are, same_text}
+use Rattle.xa_names.proofs.KeptNamesLemmas.{same as same_text}
+use Rattle.xa_restore.proofs.LineLemmas.{lines_are}
 use Rattle.xa_restore.proofs.log_lines.read_log.Goals as goal
 
 pub returns-clause-lines : goal.returns-clause-lines

@@ -1,7 +1,7 @@
-use Rattle.std.proofs.Common.{[], subst}
+use Rattle.std.proofs.Common.{subst}
 use Rattle.xa_scenario.specs.Processes.{HasPlayed}
-use Rattle.xa_scenario.specs.Scenarios.{plan_of}
-use Rattle.xa_scenario.proofs.ProcessLemmas.{first_stands}
+use Rattle.xa_scenario_file.specs.Scenarios.{plan_of}
+use Rattle.xa_scenario.proofs.ProcessLemmas.{first_stands, still_counted}
 use Rattle.xa_system.specs.SystemView.{observes}
 use Rattle.xa_scenario.proofs.processes.first_process.Goals as goal
 
@@ -11,10 +11,12 @@ returns-clause-last g c =
     let see = observes g.R.ResourceManager.look g.L.DecisionLog.moment in
     let plan = plan_of c.args.scenario.now in
     let begun = c.in_ok-system.system in
-    let s = c.play_process.new.system in
-    let gtrids = c.play_process.new.gtrids.items in
-    let names = c.play_process.new.names.items in
-    first_stands look g.L.DecisionLog.moment c.args.log plan gtrids names begun s c.in_ok-system.ensures.over c.in_ok-system.ensures.empty
-    c.in_ok-system.ensures.start c.in_ok-system.ensures.right
-    (subst (λ gs. HasPlayed see plan gs gtrids [] names begun s) c.new-gtrids.ensures.items
-    (subst (λ ns. HasPlayed see plan c.new-gtrids.result.items gtrids ns names begun s) c.new-names.ensures.items c.in_ok-play_process.ensures.played))
+    first_stands look g.L.DecisionLog.moment c.args.log plan begun _ c.in_ok-system.ensures.over c.new-names.ensures.items
+    c.in_ok-system.ensures.empty c.in_ok-system.ensures.start c.in_ok-system.ensures.right
+    (subst (λ gs. HasPlayed see plan gs c.play_process.new.gtrids.items begun c.play_process.new.system) c.new-gtrids.ensures.items
+    c.in_ok-play_process.ensures.played)
+
+pub returns-clause-count : goal.returns-clause-count
+returns-clause-count g c =
+    still_counted g.R.ResourceManager.look g.L.DecisionLog.moment (plan_of c.args.scenario.now) _ _ c.in_ok-system.system c.play_process.new.system
+    c.args.scenario.now.rms c.in_ok-play_process.ensures.played c.in_ok-system.ensures.start.rms

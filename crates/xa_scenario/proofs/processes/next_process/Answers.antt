@@ -1,12 +1,15 @@
-use Rattle.std.proofs.Common.{refl}
-use Rattle.xa_scenario.specs.Scenarios.{plan_of}
-use Rattle.xa_scenario.proofs.ProcessLemmas.{next_stands}
+use Rattle.std.proofs.Common.{◌∙◌}
+use Rattle.xa_scenario_file.specs.Scenarios.{plan_of}
+use Rattle.xa_scenario.proofs.ProcessLemmas.{next_stands, still_counted}
 use Rattle.xa_scenario.proofs.processes.next_process.Goals as goal
 
 pub returns-clause-last : goal.returns-clause-last
 returns-clause-last g c = λ log plans traces counted last.
-    next_stands g.R.ResourceManager.look
-    g.L.DecisionLog.moment log c.args.scenario.now.rms c.args.number plans (plan_of c.args.scenario.now) c.args.before.gtrids.items
-    c.play_process.new.gtrids.items c.args.before.names.items c.play_process.new.names.items traces c.args.before.system c.in_ok-system.system
-    c.play_process.new.system counted last c.in_ok-system.ensures.goes_on c.in_ok-system.ensures.empty c.in_ok-system.ensures.threads
-    c.in_ok-system.ensures.rms refl c.in_ok-play_process.ensures.played
+    next_stands g.R.ResourceManager.look g.L.DecisionLog.moment log c.args.number plans (plan_of c.args.scenario.now) traces c.args.before
+    c.in_ok-system.system _ counted last c.in_ok-add_started.ensures.added c.in_ok-system.ensures.goes_on c.in_ok-system.ensures.empty
+    c.in_ok-system.ensures.threads (c.in_ok-system.ensures.rms ∙ c.requires.count) c.in_ok-play_process.ensures.played
+
+pub returns-clause-count : goal.returns-clause-count
+returns-clause-count g c =
+    still_counted g.R.ResourceManager.look g.L.DecisionLog.moment (plan_of c.args.scenario.now) _ _ c.in_ok-system.system c.play_process.new.system
+    c.args.scenario.now.rms c.in_ok-play_process.ensures.played (c.in_ok-system.ensures.rms ∙ c.requires.count)

@@ -1,5 +1,5 @@
 use Rattle.std.proofs.lemmas.Result.{err_from_is_err_and}
-use Rattle.xa_scenario.specs.Scenarios.{scenario_of}
+use Rattle.xa_scenario_file.specs.Scenarios.{scenario_of}
 use Rattle.xa_files.proofs.ReadingLemmas.{ends_with}
 use Rattle.xa_scenario.proofs.RunLemmas.{explains, not_of_output}
 use Rattle.xa_scenario.proofs.run.check_scenario.Goals as goal

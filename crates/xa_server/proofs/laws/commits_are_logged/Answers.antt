@@ -1,4 +1,4 @@
-use Rattle.xa_server.proofs.VoteLemmas.{commits_are_logged}
+use Rattle.xa_server.proofs.LoggedCommits.{commits_are_logged}
 use Rattle.xa_server.proofs.laws.commits_are_logged.Goals as goal
 
 pub returns : goal.returns

@@ -1,4 +1,5 @@
-use Rattle.xa_server.proofs.TrackLemmas.{Laws, reply_tracked}
+use Rattle.xa_server.proofs.TrackLemmas.{reply_tracked}
+use Rattle.xa_server.proofs.SessionTracks.{Laws}
 use Rattle.xa_server.proofs.laws.replies_are_tracked.Goals as goal
 
 pub returns : goal.returns

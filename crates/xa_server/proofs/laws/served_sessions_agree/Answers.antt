@@ -1,5 +1,6 @@
 use Rattle.std.proofs.Common.{Some, subst}
-use Rattle.xa_server.proofs.SessionChains.{Laws, are_sessions, commit_stands, log_decides, raised_once, start_of}
+use Rattle.xa_server.proofs.SessionChains.{Laws, are_sessions}
+use Rattle.xa_server.proofs.LeftLogs.{commit_stands, log_decides, raised_once, start_of}
 use Rattle.xa_server.proofs.SinceStart.{since_start}
 use Rattle.xa_session.specs.Tracking.{KeepsTrack}
 use Rattle.xa_server.proofs.laws.served_sessions_agree.Goals as goal

@@ -1,5 +1,6 @@
 use Rattle.std.proofs.Common.{refl}
-use Rattle.xa_server.proofs.TrackLemmas.{Laws, replies_tracked}
+use Rattle.xa_server.proofs.TrackLemmas.{replies_tracked}
+use Rattle.xa_server.proofs.SessionTracks.{Laws}
 use Rattle.xa_server.proofs.laws.sessions_are_tracked.Goals as goal
 
 pub returns : goal.returns

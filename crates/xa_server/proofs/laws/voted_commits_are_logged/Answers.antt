@@ -1,4 +1,4 @@
-use Rattle.xa_server.proofs.VoteLemmas.{voted_commits_are_logged}
+use Rattle.xa_server.proofs.LoggedCommits.{voted_commits_are_logged}
 use Rattle.xa_server.proofs.laws.voted_commits_are_logged.Goals as goal
 
 pub returns : goal.returns

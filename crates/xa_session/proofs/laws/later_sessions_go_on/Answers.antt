@@ -1,4 +1,4 @@
-use Rattle.xa_session.proofs.Logging.{later_sessions_are_newer, logs_have_all_or_none, rows_are_handed_on}
+use Rattle.xa_session.proofs.LogStarts.{later_sessions_are_newer, logs_have_all_or_none, rows_are_handed_on}
 use Rattle.xa_session.proofs.laws.later_sessions_go_on.Goals as goal
 
 pub returns-clause-all : goal.returns-clause-all

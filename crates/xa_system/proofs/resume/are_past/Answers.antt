@@ -3,7 +3,7 @@ use Rattle.std.proofs.lemmas.Option.{slice_get_read}
 use Rattle.xa_system.specs.SystemView.{IsOfPast}
 use Rattle.xa_system.specs.declared.site.Site.{Site}
 use Rattle.xa_system.proofs.Histories.Past.{are_of_past, one_newer}
-use Rattle.xa_system.proofs.Histories.Start.{below_all, below_more}
+use Rattle.xa_system.proofs.Histories.HoldsBelow.{below_all, below_more}
 use Rattle.xa_system.proofs.resume.are_past.Goals as goal
 
 pub returns-then-holds_newer-clause-newer : goal.returns-then-holds_newer-clause-newer

@@ -1,6 +1,6 @@
 use Rattle.xa_system.specs.SystemView.{IsOfPast}
 use Rattle.xa_system.specs.declared.site.Site.{Site}
-use Rattle.xa_system.proofs.Histories.Start.{HoldsBelow}
+use Rattle.xa_system.proofs.Histories.HoldsBelow.{HoldsBelow}
 use Rattle.xa_system.proofs.resume.are_past.Given as goal
 
 -- those so far are of the past

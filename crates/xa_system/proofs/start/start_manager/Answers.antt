@@ -1,6 +1,6 @@
 use Rattle.std.proofs.Common.{refl, sym, subst}
 use Rattle.std.specs.Prelude.{IsSome}
-use Rattle.xa_system.proofs.Histories.Start.{IsInSlot, in_slot, over_in_slot, started_in_slot}
+use Rattle.xa_system.proofs.Histories.SlotStart.{IsInSlot, in_slot, over_in_slot, started_in_slot}
 use Rattle.xa_tm.specs.Slots.{slot_moment}
 use Rattle.xa_system.proofs.start.start_manager.Goals as goal
 

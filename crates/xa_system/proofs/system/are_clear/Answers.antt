@@ -1,7 +1,7 @@
 use Rattle.std.proofs.Common.{length, refl}
 use Rattle.std.proofs.lemmas.Option.{slice_get_read}
 use Rattle.xa_system.specs.SystemView.{IsClear}
-use Rattle.xa_system.proofs.Histories.Start.{below_all, below_more}
+use Rattle.xa_system.proofs.Histories.HoldsBelow.{below_all, below_more}
 use Rattle.xa_system.proofs.system.are_clear.Goals as goal
 
 pub loop-rm-preserved : goal.loop-rm-preserved

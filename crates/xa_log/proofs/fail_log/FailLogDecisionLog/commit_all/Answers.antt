@@ -1,6 +1,6 @@
 use Rattle.std.proofs.Common.{◌∙◌, ap, sym}
 use Rattle.xa_log.specs.declared.fail_log.FailLog.{FailLog}
-use Rattle.xa_log.proofs.Together.{planned_as, planned_before}
+use Rattle.xa_log.proofs.PlannedCalls.{planned_as, planned_before}
 use Rattle.xa_log.proofs.fail_log.FailLogDecisionLog.commit_all.Goals as goal
 use Rattle.xa_log.proofs.fail_log.FailLogDecisionLog.commit_all.Goals.{in-FailsBefore, in_default}
 

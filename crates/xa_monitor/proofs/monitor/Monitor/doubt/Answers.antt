@@ -17,7 +17,7 @@ returns-in-Some-clause-ok c =
     c.or_done-states.result (sym c.in-Some.ensures)
     (subst (λ z. LeadsInto z (AskedOrNot (asks_of c.args.call.now)) c.or_done-states.result) was c.or_done-states.ensures.into)
     (subst (λ z. LeadsOnto z (AskedOrNot (asks_of c.args.call.now)) c.or_done-states.result) was c.or_done-states.ensures.onto)
-    (λ q. c.put.ensures q ∙ ap (λ z. if branch_eq b q then c.or_done-states.result else z) (same q))
+    (λ q. c.put.ensures.at q ∙ ap (λ z. if branch_eq b q then c.or_done-states.result else z) (same q))
 
 pub returns-in_default-clause-ok : goal.returns-in_default-clause-ok
 returns-in_default-clause-ok c =

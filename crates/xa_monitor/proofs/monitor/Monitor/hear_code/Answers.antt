@@ -12,7 +12,7 @@ returns-in-Some c = λ d is.
     c.after-states.result (sym c.in-Some.ensures)
     (subst (λ z. LeadsInto z (MovesAsAsked (asks_of c.args.call.now) c.args.code) c.after-states.result) c.states.ensures c.after-states.ensures.into)
     (subst (λ z. LeadsOnto z (MovesAsAsked (asks_of c.args.call.now) c.args.code) c.after-states.result) c.states.ensures c.after-states.ensures.onto)
-    c.put.ensures d is
+    c.put.ensures.at d is
 
 pub returns-in_default : goal.returns-in_default
 returns-in_default c = λ d is.

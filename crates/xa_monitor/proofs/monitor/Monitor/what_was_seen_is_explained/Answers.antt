@@ -1,5 +1,5 @@
 use Rattle.xa_monitor.proofs.Choices.{chosen}
-use Rattle.xa_monitor.proofs.Following.{by_did, somewhere}
+use Rattle.xa_monitor.proofs.Following.{by_did, no_standing, somewhere}
 use Rattle.xa_monitor.specs.Monitor.{states_of}
 use Rattle.xa_monitor.proofs.monitor.Monitor.what_was_seen_is_explained.Goals as goal
 
@@ -10,3 +10,6 @@ returns-clause-explained c o seen old keeps follows =
 
 pub returns-clause-did : goal.returns-clause-did
 returns-clause-did c o seen e follows = by_did o seen (states_of c.args.self.now) e follows
+
+pub returns-clause-unexplained : goal.returns-clause-unexplained
+returns-clause-unexplained c o seen l d a b never follows = no_standing o seen l d a (states_of c.args.self.now) b never follows

@@ -1,6 +1,7 @@
 use Rattle.std.proofs.Common.{subst, sym}
 use Rattle.xa_server.proofs.ReleaseLemmas.{all_is_same, is_forgotten, log_stays}
 use Rattle.xa_server.proofs.LogLemmas.{releases_keep}
+use Rattle.xa_server.proofs.OwedLemmas.{request_owes}
 use Rattle.xa_server.specs.Performing.{ChangesNothing}
 use Rattle.xa_server.specs.Releasing.{ReleasesAll, ended_by}
 use Rattle.xa_server.specs.Rows.{HasRow}
@@ -26,6 +27,11 @@ returns-clause-unchanged g c = λ one undone.
     subst (ChangesNothing c.args.self.now)
     (sym (all_is_same c.args.request.now c.act-reply.result c.act-reply.new.self c.release_ended.new.self one undone c.release_ended.ensures.releases))
     (c.act-reply.ensures.unchanged one undone)
+
+pub returns-clause-owed : goal.returns-clause-owed
+returns-clause-owed g c =
+    request_owes c.args.request.now c.act-reply.result c.args.self.now c.act-reply.new.self c.release_ended.new.self c.act-reply.ensures.does
+    c.release_ended.ensures.releases
 
 pub returns-clause-forgotten : goal.returns-clause-forgotten
 returns-clause-forgotten g c = λ h ends over.

@@ -1,6 +1,7 @@
 use Rattle.std.proofs.Common.{[], OnErr, OnOk, subst}
 use Rattle.std.specs.Io.Buffered.{reader_remaining}
-use Rattle.xa_server.proofs.ServingLemmas.{breaks_as_is, on_err_as, on_ok_as, serves_as_is}
+use Rattle.xa_base.proofs.Options.{on_ok}
+use Rattle.xa_server.proofs.WithoutName.{breaks_as_is, on_err_as, serves_as_is}
 use Rattle.xa_server.specs.NamedLines.{BreaksSessionUnder, ServesUnder}
 use Rattle.xa_server.specs.Replies.{greeting_of}
 use Rattle.xa_server.specs.Serving.{BreaksSession, Serves}
@@ -22,7 +23,7 @@ returns g c =
     let all = contents new.output in
     record {
       ready = c.serve_under.ensures.ready;
-      served = on_ok_as result (ServesUnder moment [] greeting unread rest written all s new.self)
+      served = on_ok result (ServesUnder moment [] greeting unread rest written all s new.self)
           (Serves moment greeting unread rest written all s new.self) (serves_as_is law moment greeting unread rest written all s new.self)
           (subst (λ n. OnOk result (ServesUnder moment n greeting unread rest written all s new.self)) c.none.ensures c.serve_under.ensures.served);
       broken = on_err_as result (BreaksSessionUnder moment [] greeting unread written all s new.self)

@@ -1,6 +1,7 @@
 use Rattle.std.proofs.Common.{◌∙◌, false, subst, sym}
 use Rattle.std.specs.Io.Buffered.{reader_remaining}
-use Rattle.xa_server.proofs.ServingLemmas.{at_end, off_at_once, off_behind, on_err, one_line, served_behind_flush}
+use Rattle.xa_log.proofs.Parts.{on_err}
+use Rattle.xa_server.proofs.OneLine.{at_end, off_at_once, off_behind, one_line, served_behind_flush}
 use Rattle.xa_server.proofs.LineLemmas.{asks_of}
 use Rattle.xa_server.specs.Serving.{RepliesToLine}
 use Rattle.xa_server.specs.ServingLines.{BreaksOff, ServesLine}

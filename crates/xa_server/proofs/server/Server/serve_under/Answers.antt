@@ -1,7 +1,8 @@
 use Rattle.std.proofs.Common.{◌∙◌, ap, subst}
 use Rattle.std.specs.Io.Buffered.{reader_remaining}
 use Rattle.std.specs.Io.KnownBytes.{Appends}
-use Rattle.xa_server.proofs.ServingLemmas.{broken_off, greeted, no_more, not_greeted, on_err, one_more, the_last}
+use Rattle.xa_log.proofs.Parts.{on_err}
+use Rattle.xa_server.proofs.SessionParts.{broken_off, greeted, no_more, not_greeted, one_more, the_last}
 use Rattle.xa_server.specs.Lines.{lone_reply}
 use Rattle.xa_server.specs.NamedLines.{BreaksSessionUnder, line_written}
 use Rattle.xa_server.specs.Replies.{greeting_of}

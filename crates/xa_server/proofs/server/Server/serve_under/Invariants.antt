@@ -1,5 +1,5 @@
 use Rattle.std.specs.Io.Buffered.{reader_remaining}
-use Rattle.xa_server.proofs.ServingLemmas.{ServesSome}
+use Rattle.xa_server.proofs.SessionParts.{ServesSome}
 use Rattle.xa_server.specs.Replies.{greeting_of}
 use Rattle.xa_session.specs.Session.{IsReady}
 use Rattle.xa_server.proofs.server.Server.serve_under.Given as goal

@@ -17,12 +17,13 @@ use Rattle.xa_tm.specs.Book.{Doubt.NoDoubt, doubt_of}
 use Rattle.xa_tm.specs.Calls.{FailsBy, book_in}
 use Rattle.xa_session.proofs.Hearings.{answer_heard, has_answer, hearable}
 use Rattle.xa_session.proofs.Lines.{all_with, may_tell, waiting_known}
-use Rattle.xa_session.proofs.Sessions.{book_kept, failed, has_few, kept_stays, room_for_one, sized_after, sized_by_failure, stays_same, step_leaves}
-use Rattle.xa_session.proofs.Telling.{answered_follows}
+use Rattle.xa_session.proofs.Sessions.{has_few, room_for_one, sized_after, sized_by_failure, stays_same, step_leaves}
+use Rattle.xa_session.proofs.AskedLogs.{book_kept, failed, kept_stays}
+use Rattle.xa_session.proofs.HeardAnswers.{answered_follows}
 use Rattle.xa_session.specs.Hearing.{with_answer_heard}
 use Rattle.xa_session.specs.declared.session.answers.Unfit.TheVariants.{Refused}
 use Rattle.xa_session.specs.Logging.{KeepsLog}
-use Rattle.xa_session.proofs.Logging.{heard_keeps, unheard_keeps}
+use Rattle.xa_session.proofs.LoggedChanges.{heard_keeps, unheard_keeps}
 use Rattle.std.proofs.Common.{inl, inr}
 use Rattle.std.specs.Prelude.{Result, Err}
 use Rattle.std.proofs.lemmas.Option.{none-some}
@@ -120,26 +121,19 @@ returns-in-Some-unexplained-clause-hears g c =
     let s = c.args.self.now in
     let t = c.args.thread in
     let r = c.args.rm in
-    let waits_so : slice_get (line_at s.lines t r).calls.waiting 0 ≡ Some c.copy-call.result =
+    let waits : slice_get (line_at s.lines t r).calls.waiting 0 ≡ Some c.copy-call.result =
     ap (λ (l : Traffic). slice_get l.calls.waiting 0) (sym c.line.ensures.value) ∙ sym c.front.ensures ∙ ap option_copied c.in-Some.is
     ∙ ap (λ k. Some k) (sym c.copy-call.ensures)
     in
-    let fit = fits_so s t r c.args.answer c.copy-call.result (sym c.in_ok-check_line.ensures) waits_so (sym c.can_hear.ensures ∙ c.if-not-can_hear.false) in
+    let fit = fits_so s t r c.args.answer c.copy-call.result (sym c.in_ok-check_line.ensures) waits (sym c.can_hear.ensures ∙ c.if-not-can_hear.false) in
     record {
       refused = λ u some. absurd (none-some u (sym fit ∙ some));
       allowed = tt;
       unexplained = λ b e.
-          let s = c.args.self.now in
-          let t = c.args.thread in
-          let r = c.args.rm in
           let may = may_tell s t r (sym c.in_ok-check_line.ensures) in
           let same : c.in-Some-unexplained.b ≡ b = cc in
           let knows = (hearable (map_call name_of c.copy-call.result) (map_answer name_of c.args.answer)
-          (sym c.can_hear.ensures ∙ c.if-not-can_hear.false)).known in
-          let waits : slice_get (line_at s.lines t r).calls.waiting 0 ≡ Some c.copy-call.result =
-          ap (λ (l : Traffic). slice_get l.calls.waiting 0) (sym c.line.ensures.value) ∙ sym c.front.ensures ∙ ap option_copied c.in-Some.is
-          ∙ ap (λ k. Some k) (sym c.copy-call.ensures)
-          in (
+          (sym c.can_hear.ensures ∙ c.if-not-can_hear.false)).known in (
             (λ explains.
                 subst (λ q. CanExplain (states_of s.monitor) (line t r) knows.0 (map_answer name_of c.args.answer) q → ⊥) same
                 (c.in-Some-unexplained.ensures.some t knows.0 knows.1)
@@ -161,24 +155,17 @@ returns-in_default-make_room-clause-hears g c =
     let s = c.args.self.now in
     let t = c.args.thread in
     let r = c.args.rm in
-    let waits_so : slice_get (line_at s.lines t r).calls.waiting 0 ≡ Some c.copy-call.result =
+    let waits : slice_get (line_at s.lines t r).calls.waiting 0 ≡ Some c.copy-call.result =
     ap (λ (l : Traffic). slice_get l.calls.waiting 0) (sym c.line.ensures.value) ∙ sym c.front.ensures ∙ ap option_copied c.in-Some.is
     ∙ ap (λ k. Some k) (sym c.copy-call.ensures)
     in
-    let fit = fits_so s t r c.args.answer c.copy-call.result (sym c.in_ok-check_line.ensures) waits_so (sym c.can_hear.ensures ∙ c.if-not-can_hear.false) in
+    let fit = fits_so s t r c.args.answer c.copy-call.result (sym c.in_ok-check_line.ensures) waits (sym c.can_hear.ensures ∙ c.if-not-can_hear.false) in
     record {
       refused = λ u some. absurd (none-some u (sym fit ∙ some));
       allowed = tt;
       unexplained = λ b e. absurd cc;
       explained = λ fit not q some d is.
-          let s = c.args.self.now in
-          let t = c.args.thread in
-          let r = c.args.rm in
           let may = may_tell s t r (sym c.in_ok-check_line.ensures) in
-          let waits : slice_get (line_at s.lines t r).calls.waiting 0 ≡ Some c.copy-call.result =
-          ap (λ (l : Traffic). slice_get l.calls.waiting 0) (sym c.line.ensures.value) ∙ sym c.front.ensures ∙ ap option_copied c.in-Some.is
-          ∙ ap (λ k. Some k) (sym c.copy-call.ensures)
-          in
           c.unexplained.ensures.none c.in_default-unexplained.is t d (sym (waiting_known s.lines t r c.copy-call.result may.there waits) ∙ is) q some;
       heard = tt;
       lines = tt;
@@ -194,37 +181,23 @@ returns-in-Ok-hear-clause-hears g c =
     let s = c.args.self.now in
     let t = c.args.thread in
     let r = c.args.rm in
-    let waits_so : slice_get (line_at s.lines t r).calls.waiting 0 ≡ Some c.copy-call.result =
+    let waits : slice_get (line_at s.lines t r).calls.waiting 0 ≡ Some c.copy-call.result =
     ap (λ (l : Traffic). slice_get l.calls.waiting 0) (sym c.line.ensures.value) ∙ sym c.front.ensures ∙ ap option_copied c.in-Some.is
     ∙ ap (λ k. Some k) (sym c.copy-call.ensures)
     in
-    let fit = fits_so s t r c.args.answer c.copy-call.result (sym c.in_ok-check_line.ensures) waits_so (sym c.can_hear.ensures ∙ c.if-not-can_hear.false) in
+    let fit = fits_so s t r c.args.answer c.copy-call.result (sym c.in_ok-check_line.ensures) waits (sym c.can_hear.ensures ∙ c.if-not-can_hear.false) in
     record {
       refused = λ u some. absurd (none-some u (sym fit ∙ some));
       allowed = fit;
       unexplained = λ b e. absurd cc;
       explained = λ fit not q some d is.
-          let s = c.args.self.now in
-          let t = c.args.thread in
-          let r = c.args.rm in
           let may = may_tell s t r (sym c.in_ok-check_line.ensures) in
-          let waits : slice_get (line_at s.lines t r).calls.waiting 0 ≡ Some c.copy-call.result =
-          ap (λ (l : Traffic). slice_get l.calls.waiting 0) (sym c.line.ensures.value) ∙ sym c.front.ensures ∙ ap option_copied c.in-Some.is
-          ∙ ap (λ k. Some k) (sym c.copy-call.ensures)
-          in
           c.unexplained.ensures.none c.in_default-unexplained.is t d (sym (waiting_known s.lines t r c.copy-call.result may.there waits) ∙ is) q some;
       heard = λ d front.
-          let s = c.args.self.now in
-          let t = c.args.thread in
-          let r = c.args.rm in
           let call = front.0 in
           let first = front.1 in
           let is = front.2 in
           let may = may_tell s t r (sym c.in_ok-check_line.ensures) in
-          let waits : slice_get (line_at s.lines t r).calls.waiting 0 ≡ Some c.copy-call.result =
-          ap (λ (l : Traffic). slice_get l.calls.waiting 0) (sym c.line.ensures.value) ∙ sym c.front.ensures ∙ ap option_copied c.in-Some.is
-          ∙ ap (λ k. Some k) (sym c.copy-call.ensures)
-          in
           let knows : known c.copy-call.result ≡ Some d = subst (λ k. known k ≡ Some d) (some_is _ _ (sym first ∙ waits)) is in
           record {
             book = c.in-Ok-hear.ensures.ok d knows;
@@ -253,46 +226,29 @@ returns-in-Err-clause-hears g c =
     let s = c.args.self.now in
     let t = c.args.thread in
     let r = c.args.rm in
-    let waits_so : slice_get (line_at s.lines t r).calls.waiting 0 ≡ Some c.copy-call.result =
+    let waits : slice_get (line_at s.lines t r).calls.waiting 0 ≡ Some c.copy-call.result =
     ap (λ (l : Traffic). slice_get l.calls.waiting 0) (sym c.line.ensures.value) ∙ sym c.front.ensures ∙ ap option_copied c.in-Some.is
     ∙ ap (λ k. Some k) (sym c.copy-call.ensures)
     in
-    let fit = fits_so s t r c.args.answer c.copy-call.result (sym c.in_ok-check_line.ensures) waits_so (sym c.can_hear.ensures ∙ c.if-not-can_hear.false) in
+    let fit = fits_so s t r c.args.answer c.copy-call.result (sym c.in_ok-check_line.ensures) waits (sym c.can_hear.ensures ∙ c.if-not-can_hear.false) in
     record {
       refused = λ u some. absurd (none-some u (sym fit ∙ some));
       allowed = tt;
       unexplained = λ b e. absurd cc;
       explained = λ fit not q some d is.
-          let s = c.args.self.now in
-          let t = c.args.thread in
-          let r = c.args.rm in
           let may = may_tell s t r (sym c.in_ok-check_line.ensures) in
-          let waits : slice_get (line_at s.lines t r).calls.waiting 0 ≡ Some c.copy-call.result =
-          ap (λ (l : Traffic). slice_get l.calls.waiting 0) (sym c.line.ensures.value) ∙ sym c.front.ensures ∙ ap option_copied c.in-Some.is
-          ∙ ap (λ k. Some k) (sym c.copy-call.ensures)
-          in
           c.unexplained.ensures.none c.in_default-unexplained.is t d (sym (waiting_known s.lines t r c.copy-call.result may.there waits) ∙ is) q some;
       heard = tt;
       lines = tt;
       only = λ none. inl (c.in-Err.refusal, refl);
       fails = λ n e none d front.
-          let s = c.args.self.now in
-          let t = c.args.thread in
-          let r = c.args.rm in
           let may = may_tell s t r (sym c.in_ok-check_line.ensures) in
-          let waits : slice_get (line_at s.lines t r).calls.waiting 0 ≡ Some c.copy-call.result =
-          ap (λ (l : Traffic). slice_get l.calls.waiting 0) (sym c.line.ensures.value) ∙ sym c.front.ensures ∙ ap option_copied c.in-Some.is
-          ∙ ap (λ k. Some k) (sym c.copy-call.ensures)
-          in
           let same : c.in-Err.refusal ≡ n = cc in
           let knows : known c.copy-call.result ≡ Some d = subst (λ k. known k ≡ Some d) (some_is _ _ (sym front.1 ∙ waits)) front.2 in
           let doubt = doubt_of (record_of d (map_answer name_of c.args.answer)) in
           subst (λ m. FailsBy doubt (InHear (line t r)) (book_in s.manager) (book_in m) n) (sym c.conclude.ensures.manager)
           (subst (FailsBy doubt (InHear (line t r)) (book_in s.manager) (book_in c.hear.new.self)) same (c.in-Err.ensures.err may.up d knows));
       stays = λ not.
-          let s = c.args.self.now in
-          let t = c.args.thread in
-          let r = c.args.rm in
           let may = may_tell s t r (sym c.in_ok-check_line.ensures) in
           let knows = (hearable (map_call name_of c.copy-call.result) (map_answer name_of c.args.answer)
           (sym c.can_hear.ensures ∙ c.if-not-can_hear.false)).known in

@@ -28,8 +28,8 @@ returns-in_err-check g c =
     ap result_err err.1 ∙ ap (λ n. Some n) err.2
     ∙ sym (issue_rule s t r call ∙ λ i. option_or (line i) (option_or (bar i) (option_or book (if is_full at then Some Full else None))))
 
-pub returns-in-Some : goal.returns-in-Some
-returns-in-Some g c =
+pub returns-in_err-check_issue : goal.returns-in_err-check_issue
+returns-in_err-check_issue g c =
     let s = c.args.self.now in
     let t = c.args.thread in
     let r = c.args.rm in
@@ -37,8 +37,10 @@ returns-in-Some g c =
     let at = line_at s.lines t r in
     let line = sym c.in_ok-check_line.ensures in
     let bar = ap (λ l. barred (calls_issued l) call) (sym c.line-line.ensures.value) ∙ sym c.in_ok-check.ensures in
-    let book = sym c.may_issue.ensures ∙ c.in-Some.is in
-    sym (issue_rule s t r call ∙ λ i. option_or (line i) (option_or (bar i) (option_or (book i) (if is_full at then Some Full else None))))
+    let book = sym c.in_err-check_issue.ensures in
+    let err = err_from_is_err_and c.from_residual-in_err-check_issue.result c.from_residual-in_err-check_issue.ensures.1 in
+    ap result_err err.1 ∙ ap (λ n. Some n) err.2
+    ∙ sym (issue_rule s t r call ∙ λ i. option_or (line i) (option_or (bar i) (option_or (book i) (if is_full at then Some Full else None))))
 
 pub returns : goal.returns
 returns g c =
@@ -49,7 +51,7 @@ returns g c =
     let at = line_at s.lines t r in
     let line = sym c.in_ok-check_line.ensures in
     let bar = ap (λ l. barred (calls_issued l) call) (sym c.line-line.ensures.value) ∙ sym c.in_ok-check.ensures in
-    let book = sym c.may_issue.ensures ∙ c.in_default.is in
+    let book = sym c.in_ok-check_issue.ensures in
     c.check_room.ensures ∙ ap (λ l. room_refusal l 1) c.line-line.ensures.value
     ∙ ap (λ b. if b then Some Full else None) (full_is (length at.calls.waiting))
     ∙ sym (issue_rule s t r call ∙ λ i. option_or (line i) (option_or (bar i) (option_or (book i) (if is_full at then Some Full else None))))

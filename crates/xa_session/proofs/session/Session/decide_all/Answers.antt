@@ -8,11 +8,13 @@ use Rattle.xa_tm.specs.Calls.{book_in, written_by}
 use Rattle.xa_tm.specs.InTurn.{decide_refusal, rows_added}
 use Rattle.xa_session.proofs.Following.{follows_if_ok}
 use Rattle.xa_session.proofs.Refusals.{no_fault_in_turn}
-use Rattle.xa_session.proofs.Sessions.{Concludes, concluded, refusal_of_all_is, sized_by_call}
+use Rattle.xa_session.proofs.Sessions.{refusal_of_all_is, sized_by_call}
+use Rattle.xa_session.proofs.AskedLogs.{Concludes, concluded}
 use Rattle.xa_session.proofs.Turns.{decisions_lead, decisions_may}
 use Rattle.std.proofs.Common.{refl, subst}
 use Rattle.xa_session.proofs.Headroom.{sound}
-use Rattle.xa_session.proofs.Logging.{all_decided, asked_keeps, decisions_change}
+use Rattle.xa_session.proofs.Logging.{asked_keeps}
+use Rattle.xa_session.proofs.LoggedChanges.{all_decided, decisions_change}
 use Rattle.xa_session.specs.Logging.{KeepsLog}
 use Rattle.xa_session.proofs.StepLemmas.{concluded_asks, concluded_happens, concluded_obeys}
 use Rattle.xa_session.specs.Session.{decide_all_refusal as session_refusal}

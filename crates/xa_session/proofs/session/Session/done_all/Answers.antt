@@ -8,11 +8,13 @@ use Rattle.xa_tm.specs.InTurn.{done_refusal}
 use Rattle.xa_tm.specs.Calls.{book_in}
 use Rattle.xa_session.proofs.Following.{follows_if_ok}
 use Rattle.xa_session.proofs.Refusals.{no_fault_in_turn}
-use Rattle.xa_session.proofs.Sessions.{Concludes, concluded, refusal_of_all_is, sized_by_call}
+use Rattle.xa_session.proofs.Sessions.{refusal_of_all_is, sized_by_call}
+use Rattle.xa_session.proofs.AskedLogs.{Concludes, concluded}
 use Rattle.xa_session.proofs.Turns.{done_lead, done_may}
 use Rattle.xa_session.specs.Logging.{KeepsLog}
 use Rattle.std.proofs.Common.{refl, subst}
-use Rattle.xa_session.proofs.Logging.{all_done, asked_keeps, removals_change}
+use Rattle.xa_session.proofs.Logging.{asked_keeps}
+use Rattle.xa_session.proofs.LoggedChanges.{all_done, removals_change}
 use Rattle.xa_tm.specs.Book.{Doubt.Drops}
 use Rattle.xa_session.proofs.StepLemmas.{concluded_asks, concluded_happens, concluded_obeys}
 use Rattle.xa_session.specs.Session.{done_all_refusal as session_refusal}

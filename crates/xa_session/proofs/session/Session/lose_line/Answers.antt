@@ -9,7 +9,7 @@ use Rattle.xa_monitor.specs.Monitor.{Loses}
 use Rattle.xa_tm.specs.Book.{Doubt.NoDoubt}
 use Rattle.xa_session.proofs.Lines.{all_with, may_tell, waiting_if}
 use Rattle.xa_session.proofs.Sessions.{has_few, step_leaves}
-use Rattle.xa_session.proofs.Telling.{lost_follows}
+use Rattle.xa_session.proofs.LostLines.{lost_follows}
 use Rattle.xa_tm.specs.Calls.{book_in}
 use Rattle.xa_session.proofs.Logging.{quiet_keeps, same_lost}
 use Rattle.xa_session.proofs.StepLemmas.{ok_obeys}

@@ -8,7 +8,7 @@ use Rattle.xa_tm.specs.Refusing.{resolved_in}
 use Rattle.xa_session.proofs.Lines.{all_with, may_recover, may_tell}
 use Rattle.xa_session.proofs.Recoveries.{recovery_open, recovery_room, recovery_unclosed}
 use Rattle.xa_session.proofs.Sessions.{has_few, step_leaves}
-use Rattle.xa_session.proofs.Telling.{resolved_follows}
+use Rattle.xa_session.proofs.RecoveryCalls.{resolved_follows}
 use Rattle.xa_session.proofs.StepLemmas.{ok_obeys}
 use Rattle.xa_session.specs.Session.{LetsWait, recovery_refusal, resolve_refusal}
 use Rattle.xa_session.proofs.session.Session.resolve.Goals as goal

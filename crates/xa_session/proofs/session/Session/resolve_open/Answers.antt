@@ -8,7 +8,7 @@ use Rattle.xa_tm.specs.Refusing.{resolved_open_in}
 use Rattle.xa_session.proofs.Lines.{all_with, may_recover, may_tell}
 use Rattle.xa_session.proofs.Recoveries.{recovery_open, recovery_room, recovery_unclosed}
 use Rattle.xa_session.proofs.Sessions.{has_few, step_leaves}
-use Rattle.xa_session.proofs.Telling.{open_resolved_follows}
+use Rattle.xa_session.proofs.RecoveryCalls.{open_resolved_follows}
 use Rattle.xa_session.proofs.Logging.{quiet_keeps, same_book, same_opened}
 use Rattle.xa_session.proofs.StepLemmas.{ok_obeys}
 use Rattle.xa_session.specs.Session.{LetsWait, recovery_refusal, resolve_open_refusal}
@@ -76,7 +76,11 @@ returns-clause-resolves g c =
       resolved = record {
         book = c.in_ok-calls.ensures.ok;
         follows =
-            record { leads = open_resolved_follows s _ r c.resolve_open_len-count.result none c.in_ok-calls.ensures.ok waits; counted = refl; states = λ b. refl };
+            record {
+              leads = open_resolved_follows s _ r c.resolve_open_len-count.result none c.in_ok-calls.ensures.ok waits;
+              counted = refl;
+              states = λ b. refl;
+            };
       };
       log = c.in_ok-calls.ensures.log;
     }

@@ -8,11 +8,13 @@ use Rattle.xa_tm.specs.Calls.{book_in}
 use Rattle.xa_tm.specs.Refusing.{refusal_in}
 use Rattle.xa_session.proofs.Refusals.{begun_if_settled, no_fault}
 use Rattle.xa_session.proofs.Following.{settled_follows, follows_if_ok}
-use Rattle.xa_session.proofs.Sessions.{Concludes, concluded, refusal_is, room_for_one, sized_by_call}
+use Rattle.xa_session.proofs.Sessions.{refusal_is, room_for_one, sized_by_call}
+use Rattle.xa_session.proofs.AskedLogs.{Concludes, concluded}
 use Rattle.xa_session.specs.Logging.{KeepsLog}
 use Rattle.std.proofs.Common.{subst}
 use Rattle.xa_session.proofs.Headroom.{sound}
-use Rattle.xa_session.proofs.Logging.{asked_keeps, one_settled, settlement_changes}
+use Rattle.xa_session.proofs.Logging.{asked_keeps}
+use Rattle.xa_session.proofs.LoggedChanges.{one_settled, settlement_changes}
 use Rattle.xa_session.proofs.StepLemmas.{concluded_asks, concluded_happens, concluded_obeys}
 use Rattle.xa_session.specs.Session.{refusal_at}
 use Rattle.xa_session.proofs.session.Session.settle.Goals as goal

@@ -3,7 +3,7 @@ use Rattle.xa_base.specs.declared.step.Step.TheVariants as Steps
 use Rattle.xa_tm.specs.Calls.{book_in, log_in}
 use Rattle.xa_tm.specs.BookAndLog.{IsTied}
 use Rattle.xa_system.specs.Parts.{sees}
-use Rattle.xa_system.proofs.Steps.OfManager.{abandon_did, manager_refused}
+use Rattle.xa_system.proofs.Steps.ManagerAlone.{abandon_did, manager_refused}
 use Rattle.xa_system.proofs.parts.Parts.abandon.Goals as goal
 
 pub returns-in-Ok : goal.returns-in-Ok

@@ -2,7 +2,8 @@ use Rattle.std.proofs.Common.{refl}
 use Rattle.xa_base.specs.declared.branch.Gtrid.{Gtrid}
 use Rattle.xa_base.specs.declared.step.Step.TheVariants as Steps
 use Rattle.xa_system.specs.Parts.{sees}
-use Rattle.xa_system.proofs.Steps.OfManager.{begin_did, manager_refused, sound_book}
+use Rattle.xa_system.proofs.Steps.OfManager.{sound_book}
+use Rattle.xa_system.proofs.Steps.ManagerAlone.{begin_did, manager_refused}
 use Rattle.xa_system.proofs.parts.Parts.begin.Goals as goal
 
 pub begin-requires : goal.begin-requires

@@ -8,8 +8,10 @@ use Rattle.xa_model.specs.Trace.{Happening.PutOff}
 use Rattle.xa_base.specs.declared.step.Step.TheVariants as Steps
 use Rattle.xa_rm.specs.ResourceManager.{retrying}
 use Rattle.xa_system.specs.Parts.{sees}
-use Rattle.xa_system.proofs.Steps.Crash.{rm_read}
-use Rattle.xa_system.proofs.Steps.Script.{is_there, never_scripts, put_off, put_off_script, script_hinders, script_told}
+use Rattle.xa_system.proofs.Steps.PresentRms.{rm_read}
+use Rattle.xa_system.proofs.Steps.Script.{script_hinders, script_told}
+use Rattle.xa_system.proofs.Steps.ScriptedBranches.{put_off, put_off_script}
+use Rattle.xa_system.proofs.Steps.ScriptRefusals.{is_there, never_scripts}
 use Rattle.xa_system.proofs.parts.Parts.busy.Goals as goal
 
 pub returns-in-Err : goal.returns-in-Err

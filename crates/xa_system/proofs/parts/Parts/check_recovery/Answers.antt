@@ -7,8 +7,9 @@ use Rattle.xa_line.specs.Grid.{line_at}
 use Rattle.xa_base.specs.Opening.{has_closed, has_opened}
 use Rattle.xa_line.specs.Traffic.{calls_issued, opening_refusal, room_refusal}
 use Rattle.xa_system.specs.Parts.{sees}
-use Rattle.xa_system.proofs.Steps.Crash.{rm_read}
-use Rattle.xa_system.proofs.Steps.Resolve.{recovery_by_line, recovery_found, recovery_why}
+use Rattle.xa_system.proofs.Steps.PresentRms.{rm_read}
+use Rattle.xa_system.proofs.Steps.RecoveryGoes.{recovery_by_line, recovery_found}
+use Rattle.xa_system.proofs.Steps.RecoveryRules.{recovery_why}
 use Rattle.xa_system.proofs.parts.Parts.check_recovery.Goals as goal
 
 pub returns-then-not-index : goal.returns-then-not-index

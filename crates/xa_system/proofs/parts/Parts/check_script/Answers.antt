@@ -3,8 +3,9 @@ use Rattle.std.specs.Prelude.{not}
 use Rattle.xa_model.specs.Replies.History.{name_of}
 use Rattle.xa_model.specs.Replies.Guards.{is_at}
 use Rattle.xa_system.specs.Parts.{sees}
-use Rattle.xa_system.proofs.Steps.Crash.{rm_read}
-use Rattle.xa_system.proofs.Steps.Script.{script_found, script_limit, script_why}
+use Rattle.xa_system.proofs.Steps.PresentRms.{rm_read}
+use Rattle.xa_system.proofs.Steps.Script.{script_found, script_limit}
+use Rattle.xa_system.proofs.Steps.ScriptRefusals.{script_why}
 use Rattle.xa_system.proofs.parts.Parts.check_script.Goals as goal
 
 pub returns-then-rm-rms-clause-why : goal.returns-then-rm-rms-clause-why

@@ -1,7 +1,7 @@
 use Rattle.std.proofs.Common.{refl}
 use Rattle.xa_base.specs.declared.step.Step.TheVariants as Steps
 use Rattle.xa_system.specs.Parts.{sees}
-use Rattle.xa_system.proofs.Steps.OfManager.{claim_did, manager_refused}
+use Rattle.xa_system.proofs.Steps.ManagerAlone.{claim_did, manager_refused}
 use Rattle.xa_system.proofs.parts.Parts.claim.Goals as goal
 
 pub returns-in-Ok : goal.returns-in-Ok

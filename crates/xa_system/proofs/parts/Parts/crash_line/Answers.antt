@@ -5,8 +5,10 @@ use Rattle.xa_base.specs.declared.step.Step.TheVariants as Steps
 use Rattle.xa_model.specs.Trace.{Happening.Crashed}
 use Rattle.xa_system.proofs.Log.Changes.{log_kept}
 use Rattle.xa_system.specs.Parts.{sees}
-use Rattle.xa_system.proofs.Steps.Crash.{crash_line_down, crash_line_leads, crash_line_limit, crash_line_rm_down, same_up}
-use Rattle.xa_system.proofs.Histories.Standing.{refused_goes, site_read}
+use Rattle.xa_system.proofs.Steps.Crash.{crash_line_down, crash_line_leads, crash_line_limit, crash_line_rm_down}
+use Rattle.xa_system.proofs.Steps.PresentRms.{same_up}
+use Rattle.xa_system.proofs.Histories.Standing.{site_read}
+use Rattle.xa_system.proofs.Histories.RefusedSteps.{refused_goes}
 use Rattle.xa_system.proofs.parts.Parts.crash_line.Goals as goal
 
 pub returns-then-not-has : goal.returns-then-not-has

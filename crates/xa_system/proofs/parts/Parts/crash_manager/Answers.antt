@@ -5,8 +5,8 @@ use Rattle.xa_base.specs.declared.step.Step.TheVariants as Steps
 use Rattle.xa_model.specs.Trace.{Happening.Crashed}
 use Rattle.xa_system.proofs.Log.Changes.{log_kept}
 use Rattle.xa_system.specs.Parts.{sees}
-use Rattle.xa_system.proofs.Steps.Crash.{crash_manager_down, crash_manager_leads}
-use Rattle.xa_system.proofs.Histories.Standing.{refused_goes}
+use Rattle.xa_system.proofs.Steps.CrashManager.{crash_manager_down, crash_manager_leads}
+use Rattle.xa_system.proofs.Histories.RefusedSteps.{refused_goes}
 use Rattle.xa_system.proofs.parts.Parts.crash_manager.Goals as goal
 
 pub returns-then-not-is_up : goal.returns-then-not-is_up

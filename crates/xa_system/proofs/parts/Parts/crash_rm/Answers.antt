@@ -5,8 +5,9 @@ use Rattle.xa_base.specs.declared.step.Step.TheVariants as Steps
 use Rattle.xa_model.specs.Trace.{Happening.Crashed}
 use Rattle.xa_system.proofs.Log.Changes.{log_kept}
 use Rattle.xa_system.specs.Parts.{sees}
-use Rattle.xa_system.proofs.Steps.Crash.{crash_rm_down, crash_rm_leads, crash_rm_limit, rm_read, same_up}
-use Rattle.xa_system.proofs.Histories.Standing.{refused_goes}
+use Rattle.xa_system.proofs.Steps.PresentRms.{rm_read, same_up}
+use Rattle.xa_system.proofs.Steps.CrashRm.{crash_rm_down, crash_rm_leads, crash_rm_limit}
+use Rattle.xa_system.proofs.Histories.RefusedSteps.{refused_goes}
 use Rattle.xa_system.proofs.parts.Parts.crash_rm.Goals as goal
 
 pub returns-then-rm-rms : goal.returns-then-rm-rms

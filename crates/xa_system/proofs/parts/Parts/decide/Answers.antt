@@ -8,7 +8,8 @@ use Rattle.xa_tm.specs.Calls.{book_in}
 use Rattle.xa_tm.specs.BookAndLog.{changed_by}
 use Rattle.xa_system.specs.Parts.{sees}
 use Rattle.xa_system.proofs.Steps.Decide.{row_is_asked, manager_undone}
-use Rattle.xa_system.proofs.Steps.OfManager.{decide_did, sound_book, up_where}
+use Rattle.xa_system.proofs.Steps.OfManager.{sound_book, up_where}
+use Rattle.xa_system.proofs.Steps.ManagerAlone.{decide_did}
 use Rattle.xa_system.proofs.Log.Changes.{log_called, log_undone}
 use Rattle.xa_tm.specs.Book.{Book, Doubt.Adds, rows_for}
 use Rattle.xa_system.proofs.parts.Parts.decide.Goals as goal

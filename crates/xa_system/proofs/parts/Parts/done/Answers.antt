@@ -4,7 +4,8 @@ use Rattle.xa_base.specs.declared.step.Step.TheVariants as Steps
 use Rattle.xa_tm.specs.BookAndLog.{changed_by}
 use Rattle.xa_system.specs.Parts.{sees}
 use Rattle.xa_system.proofs.Steps.Decide.{manager_undone}
-use Rattle.xa_system.proofs.Steps.OfManager.{done_did, sound_book, up_where}
+use Rattle.xa_system.proofs.Steps.OfManager.{sound_book, up_where}
+use Rattle.xa_system.proofs.Steps.ManagerAlone.{done_did}
 use Rattle.xa_system.proofs.Log.Changes.{log_called, log_undone}
 use Rattle.xa_tm.specs.Book.{Doubt.Drops}
 use Rattle.xa_system.proofs.parts.Parts.done.Goals as goal

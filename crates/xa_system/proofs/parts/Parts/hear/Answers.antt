@@ -9,9 +9,11 @@ use Rattle.xa_base.specs.declared.refusal.Refusal.TheVariants as Refusals
 use Rattle.xa_base.specs.declared.step.Step.TheVariants as Steps
 use Rattle.xa_line.specs.Traffic.{Traffic}
 use Rattle.xa_system.specs.Parts.{sees}
-use Rattle.xa_system.proofs.Steps.Hear.{book_up, hear_answers, hear_did, hear_fits, hear_found, hear_lacks, hear_limit, hear_nothing, hear_undone, recorded_answer, some_and}
+use Rattle.xa_system.proofs.Steps.Hear.{hear_answers, hear_did, hear_fits, hear_found, hear_lacks, hear_limit, hear_nothing, hear_undone}
+use Rattle.xa_system.proofs.Steps.HeardAnswers.{recorded_answer, some_and}
 use Rattle.xa_system.proofs.Steps.OfManager.{sound_book}
-use Rattle.xa_system.proofs.Histories.Standing.{refused_goes, site_read}
+use Rattle.xa_system.proofs.Histories.Standing.{site_read, up_is}
+use Rattle.xa_system.proofs.Histories.RefusedSteps.{refused_goes}
 use Rattle.xa_system.proofs.Log.Changes.{log_undone}
 use Rattle.xa_system.proofs.parts.Parts.hear.Goals as goal
 
@@ -153,7 +155,7 @@ returns-in-Err g c tr stands few =
     let first = sym (ap option_copied c.in-Some.is) ∙ c.front_answer.ensures ∙ ap (λ (l : Traffic). slice_get l.answers.waiting 0) c.line.ensures.value in
     hear_undone see tr p t r stands there none c.in-Some.field-0.now.0 c.in-Some.field-0.now.1 c.in-Err.refusal c.undone.new.sites c.undone.new.lines
     c.hear.new.self c.undone.result first c.undone.ensures.reply
-    (sym (book_up see tr p stands) ∙ up) (c.in-Err.ensures.err up)
+    (sym (up_is see tr p stands) ∙ up) (c.in-Err.ensures.err up)
     (λ e. recorded_answer (map_call name_of c.in-Some.field-0.now.0) c.in-Some.field-0.now.1
     (c.in-Err.ensures.asked (ap (λ (m : Refusal). let x : Result (Unit {0}) Refusal = Err m in x) e))) c.undone.ensures.failed c.undone.ensures.broken
     c.undone.ensures.sites_stay c.undone.ensures.lines_stay

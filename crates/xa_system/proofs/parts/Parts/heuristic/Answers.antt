@@ -7,8 +7,10 @@ use Rattle.xa_model.specs.Trace.{Happening.CompletedAlone}
 use Rattle.xa_base.specs.declared.step.Step.TheVariants as Steps
 use Rattle.xa_base.specs.HeldBranch.{completed_by}
 use Rattle.xa_system.specs.Parts.{sees}
-use Rattle.xa_system.proofs.Steps.Crash.{rm_read}
-use Rattle.xa_system.proofs.Steps.Script.{alone_script, ended_alone, held_here, heuristic_bad, heuristic_elsewhere, heuristic_fine, script_hinders, script_told}
+use Rattle.xa_system.proofs.Steps.PresentRms.{rm_read}
+use Rattle.xa_system.proofs.Steps.Script.{held_here, script_hinders, script_told}
+use Rattle.xa_system.proofs.Steps.ScriptedBranches.{alone_script, ended_alone}
+use Rattle.xa_system.proofs.Steps.ScriptRefusals.{heuristic_bad, heuristic_elsewhere, heuristic_fine}
 use Rattle.xa_system.proofs.parts.Parts.heuristic.Goals as goal
 
 pub returns-in-Err : goal.returns-in-Err

@@ -7,6 +7,7 @@ use Rattle.xa_base.specs.declared.refusal.Refusal.TheVariants as Refusals
 use Rattle.xa_base.specs.declared.reply.Reply.TheVariants as Replies
 use Rattle.xa_base.specs.declared.step.Step.TheVariants as Steps
 use Rattle.xa_model.proofs.Replies.Guards.{issue_why}
+use Rattle.xa_model.specs.Trace.{line}
 use Rattle.xa_line.specs.Grid.{line_at}
 use Rattle.xa_line.specs.Traffic.{barred, calls_issued}
 use Rattle.xa_line.proofs.SeveralCalls.{line_took}
@@ -14,7 +15,8 @@ use Rattle.xa_tm.specs.Calls.{book_in}
 use Rattle.xa_system.specs.Parts.{sees}
 use Rattle.xa_system.proofs.Steps.Issue.{has_room_at, is_full_at, issue_did, issue_found, issue_limit, issue_manager_down}
 use Rattle.xa_system.proofs.Steps.OfManager.{sound_book}
-use Rattle.xa_system.proofs.Histories.Standing.{lacking_goes, refused_goes, site_read}
+use Rattle.xa_system.proofs.Histories.Standing.{site_read}
+use Rattle.xa_system.proofs.Histories.RefusedSteps.{lacking_goes, refused_goes}
 use Rattle.xa_tm.specs.Refusing.{refusal_in}
 use Rattle.xa_system.proofs.parts.Parts.issue.Goals as goal
 
@@ -80,8 +82,8 @@ returns-in-Err g c =
     ∙ λ i. issue_why true true (c.if-not-index.false i) (barred_so i)
     (refusal_in (book_in p.manager) (Steps.Issue t r (map_call name_of call))) (nat_le 64 (length (line_at p.lines t r).calls.waiting)))
 
-pub returns-in-Some : goal.returns-in-Some
-returns-in-Some g c =
+pub returns-in-Err-check_issue : goal.returns-in-Err-check_issue
+returns-in-Err-check_issue g c =
     let see = sees g.R.ResourceManager.look g.L.DecisionLog.moment in
     let p = c.args.self.now in
     let t = c.args.thread in
@@ -90,11 +92,11 @@ returns-in-Some g c =
     let there = sym c.has.ensures.value ∙ c.if-not-has.false in
     let up = sym c.is_up.ensures ∙ c.if-not-is_up.false in
     let barred_so = sym (c.check.ensures ∙ ap (λ l. barred (calls_issued l) call) c.line.ensures.value) ∙ ap result_err c.in_default.is in
-    refused_goes see (Steps.Issue t r call) p c.refused-in-Some.result c.in-Some.refusal c.requires.has_xid
-    c.refused-in-Some.ensures
+    refused_goes see (Steps.Issue t r call) p c.refused-in-Err-check_issue.result c.in-Err-check_issue.refusal c.requires.has_xid
+    c.refused-in-Err-check_issue.ensures
     (λ tr stands. issue_found see tr p t r c.index.result.now call stands there up
     (site_read see tr p t r c.index.result.now stands there c.index.ensures)
-    ∙ λ i. issue_why true true (c.if-not-index.false i) (barred_so i) ((sym c.may_issue.ensures ∙ c.in-Some.is) i)
+    ∙ λ i. issue_why true true (c.if-not-index.false i) (barred_so i) ((sym c.check_issue.ensures ∙ ap result_err c.in-Err-check_issue.is) i)
     (nat_le 64 (length (line_at p.lines t r).calls.waiting)))
 
 pub returns-then-free_calls-eq0 : goal.returns-then-free_calls-eq0
@@ -107,7 +109,7 @@ returns-then-free_calls-eq0 g c =
     let there = sym c.has.ensures.value ∙ c.if-not-has.false in
     let up = sym c.is_up.ensures ∙ c.if-not-is_up.false in
     let barred_so = sym (c.check.ensures ∙ ap (λ l. barred (calls_issued l) call) c.line.ensures.value) ∙ ap result_err c.in_default.is in
-    let free = sym c.may_issue.ensures ∙ c.in_default-may_issue.is in
+    let free = sym c.check_issue.ensures ∙ ap result_err c.in_default-check_issue.is in
     let full =
     is_full_at c.free_calls.result (length (line_at p.lines t r).calls.waiting)
     (rw c.line-2.ensures.value at c.free_calls.ensures) c.if-free_calls-eq0.true in
@@ -126,7 +128,7 @@ returns-in-Err-note_issued g c tr stands few =
     let there = sym c.has.ensures.value ∙ c.if-not-has.false in
     let up = sym c.is_up.ensures ∙ c.if-not-is_up.false in
     let barred_so = sym (c.check.ensures ∙ ap (λ l. barred (calls_issued l) call) c.line.ensures.value) ∙ ap result_err c.in_default.is in
-    let free = sym c.may_issue.ensures ∙ c.in_default-may_issue.is in
+    let free = sym c.check_issue.ensures ∙ ap result_err c.in_default-check_issue.is in
     let full =
     has_room_at c.free_calls.result (length (line_at p.lines t r).calls.waiting)
     (rw c.line-2.ensures.value at c.free_calls.ensures) c.if-free_calls-eq0.false in
@@ -147,7 +149,7 @@ returns g c tr stands few =
     let there = sym c.has.ensures.value ∙ c.if-not-has.false in
     let up = sym c.is_up.ensures ∙ c.if-not-is_up.false in
     let barred_so = sym (c.check.ensures ∙ ap (λ l. barred (calls_issued l) call) c.line.ensures.value) ∙ ap result_err c.in_default.is in
-    let free = sym c.may_issue.ensures ∙ c.in_default-may_issue.is in
+    let free = sym c.check_issue.ensures ∙ ap result_err c.in_default-check_issue.is in
     let full =
     has_room_at c.free_calls.result (length (line_at p.lines t r).calls.waiting)
     (rw c.line-2.ensures.value at c.free_calls.ensures) c.if-free_calls-eq0.false in
@@ -158,4 +160,4 @@ returns g c tr stands few =
     line_took (line_at p.lines t r) c.line_mut.result.now call c.copy.result c.issue.result c.issue.new.self c.line_mut.ensures.value c.copy.ensures
     c.issue.ensures.reason c.issue.ensures.accepted barred_so full in
     issue_did see p t r call c.index.result.now c.issue.new.self c.note_issued.new.self c.new.result c.requires.has_xid c.new.ensures there up free
-    c.in_default-note_issued.ensures.ok c.in_default-note_issued.ensures.log put tr stands none
+    (c.in_default-note_issued.ensures.ok (line t r)) c.in_default-note_issued.ensures.log put tr stands none

@@ -3,7 +3,9 @@ use Rattle.std.specs.Result.{result_err}
 use Rattle.xa_tm.specs.Calls.{book_in}
 use Rattle.xa_line.specs.Traffic.{Traffic, with_more}
 use Rattle.xa_system.specs.Parts.{sees}
-use Rattle.xa_system.proofs.Steps.Resolve.{resolved_closes_none, recovery_open, recovery_room, recovery_unclosed, resolve_did, resolve_hindered, resolve_lacks}
+use Rattle.xa_system.proofs.Steps.Resolve.{resolve_did, resolve_hindered, resolve_lacks}
+use Rattle.xa_system.proofs.Steps.RecoveryGoes.{recovery_open, recovery_room, recovery_unclosed}
+use Rattle.xa_tm.proofs.History.Recovery.{recoveries_close_none}
 use Rattle.xa_tm.specs.Refusing.{resolved_in}
 use Rattle.xa_system.proofs.parts.Parts.resolve.Goals as goal
 
@@ -40,7 +42,7 @@ issue_all-requires-clause-unclosed g c =
     let r = c.args.rm in
     recovery_unclosed see p r c.resolve_len-count.result (resolved_in (book_in p.manager) r) c.in-Ok.calls.items
     (λ tr stands. sym (ap result_err c.in_default.is) ∙ c.check_recovery.ensures tr stands) c.in-Ok.ensures.ok c.line_mut.result.now c.line_mut.ensures.value
-    (resolved_closes_none (book_in p.manager) r) c.requires
+    (recoveries_close_none (book_in p.manager) r).0 c.requires
 
 pub returns-in-Ok : goal.returns-in-Ok
 returns-in-Ok g c =

@@ -5,7 +5,9 @@ use Rattle.xa_model.specs.Trace.{Happening.ResolvedOpen}
 use Rattle.xa_system.proofs.Log.Changes.{log_kept}
 use Rattle.xa_line.specs.Traffic.{Traffic, with_more}
 use Rattle.xa_system.specs.Parts.{sees}
-use Rattle.xa_system.proofs.Steps.Resolve.{open_closes_none, recovery_open, recovery_room, recovery_unclosed, open_did, open_hindered, open_lacks}
+use Rattle.xa_system.proofs.Steps.ResolveOpen.{open_did, open_hindered, open_lacks}
+use Rattle.xa_system.proofs.Steps.RecoveryGoes.{recovery_open, recovery_room, recovery_unclosed}
+use Rattle.xa_tm.proofs.History.Recovery.{recoveries_close_none}
 use Rattle.xa_tm.specs.Refusing.{resolved_open_in}
 use Rattle.xa_system.proofs.parts.Parts.resolve_open.Goals as goal
 
@@ -42,7 +44,7 @@ issue_all-requires-clause-unclosed g c =
     let r = c.args.rm in
     recovery_unclosed see p r c.resolve_open_len-count.result (resolved_open_in (book_in p.manager) r) c.in-Ok.calls.items
     (λ tr stands. sym (ap result_err c.in_default.is) ∙ c.check_recovery.ensures tr stands) c.in-Ok.ensures.calls c.line_mut.result.now c.line_mut.ensures.value
-    (open_closes_none (book_in p.manager) r) c.requires
+    (recoveries_close_none (book_in p.manager) r).1 c.requires
 
 pub returns-in-Ok : goal.returns-in-Ok
 returns-in-Ok g c =

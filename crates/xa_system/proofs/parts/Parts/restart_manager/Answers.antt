@@ -6,9 +6,10 @@ use Rattle.xa_tm.specs.BookAndLog.{IsReadFrom}
 use Rattle.std.specs.Prelude.{Result, Ok, Err}
 use Rattle.xa_model.specs.Trace.{Happening.Restarted}
 use Rattle.xa_base.specs.declared.refusal.Refusal.{Refusal}
+use Rattle.xa_base.proofs.Options.{err_is}
 use Rattle.xa_system.proofs.Log.Changes.{log_done, restart_counts}
 use Rattle.xa_system.specs.Parts.{sees}
-use Rattle.xa_system.proofs.Steps.OfManager.{err_is, sound_book}
+use Rattle.xa_system.proofs.Steps.OfManager.{sound_book}
 use Rattle.xa_system.proofs.Steps.Restart.{restart_did, restart_undone}
 use Rattle.xa_tm.specs.declared.manager.restart.Found.{Found}
 use Rattle.xa_system.proofs.parts.Parts.restart_manager.Goals as goal

@@ -3,8 +3,9 @@ use Rattle.xa_base.specs.declared.refusal.Refusal.TheVariants as Refusals
 use Rattle.xa_base.specs.declared.step.Side.TheVariants as Sides
 use Rattle.xa_base.specs.declared.step.Step.TheVariants as Steps
 use Rattle.xa_system.specs.Parts.{sees}
-use Rattle.xa_system.proofs.Steps.Crash.{restart_busy, restart_leads, restart_limit, rm_read, same_up}
-use Rattle.xa_system.proofs.Histories.Standing.{refused_goes}
+use Rattle.xa_system.proofs.Steps.PresentRms.{rm_read, same_up}
+use Rattle.xa_system.proofs.Steps.CrashRm.{restart_busy, restart_leads, restart_limit}
+use Rattle.xa_system.proofs.Histories.RefusedSteps.{refused_goes}
 use Rattle.xa_system.proofs.parts.Parts.restart_rm.Goals as goal
 
 pub returns-then-rm-rms : goal.returns-then-rm-rms

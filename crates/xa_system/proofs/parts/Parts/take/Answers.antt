@@ -2,7 +2,8 @@ use Rattle.std.proofs.Common.{sym, ◌∙◌}
 use Rattle.xa_base.specs.declared.refusal.Refusal.TheVariants as Refusals
 use Rattle.xa_base.specs.declared.step.Step.TheVariants as Steps
 use Rattle.xa_system.specs.Parts.{sees}
-use Rattle.xa_system.proofs.Histories.Standing.{refused_goes, site_read}
+use Rattle.xa_system.proofs.Histories.Standing.{site_read}
+use Rattle.xa_system.proofs.Histories.RefusedSteps.{refused_goes}
 use Rattle.xa_system.proofs.Steps.Take.{take_down, take_full, take_leads, take_limit, take_may}
 use Rattle.xa_system.proofs.parts.Parts.take.Goals as goal
 

@@ -7,8 +7,10 @@ use Rattle.xa_model.specs.Trace.{Happening.Voted}
 use Rattle.xa_base.specs.declared.step.Step.TheVariants as Steps
 use Rattle.xa_rm.specs.ResourceManager.{voting}
 use Rattle.xa_system.specs.Parts.{sees}
-use Rattle.xa_system.proofs.Steps.Crash.{rm_read}
-use Rattle.xa_system.proofs.Steps.Script.{held_here, script_hinders, script_told, vote_bad, vote_elsewhere, vote_fine, voted, voted_script}
+use Rattle.xa_system.proofs.Steps.PresentRms.{rm_read}
+use Rattle.xa_system.proofs.Steps.Script.{held_here, script_hinders, script_told}
+use Rattle.xa_system.proofs.Steps.ScriptedBranches.{voted, voted_script}
+use Rattle.xa_system.proofs.Steps.ScriptRefusals.{vote_bad, vote_elsewhere, vote_fine}
 use Rattle.xa_system.proofs.parts.Parts.vote.Goals as goal
 
 pub returns-in-Err : goal.returns-in-Err

@@ -2,14 +2,16 @@ use Rattle.std.proofs.Common.{◌<◌, arith, map, refl, sym, ap, subst, ◌∙�
 use Rattle.xa_line.specs.Grid.{Grid}
 use Rattle.xa_system.specs.declared.site.Site.{Site}
 use Rattle.xa_system.specs.SystemView.{observes}
-use Rattle.xa_system.proofs.Histories.Start.{back_again, new_may_restart, new_sound, not_both, origin_same, starts_clear, starts_old, starts_right, starts_up}
+use Rattle.xa_system.proofs.Histories.Start.{back_again, new_may_restart, new_sound, origin_same, starts_up}
+use Rattle.xa_system.proofs.Histories.ClearStart.{not_both, starts_clear, starts_old, starts_right}
 use Rattle.xa_model.specs.Protocol.{RightOrigin}
 use Rattle.xa_system.specs.Parts.{Sees, sees}
 use Rattle.xa_tm.specs.Calls.{log_in}
 use Rattle.xa_tm.specs.Slots.{slot_moment}
 use Rattle.xa_tm.specs.declared.slot.Slot.{Slot}
 use Rattle.xa_system.proofs.Log.Changes.{slot_durable}
-use Rattle.xa_system.proofs.Histories.SystemView.{follows_a_crash, holds}
+use Rattle.xa_system.proofs.Histories.SystemView.{holds}
+use Rattle.xa_system.proofs.Histories.AfterEvent.{follows_a_crash}
 use Rattle.xa_system.proofs.system.System.new.Goals as goal
 
 pub invariant_of-result : goal.invariant_of-result

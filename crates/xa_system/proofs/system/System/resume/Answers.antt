@@ -14,9 +14,12 @@ use Rattle.xa_system.specs.Steps.{AreCrashed}
 use Rattle.xa_system.specs.SystemView.{ArePast, HasNewer}
 use Rattle.xa_system.specs.declared.site.Site.{Site}
 use Rattle.xa_system.proofs.Histories.NextProcess.{each_resumes, finds_newer}
-use Rattle.xa_system.proofs.Histories.Past.{all_still, newer_after, none_newer, of_sites, past_old, past_over, still_clear}
-use Rattle.xa_system.proofs.Histories.Start.{back_again, new_may_restart, new_sound, origin_same, starts_over_log, starts_right, starts_up}
-use Rattle.xa_system.proofs.Histories.SystemView.{follows_a_crash, holds}
+use Rattle.xa_system.proofs.Histories.Past.{none_newer, of_sites, past_old, past_over}
+use Rattle.xa_system.proofs.Histories.CrashedRms.{all_still, newer_after, still_clear}
+use Rattle.xa_system.proofs.Histories.Start.{back_again, new_may_restart, new_sound, origin_same, starts_over_log, starts_up}
+use Rattle.xa_system.proofs.Histories.ClearStart.{starts_right}
+use Rattle.xa_system.proofs.Histories.SystemView.{holds}
+use Rattle.xa_system.proofs.Histories.AfterEvent.{follows_a_crash}
 use Rattle.xa_system.proofs.Log.Changes.{slot_durable}
 use Rattle.xa_system.proofs.system.System.resume.Goals as goal
 
@@ -28,7 +31,7 @@ invariant_of-result g c =
     let crashes = c.crash_rms.ensures in
     let some : 0 < c.args.threads = omega (arith, c.if-threads-eq0.false) in
     let rms = c.crash_rms.new.rms.items in
-    let few : length rms ≤ 8 = omega (arith, crashes.count, c.if-len-gt8.false, c.len.ensures, c.args.rms.ok.0) in
+    let few : length rms ≤ 8 = omega (arith, crashes.count, c.if-len.false, c.len.ensures, c.args.rms.ok.0) in
     let parts = c.in_ok-parts.parts in
     let made = c.in_ok-parts.ensures in
     let past : ArePast see.look (book_in parts.manager).incarnation rms =

@@ -12,7 +12,8 @@ use Rattle.xa_tm.specs.Calls.{log_in}
 use Rattle.xa_tm.specs.Slots.{log_held}
 use Rattle.xa_system.proofs.Histories.Standing.{refused_as_nothing, stays_same}
 use Rattle.xa_system.specs.SystemView.{HoldsItsTrace, IsAsBefore, IsFailed, observes, origin_in, system_view_of, trace_in}
-use Rattle.xa_system.proofs.Histories.SystemView.{as_before, began_kept, down_after, failed_so, fault_has_cause, holds, honest_before, other_fault_has_cause, restart_may_follow, restart_may_follow_a_crash, somewhere, sound_then, start_kept, was_allowed}
+use Rattle.xa_system.proofs.Histories.SystemView.{holds}
+use Rattle.xa_system.proofs.Histories.AfterEvent.{as_before, began_kept, down_after, failed_so, fault_has_cause, honest_before, other_fault_has_cause, restart_may_follow, restart_may_follow_a_crash, somewhere, sound_then, start_kept, was_allowed}
 use Rattle.xa_system.proofs.system.System.step.Goals as goal
 
 pub returns-then-len-ge-EVENT_LIMIT-clause-parts :

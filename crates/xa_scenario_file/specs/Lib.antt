@@ -1,0 +1,15 @@
+pub mod Begins
+pub mod Branches
+pub mod Calls
+pub mod Crashes
+pub mod Endings
+pub mod Files
+pub mod Flags
+pub mod Headers
+pub mod StepTables
+pub mod Moves
+pub mod Recoveries
+pub mod Scenarios
+pub mod Scripts
+pub mod Tables
+pub mod Words
