@@ -24,5 +24,6 @@ pub mod Begins
 pub mod Slots
 pub mod Swaps
 pub mod Swapping
+pub mod Ties
 pub mod LogUse
 pub mod InTurn

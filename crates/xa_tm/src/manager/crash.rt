@@ -1,11 +1,10 @@
 //! A part crashes.
 
-ghost use Rattle.std.specs.Prelude.{◌≡◌, Bool, Option};
-ghost use Rattle.xa_log.specs.Content.{Content};
+ghost use Rattle.std.specs.Prelude.{◌≡◌};
 ghost use Rattle.xa_model.specs.Trace.{Happening.Crashed};
 ghost use Rattle.xa_tm.specs.Book.{after};
-ghost use Rattle.xa_tm.specs.BookAndLog.{IsTied};
 ghost use Rattle.xa_tm.specs.Calls.{book_in, log_in};
+ghost use Rattle.xa_tm.specs.Ties.{StaysTiedToAny};
 
 use crate::manager::Manager;
 use xa_base::Part;
@@ -16,8 +15,7 @@ impl<L: DecisionLog + Drop> Manager<L> {
     pub fn crash(&mut self, part: Part)
         ensures book { book_in self.new ≡ after (book_in self.old) (Crashed part) }
         ensures log { log_in self.new ≡ log_in self.old }
-        ensures tied { (near : Bool) (log : Option Content) →
-            IsTied near (book_in self.old) log → IsTied near (book_in self.new) log }
+        ensures tied { StaysTiedToAny (book_in self.old) (book_in self.new) }
     {
         self.ledger.crash(part);
     }

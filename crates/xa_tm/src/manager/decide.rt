@@ -1,18 +1,18 @@
 //! A transaction is decided: the step, and what settling and abandoning share with it (XA, section 2.3, Transaction
 //! Completion and Recovery).
 
-ghost use Rattle.std.specs.Prelude.{◌≡◌, ◌≢◌, ◌&&◌, [], ◌∷◌, Bool, Option, Some, None, Err, IfErr, OnOk};
+ghost use Rattle.std.specs.Prelude.{◌≡◌, ◌≢◌, ◌&&◌, [], ◌∷◌, Bool, Some, None, Err, IfErr, OnOk};
 ghost use Rattle.xa_base.specs.declared.refusal.Refusal.TheVariants as Refusals;
 ghost use Rattle.xa_base.specs.declared.step.Outcome.TheVariants as Outcomes;
 ghost use Rattle.xa_base.specs.declared.step.Step.TheVariants as Steps;
-ghost use Rattle.xa_log.specs.Content.{Content};
 ghost use Rattle.xa_model.specs.Trace.{Fault.InDecide, Happening.Decided};
 ghost use Rattle.xa_tm.specs.Book.{Doubt.Adds, after, rows_for};
-ghost use Rattle.xa_tm.specs.BookAndLog.{changed_by, IsTied};
+ghost use Rattle.xa_tm.specs.BookAndLog.{changed_by};
 ghost use Rattle.xa_tm.specs.Calls.{AddsRow, AsksFor, FailsBy, IsOpenIn, book_in, log_in};
 ghost use Rattle.xa_tm.specs.LedgerBook.{IsSound};
 ghost use Rattle.xa_tm.specs.Outcomes.{is_commit};
 ghost use Rattle.xa_tm.specs.Refusing.{refusal_in};
+ghost use Rattle.xa_tm.specs.Ties.{StaysTied, StaysTiedToAny};
 
 use crate::manager::Manager;
 use xa_base::{Gtrid, Outcome, Refusal};
@@ -37,10 +37,7 @@ impl<L: DecisionLog + Drop> Manager<L> {
             result ≡ Err Refusals.LogFault →
             AddsRow outcome ((book_in self.old).transaction g) }
         // What becomes of the log.
-        ensures tied { (near : Bool) → (L.moment (log_in self.old)).is_in_order →
-            (L.moment (log_in self.new)).is_honest →
-            IsTied near (book_in self.old) (L.moment (log_in self.old)).content →
-            IsTied near (book_in self.new) (L.moment (log_in self.new)).content }
+        ensures tied { StaysTied L.moment self.old self.new }
         ensures kept { IfErr result
             (λ n. n ≢ Refusals.LogFault → log_in self.new ≡ log_in self.old) }
         ensures without_row { ¬ AddsRow outcome ((book_in self.old).transaction g) →
@@ -65,10 +62,7 @@ impl<L: DecisionLog + Drop> Manager<L> {
         ensures asked { result ≡ Err Refusals.LogFault →
             AddsRow outcome ((book_in self.old).transaction g) }
         // What becomes of the log.
-        ensures tied { (near : Bool) → (L.moment (log_in self.old)).is_in_order →
-            (L.moment (log_in self.new)).is_honest →
-            IsTied near (book_in self.old) (L.moment (log_in self.old)).content →
-            IsTied near (book_in self.new) (L.moment (log_in self.new)).content }
+        ensures tied { StaysTied L.moment self.old self.new }
         ensures kept { IfErr result
             (λ n. n ≢ Refusals.LogFault → log_in self.new ≡ log_in self.old) }
         ensures without_row { ¬ AddsRow outcome ((book_in self.old).transaction g) →
@@ -92,8 +86,7 @@ impl<L: DecisionLog + Drop> Manager<L> {
         ensures err { IfErr result
             (λ n. (n ≡ Refusals.Memory) × (book_in self.new ≡ book_in self.old)) }
         ensures log { log_in self.new ≡ log_in self.old }
-        ensures tied { (near : Bool) (log : Option Content) →
-            IsTied near (book_in self.old) log → IsTied near (book_in self.new) log }
+        ensures tied { StaysTiedToAny (book_in self.old) (book_in self.new) }
     {
         Ok(self.ledger.decide(g, outcome)?)
     }
@@ -111,10 +104,7 @@ impl<L: DecisionLog + Drop> Manager<L> {
             (book_in self.old)
             (book_in self.new)) }
         // What becomes of the log.
-        ensures tied { (near : Bool) → (L.moment (log_in self.old)).is_in_order →
-            (L.moment (log_in self.new)).is_honest →
-            IsTied near (book_in self.old) (L.moment (log_in self.old)).content →
-            IsTied near (book_in self.new) (L.moment (log_in self.new)).content }
+        ensures tied { StaysTied L.moment self.old self.new }
         ensures kept { IfErr result
             (λ n. n ≢ Refusals.LogFault → log_in self.new ≡ log_in self.old) }
         ensures asks { AsksFor (changed_by (Adds (rows_for (book_in self.old) (g ∷ []))))

@@ -1,6 +1,6 @@
 //! Several transactions are decided by one write of the log (XA, section 2.3, Transaction Completion and Recovery).
 
-ghost use Rattle.std.specs.Prelude.{◌≡◌, ◌≢◌, ◌<◌, ◌+◌, ◌^◌, [], length, map, Bool, Some, None, Err, IfErr, OnOk};
+ghost use Rattle.std.specs.Prelude.{◌≡◌, ◌≢◌, ◌<◌, ◌+◌, ◌^◌, [], length, map, Some, None, Err, IfErr, OnOk};
 ghost use Rattle.std.specs.List.{AllByRecursion};
 ghost use Rattle.xa_base.specs.declared.refusal.Refusal.TheVariants as Refusals;
 ghost use Rattle.xa_log.specs.Content.{with_commits};
@@ -8,11 +8,12 @@ ghost use Rattle.xa_log.specs.Contract.{Changes, FitsRow};
 ghost use Rattle.xa_model.specs.Facts.Distinct.{EachOnce};
 ghost use Rattle.xa_model.specs.Trace.{Fault.InDecide, Happening.Decided};
 ghost use Rattle.xa_tm.specs.Book.{after_all, rows_for};
-ghost use Rattle.xa_tm.specs.BookAndLog.{changed_by, IsTied};
+ghost use Rattle.xa_tm.specs.BookAndLog.{changed_by};
 ghost use Rattle.xa_tm.specs.Calls.{AsksFor, FailsBy, IsOpenIn, book_in, log_in, written_by};
 ghost use Rattle.xa_tm.specs.Concluding.{Concludes};
 ghost use Rattle.xa_tm.specs.InTurn.{decide_refusal, rows_added};
 ghost use Rattle.xa_tm.specs.LedgerBook.{HasRoomForDecisions, IsSound, NamesOwn, decided_rows};
+ghost use Rattle.xa_tm.specs.Ties.{StaysTied};
 
 use crate::change::Change;
 use crate::manager::Manager;
@@ -48,10 +49,7 @@ impl<L: DecisionLog + Drop> Manager<L> {
             result ≡ Err Refusals.LogFault →
             written_by outcome (book_in self.old) gtrids.now ≢ [] }
         // What becomes of the log.
-        ensures tied { (near : Bool) → (L.moment (log_in self.old)).is_in_order →
-            (L.moment (log_in self.new)).is_honest →
-            IsTied near (book_in self.old) (L.moment (log_in self.old)).content →
-            IsTied near (book_in self.new) (L.moment (log_in self.new)).content }
+        ensures tied { StaysTied L.moment self.old self.new }
         ensures kept { IfErr result
             (λ n. n ≢ Refusals.LogFault → log_in self.new ≡ log_in self.old) }
         ensures without_row { written_by outcome (book_in self.old) gtrids.now ≡ [] →

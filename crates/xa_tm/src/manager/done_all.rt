@@ -8,10 +8,11 @@ ghost use Rattle.xa_log.specs.Contract.{Changes, FitsRow};
 ghost use Rattle.xa_model.specs.Facts.Distinct.{EachOnce};
 ghost use Rattle.xa_model.specs.Trace.{Fault.InDone, Happening.Done, Happening.Failed};
 ghost use Rattle.xa_tm.specs.Book.{Doubt.Drops, after_all, book_after};
-ghost use Rattle.xa_tm.specs.BookAndLog.{changed_by, IsTied};
+ghost use Rattle.xa_tm.specs.BookAndLog.{changed_by};
 ghost use Rattle.xa_tm.specs.Calls.{AsksFor, FailsBy, book_in, log_in};
 ghost use Rattle.xa_tm.specs.InTurn.{done_refusal};
 ghost use Rattle.xa_tm.specs.LedgerBook.{IsSound};
+ghost use Rattle.xa_tm.specs.Ties.{StaysTied};
 
 use crate::change::Change;
 use crate::manager::Manager;
@@ -36,10 +37,7 @@ impl<L: DecisionLog + Drop> Manager<L> {
             (book_in self.old) (book_in self.new)) }
         ensures asked { result ≡ Err Refusals.LogFault → gtrids.now ≢ [] }
         // What becomes of the log.
-        ensures tied { (near : Bool) → (L.moment (log_in self.old)).is_in_order →
-            (L.moment (log_in self.new)).is_honest →
-            IsTied near (book_in self.old) (L.moment (log_in self.old)).content →
-            IsTied near (book_in self.new) (L.moment (log_in self.new)).content }
+        ensures tied { StaysTied L.moment self.old self.new }
         ensures kept { IfErr result
             (λ n. n ≢ Refusals.LogFault → log_in self.new ≡ log_in self.old) }
         ensures without_row { gtrids.now ≡ [] → log_in self.new ≡ log_in self.old }
@@ -61,10 +59,7 @@ impl<L: DecisionLog + Drop> Manager<L> {
             (book_in self.old) (book_in self.new)) }
         ensures asked { result ≡ Err Refusals.LogFault → gtrids.now ≢ [] }
         // What becomes of the log.
-        ensures tied { (near : Bool) → (L.moment (log_in self.old)).is_in_order →
-            (L.moment (log_in self.new)).is_honest →
-            IsTied near (book_in self.old) (L.moment (log_in self.old)).content →
-            IsTied near (book_in self.new) (L.moment (log_in self.new)).content }
+        ensures tied { StaysTied L.moment self.old self.new }
         ensures kept { IfErr result
             (λ n. n ≢ Refusals.LogFault → log_in self.new ≡ log_in self.old) }
         ensures without_row { gtrids.now ≡ [] → log_in self.new ≡ log_in self.old }
@@ -97,10 +92,7 @@ impl<L: DecisionLog + Drop> Manager<L> {
         ensures err { IfErr result (λ n. (n ≡ Refusals.LogFault) × (book_in self.new ≡
             book_after (book_in self.old) (Drops gtrids.now) (Failed (InDone gtrids.now)))) }
         // What becomes of the log.
-        ensures tied { (near : Bool) → (L.moment (log_in self.old)).is_in_order →
-            (L.moment (log_in self.new)).is_honest →
-            IsTied near (book_in self.old) (L.moment (log_in self.old)).content →
-            IsTied near (book_in self.new) (L.moment (log_in self.new)).content }
+        ensures tied { StaysTied L.moment self.old self.new }
         ensures asks { AsksFor (changed_by (Drops gtrids.now))
             (L.moment (log_in self.old)) (L.moment (log_in self.new)) result }
     {

@@ -20,6 +20,7 @@ ghost use Rattle.xa_tm.specs.LedgerBook.{IsSound, doubt_of_change};
 ghost use Rattle.xa_tm.specs.Calls.{AsksFor, FailsBy, book_in, log_in};
 ghost use Rattle.xa_tm.specs.LogUse.{UsesLog};
 ghost use Rattle.xa_tm.specs.BookAndLog.{IsTied};
+ghost use Rattle.xa_tm.specs.Ties.{StaysTied};
 
 use crate::change::Change;
 use crate::manager::Manager;
@@ -55,10 +56,7 @@ impl<L: DecisionLog + Drop> Manager<L> {
         ensures asked { result ≡ Err Refusals.LogFault →
             MakesRecord (map_call name_of call.now) (map_answer name_of answer.now) }
         // What becomes of the log.
-        ensures tied { (near : Bool) → (L.moment (log_in self.old)).is_in_order →
-            (L.moment (log_in self.new)).is_honest →
-            IsTied near (book_in self.old) (L.moment (log_in self.old)).content →
-            IsTied near (book_in self.new) (L.moment (log_in self.new)).content }
+        ensures tied { StaysTied L.moment self.old self.new }
         ensures kept { IfErr result
             (λ n. n ≢ Refusals.LogFault → log_in self.new ≡ log_in self.old) }
         ensures asks { (c : KnownCall) → accepted (map_call name_of call.now) ≡ Some c →

@@ -1,10 +1,9 @@
 //! What the manager need not remember of a transaction that is over.
 
-ghost use Rattle.std.specs.Prelude.{◌≡◌, Bool, true, false, Option};
-ghost use Rattle.xa_log.specs.Content.{Content};
-ghost use Rattle.xa_tm.specs.BookAndLog.{IsTied};
+ghost use Rattle.std.specs.Prelude.{◌≡◌, true, false};
 ghost use Rattle.xa_tm.specs.Calls.{book_in, log_in};
 ghost use Rattle.xa_tm.specs.Release.{HoldsNothingOf, IsOver, book_without};
+ghost use Rattle.xa_tm.specs.Ties.{StaysTiedToAny};
 
 use crate::manager::Manager;
 use xa_base::Gtrid;
@@ -27,8 +26,7 @@ impl<L: DecisionLog + Drop> Manager<L> {
         ensures owed { result ≡ false → IsOver (book_in self.old) g → ⊥ }
         ensures same { result ≡ false → self.new ≡ self.old }
         ensures log { log_in self.new ≡ log_in self.old }
-        ensures tied { (near : Bool) (log : Option Content) →
-            IsTied near (book_in self.old) log → IsTied near (book_in self.new) log }
+        ensures tied { StaysTiedToAny (book_in self.old) (book_in self.new) }
     {
         let is_over = self.ledger.is_over(g);
         if is_over {

@@ -1,15 +1,14 @@
 //! The calls that end what a resource manager has in doubt (XA, section 2.3, Transaction Completion and Recovery).
 
-ghost use Rattle.std.specs.Prelude.{◌≡◌, Bool, Option, Some, IfErr, OnOk, map, length, IfOk};
+ghost use Rattle.std.specs.Prelude.{◌≡◌, Some, IfErr, OnOk, map, length, IfOk};
 ghost use Rattle.xa_base.specs.declared.refusal.Refusal.TheVariants as Refusals;
-ghost use Rattle.xa_log.specs.Content.{Content};
 ghost use Rattle.xa_model.specs.Trace.{Happening.ResolvedOpen};
 ghost use Rattle.xa_tm.specs.Book.{after};
-ghost use Rattle.xa_tm.specs.BookAndLog.{IsTied};
 ghost use Rattle.xa_tm.specs.Calls.{book_in, log_in};
 ghost use Rattle.xa_tm.specs.Owed.{AreOwed};
 ghost use Rattle.xa_tm.specs.Refusing.{resolved_in, resolved_open_in};
 ghost use Rattle.xa_tm.specs.Resolving.{waiting_call};
+ghost use Rattle.xa_tm.specs.Ties.{StaysTiedToAny};
 
 use crate::manager::Manager;
 use xa_base::{Call, Refusal, Xid};
@@ -51,8 +50,7 @@ impl<L: DecisionLog + Drop> Manager<L> {
         ensures err { IfErr result
             (λ n. (n ≡ Refusals.Memory) × (book_in self.new ≡ book_in self.old)) }
         ensures log { log_in self.new ≡ log_in self.old }
-        ensures tied { (near : Bool) (log : Option Content) →
-            IsTied near (book_in self.old) log → IsTied near (book_in self.new) log }
+        ensures tied { StaysTiedToAny (book_in self.old) (book_in self.new) }
     {
         Ok(self.ledger.resolve_open(rm)?)
     }

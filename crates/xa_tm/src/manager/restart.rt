@@ -10,7 +10,7 @@ ghost use Rattle.xa_tm.specs.BookAndLog.{FoundIn, IsFound, IsReadFrom};
 ghost use Rattle.xa_tm.specs.LedgerBook.{IsSound};
 ghost use Rattle.xa_tm.specs.Calls.{FailsBy, book_in, log_in};
 ghost use Rattle.xa_tm.specs.LogUse.{AsksToRaise};
-ghost use Rattle.xa_tm.specs.BookAndLog.{IsTied};
+ghost use Rattle.xa_tm.specs.Ties.{StaysTied};
 
 use crate::manager::Manager;
 use xa_base::Refusal;
@@ -47,10 +47,7 @@ impl<L: DecisionLog + Drop> Manager<L> {
         ensures read { IfOk result (λ found. IsReadFrom L.DecisionLog found.incarnation
             found.decisions found.heuristics (log_in self.old) (log_in self.new)) }
         // What becomes of the log, which a fault shuts, leaves, or raises the incarnation of.
-        ensures tied { (near : Bool) → (L.moment (log_in self.old)).is_in_order →
-            (L.moment (log_in self.new)).is_honest →
-            IsTied near (book_in self.old) (L.moment (log_in self.old)).content →
-            IsTied near (book_in self.new) (L.moment (log_in self.new)).content }
+        ensures tied { StaysTied L.moment self.old self.new }
         ensures kept { IfErr result
             (λ n. n ≢ Refusals.LogFault → log_in self.new ≡ log_in self.old) }
         ensures log { AsksToRaise (book_in self.old) (L.moment (log_in self.old))

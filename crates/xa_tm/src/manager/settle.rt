@@ -1,15 +1,16 @@
 //! A claimed transaction is committed.
 
-ghost use Rattle.std.specs.Prelude.{◌≡◌, ◌≢◌, [], ◌∷◌, Bool, Some, None, Err, IfErr, OnOk};
+ghost use Rattle.std.specs.Prelude.{◌≡◌, ◌≢◌, [], ◌∷◌, Some, None, Err, IfErr, OnOk};
 ghost use Rattle.xa_base.specs.declared.refusal.Refusal.TheVariants as Refusals;
 ghost use Rattle.xa_base.specs.declared.step.Outcome.TheVariants as Outcomes;
 ghost use Rattle.xa_base.specs.declared.step.Step.TheVariants as Steps;
 ghost use Rattle.xa_model.specs.Trace.{Fault.InDecide, Happening.Decided};
 ghost use Rattle.xa_tm.specs.Book.{Doubt.Adds, after, rows_for};
-ghost use Rattle.xa_tm.specs.BookAndLog.{changed_by, IsTied};
+ghost use Rattle.xa_tm.specs.BookAndLog.{changed_by};
 ghost use Rattle.xa_tm.specs.Calls.{AddsRow, AsksFor, FailsBy, book_in, log_in};
 ghost use Rattle.xa_tm.specs.LedgerBook.{IsSound};
 ghost use Rattle.xa_tm.specs.Refusing.{refusal_in};
+ghost use Rattle.xa_tm.specs.Ties.{StaysTied};
 
 use crate::manager::Manager;
 use xa_base::{Gtrid, Outcome, Refusal};
@@ -33,10 +34,7 @@ impl<L: DecisionLog + Drop> Manager<L> {
             result ≡ Err Refusals.LogFault →
             AddsRow Outcomes.Commit ((book_in self.old).transaction g) }
         // What becomes of the log.
-        ensures tied { (near : Bool) → (L.moment (log_in self.old)).is_in_order →
-            (L.moment (log_in self.new)).is_honest →
-            IsTied near (book_in self.old) (L.moment (log_in self.old)).content →
-            IsTied near (book_in self.new) (L.moment (log_in self.new)).content }
+        ensures tied { StaysTied L.moment self.old self.new }
         ensures kept { IfErr result
             (λ n. n ≢ Refusals.LogFault → log_in self.new ≡ log_in self.old) }
         ensures asks { AsksFor (changed_by (Adds (rows_for (book_in self.old) (g ∷ []))))

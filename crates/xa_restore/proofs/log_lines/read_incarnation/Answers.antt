@@ -4,7 +4,7 @@ use Rattle.std.proofs.lemmas.Fmt.{parse-decimal}
 use Rattle.std.specs.Borrow.{Bor}
 use Rattle.std.specs.Fmt.{decimal}
 use Rattle.std.specs.Option.{MatchOption}
-use Rattle.std.specs.Prelude.{codes, Option, Some, None, Result, Ok, Err, is_ok, unwrap_or}
+use Rattle.std.specs.Prelude.{codes, Option, Some, None, Result, Ok, is_ok, unwrap_or}
 use Rattle.std.specs.Result.{result_ok}
 use Rattle.std.specs.Str.Parse.{ParsesUnsigned}
 use Rattle.std.specs.Str.Pattern.{FindsTextPrefix, StripsPrefix}
