@@ -15,15 +15,17 @@ PROVED = re.compile(r"rt: (\w+) proved$")
 
 class Ahead:
     """The last crates rest on one another, and rt ci leaves processors idle while it proves them. Meanwhile the edits of the crates
-    before them are tried, at the lowest priority. tools/edits keeps what is refused, and counts it when it is run over all."""
+    before them are tried, at the lowest priority. tools/edits keeps what is refused, and counts it when it is run over all.
 
-    # How often is looked whether there is room for one more, in seconds.
-    LOOKS = 5
+    So often, in seconds (looks), it asks whether there is room for one more: load says how many processors are busy, free how many
+    bytes are left."""
+
     # One is begun where there is room for it and for one proof more; all are ended where less than this is left.
     LEAST = 2_000_000_000
 
-    def __init__(self, tool, running):
+    def __init__(self, tool, running, looks=5, load=lambda: os.getloadavg()[0], free=free_bytes):
         self.tool, self.running, self.crates, self.runs = tool, running, deque(), {}
+        self.looks, self.load, self.free = looks, load, free
         self.ends = threading.Event()
         self.thread = threading.Thread(target=self.work, daemon=True)
         self.thread.start()
@@ -34,25 +36,29 @@ class Ahead:
             self.crates.append(found[1])
 
     def work(self):
-        while not self.ends.wait(self.LOOKS):
-            self.runs = {crate: it for crate, it in self.runs.items() if it.poll() is None}
-            if free_bytes() < self.LEAST:
-                self.crates.extendleft(self.runs)
-                self.end_runs()
-            elif self.crates and self.has_room():
-                self.begin(self.crates.popleft())
+        while not self.ends.wait(self.looks):
+            self.look()
         self.end_runs()
 
+    def look(self):
+        self.runs = {crate: it for crate, it in self.runs.items() if it.poll() is None}
+        if self.free() < self.LEAST:
+            self.crates.extendleft(reversed(self.runs))
+            self.end_runs()
+        elif self.crates and self.has_room():
+            self.begin(self.crates.popleft())
+
     def has_room(self):
-        is_idle = os.getloadavg()[0] < processors() - 0.5
-        return is_idle and free_bytes() > BYTES_A_PROOF + BYTES_A_JOB
+        is_idle = self.load() < processors() - 0.5
+        return is_idle and self.free() > BYTES_A_PROOF + BYTES_A_JOB
 
     def begin(self, crate):
         words = ["nice", "-n", "19", self.tool, "--proved", "--jobs", "1", crate]
         quiet = {"stdout": subprocess.DEVNULL, "stderr": subprocess.DEVNULL}
         try:
             run = self.runs[crate] = self.running.start(words, **quiet)
-        except InterruptedError:
+        except OSError:
+            # All is to end (InterruptedError), or a process can't be made.
             self.ends.set()
             return
         # Linux may divide the processors among sessions first: then nice counts only within one.

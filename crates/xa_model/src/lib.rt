@@ -4,8 +4,8 @@
 //! recursion on it; `Protocol` what must be so before each thing happens; `Replies` which steps are refused and which
 //! replies are allowed (`Allowed`); `Promises` what is proved of every history, and `Headline` all of that in one
 //! record over a stored list of events. Its theorems are the contracts of functions that do nothing:
-//! [`headline_holds`], [`agreement`], [`agreement_invariant`], [`across_processes`], [`allowed`], [`one_more_event`],
-//! [`listed_once`], [`names`], [`read_back`] and [`recovery_completes`].
+//! [`headline_holds`], [`agreement`], [`agreement_invariant`], [`across_processes`], [`replies_are_allowed`],
+//! [`one_more_event`], [`listed_once`], [`names`], [`read_back`] and [`recovery_completes`].
 //!
 //! "XA" in these pages is X/Open CAE Specification C193, "Distributed Transaction Processing: The XA Specification"
 //! (1991). Steps, replies and refusals are this manager's own words.

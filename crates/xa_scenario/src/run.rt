@@ -20,7 +20,7 @@ use xa_log::DecisionLog;
 use xa_scenario_file::{Scenario, read_scenario};
 
 /// Runs a scenario file at new resource managers and over a decision log, whatever that holds: the run starts from its
-/// rows and its record, in its next incarnation. It prints a line for each event, where the trace is asked for, and then
+/// rows and its records, in its next incarnation. It prints a line for each event, where the trace is asked for, and then
 /// a line for each branch whose xa_start was accepted, in the order of their identifiers.
 ///
 /// A file that is no scenario is refused before anything is run, by NotToml, Header or Step. Log comes where the log

@@ -1,5 +1,5 @@
 //! Jobs, each a global transaction, that worker threads run: one for each thread of control, one for each resource
-//! manager, one for the log and, where a recovery sweeps the jobs, one for that.
+//! manager and, where a recovery sweeps the jobs, one for that. The calling thread is the log's worker.
 //!
 //! [`run_jobs`] runs them. The calls of a thread of control go to a resource manager over a line of two rings, and on a
 //! [`Board`] the threads and the recovery decide without a lock how each job ends.
