@@ -134,3 +134,11 @@ fn replies_to_what_was_read_together_at_once(rt: HostRuntime) {
         assert_eq!(rt; times, 2);
     }
 }
+
+/// Before each read, also where the rest of a line is waited for.
+#[test]
+fn flushes_before_the_rest_of_a_line(rt: HostRuntime) {
+    if let Some(times) = flushes(rt.alloc(), 10) {
+        assert_eq!(rt; times, 3);
+    }
+}

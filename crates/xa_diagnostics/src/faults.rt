@@ -1,5 +1,8 @@
 //! All faults of a file.
 
+ghost use Rattle.std.specs.Prelude.{◌≡◌, ◌-◌, IfOk};
+ghost use Rattle.xa_diagnostics.specs.Tables.{table_fault};
+
 use crate::advice::reason_text;
 use crate::diagnostic::Diagnostic;
 use crate::document::{
@@ -134,7 +137,10 @@ impl Search<'_> {
         document: &Table,
         number: usize,
         finding: &Finding<'_>,
-    ) -> Result<Diagnostic, Memory> {
+    ) -> Result<Diagnostic, Memory>
+        ensures { IfOk result (λ found. found.fault ≡
+            table_fault self.now.kind (number - self.now.earlier)) }
+    {
         let own = number.saturating_sub(self.earlier);
         let begun = begun_names(self.alloc, document)?;
         let table = table_at(document, self.kind, number);

@@ -1,6 +1,6 @@
 //! What a run will refuse of a scenario that is none the less one: threads and resource managers that aren't there.
 
-ghost use Rattle.std.specs.Prelude.{◌≡◌, [], Err, IfOk};
+ghost use Rattle.std.specs.Prelude.{◌≡◌, ◌≤◌, ◌<◌, [], Err, IfNone, IfOk, IfSome};
 ghost use Rattle.std.specs.String.{string_bytes};
 ghost use Rattle.toml.specs.View.{table_view};
 ghost use Rattle.xa_diagnostics.specs.Warnings.{warning_line};
@@ -106,7 +106,10 @@ fn past_text(
 }
 
 /// A number that isn't one of the first so many.
-fn past(number: Option<u32>, count: u32) -> Option<u32> {
+fn past(number: Option<u32>, count: u32) -> Option<u32>
+    ensures past { IfSome result (λ n. (number ≡ Some n) × (count ≤ n)) }
+    ensures within { IfNone result (IfSome number (λ n. n < count)) }
+{
     let number = number?;
     if number < count { None } else { Some(number) }
 }

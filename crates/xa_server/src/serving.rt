@@ -1,8 +1,9 @@
 //! The loop over the lines of a driver.
 
-ghost use Rattle.std.specs.Prelude.{◌≡◌, ◌<◌, ◌&&◌, length, map, not, IfOk, OnErr, OnOk};
-ghost use Rattle.std.specs.Io.Buffered.{reader_remaining};
+ghost use Rattle.std.specs.Prelude.{◌≡◌, ◌==◌, ◌<◌, ◌&&◌, length, map, not, IfOk, OnErr, OnOk};
+ghost use Rattle.std.specs.Io.Buffered.{reader_buffer, reader_remaining};
 ghost use Rattle.std.specs.Io.KnownBytes.{Keeps};
+ghost use Rattle.std.specs.List.{list_any};
 ghost use Rattle.xa_server.specs.Replies.{greeting_of};
 ghost use Rattle.xa_server.specs.Lines.{asked_in, requests_in};
 ghost use Rattle.xa_server.specs.NamedLines.{BreaksSessionUnder, ServesUnder, line_read};
@@ -61,18 +62,20 @@ fn ends_line(reply: &Response) -> bool
     )
 }
 
-/// Flushes what was written, unless a whole line was read ahead: then no input is waited for.
+/// Flushes what was written, unless a whole line was read ahead: then no input is waited for. Says whether it did.
 fn flush_before_waiting<R: Read, W: Write>(
     input: &BufReader<R>,
     output: &mut W,
-) -> Result<(), ServeFault>
-    ensures { Keeps (W.contents output.old) (W.contents output.new) }
+) -> Result<bool, ServeFault>
+    ensures keeps { Keeps (W.contents output.old) (W.contents output.new) }
+    ensures told { IfOk result (λ flushed. flushed ≡
+        not (list_any (λ byte. byte == 10) (reader_buffer input.now))) }
 {
     if input.buffer().contains(&b'\n') {
-        return Ok(());
+        return Ok(false);
     }
     match output.flush() {
-        Ok(()) => Ok(()),
+        Ok(()) => Ok(true),
         Err(_) => Err(ServeFault::Output),
     }
 }

@@ -13,7 +13,7 @@ returns-in_err-flush_before_waiting-clause-err g c =
     let written = g.W.Write.contents c.args.output.now in
     let all = g.W.Write.contents c.flush_before_waiting.new.output in
     on_err c.from_residual.result (BreaksOff g.L.DecisionLog.moment c.args.name.now unread written all c.args.self.now c.args.self.now)
-    (off_at_once g.L.DecisionLog.moment c.args.name.now unread written all c.args.self.now c.flush_before_waiting.ensures)
+    (off_at_once g.L.DecisionLog.moment c.args.name.now unread written all c.args.self.now c.flush_before_waiting.ensures.keeps)
 
 pub returns-in_err-line-clause-err : goal.returns-in_err-line-clause-err
 returns-in_err-line-clause-err g c =
@@ -21,7 +21,7 @@ returns-in_err-line-clause-err g c =
     let written = g.W.Write.contents c.args.output.now in
     let all = g.W.Write.contents c.flush_before_waiting.new.output in
     on_err c.from_residual-in_err-line.result (BreaksOff g.L.DecisionLog.moment c.args.name.now unread written all c.args.self.now c.args.self.now)
-    (off_at_once g.L.DecisionLog.moment c.args.name.now unread written all c.args.self.now c.flush_before_waiting.ensures)
+    (off_at_once g.L.DecisionLog.moment c.args.name.now unread written all c.args.self.now c.flush_before_waiting.ensures.keeps)
 
 pub returns-in_err-told-clause-err : goal.returns-in_err-told-clause-err
 returns-in_err-told-clause-err g c =
@@ -30,7 +30,7 @@ returns-in_err-told-clause-err g c =
     let all = g.W.Write.contents c.flush_before_waiting.new.output in
     on_err c.from_residual-in_err-told.result (BreaksOff g.L.DecisionLog.moment c.args.name.now unread written all c.args.self.now c.reply_to.new.self)
     (subst (λ s. BreaksOff g.L.DecisionLog.moment c.args.name.now unread written all c.args.self.now s) (sym c.in_err-told.ensures.err)
-    (off_at_once g.L.DecisionLog.moment c.args.name.now unread written all c.args.self.now c.flush_before_waiting.ensures))
+    (off_at_once g.L.DecisionLog.moment c.args.name.now unread written all c.args.self.now c.flush_before_waiting.ensures.keeps))
 
 pub returns-in_err-write_reply-clause-err : goal.returns-in_err-write_reply-clause-err
 returns-in_err-write_reply-clause-err g c =
@@ -49,7 +49,7 @@ returns-in_err-write_reply-clause-err g c =
     (off_behind moment name (left c.args.input.now) (left c.read_line.new.input) written mid all line.bytes.items line.is_ended told old new
     c.in_ok-line.ensures (sym c.is_nothing.ensures ∙ c.if-is_nothing.false)
     (subst (λ l. RepliesToLine moment (asks_of name l) old told new) c.deref.ensures.value c.in_ok-told.ensures.ok)
-    c.flush_before_waiting.ensures c.in_err-write_reply.ensures.err)
+    c.flush_before_waiting.ensures.keeps c.in_err-write_reply.ensures.err)
 
 pub returns-then-is_nothing-clause-ok : goal.returns-then-is_nothing-clause-ok
 returns-then-is_nothing-clause-ok g c =
@@ -61,7 +61,7 @@ returns-then-is_nothing-clause-ok g c =
     let mid = g.W.Write.contents c.flush_before_waiting.new.output in
     let line = c.in_ok-line.line in
     let s = c.args.self.now in
-    served_behind_flush moment name unread rest written mid mid s s false c.flush_before_waiting.ensures
+    served_behind_flush moment name unread rest written mid mid s s false c.flush_before_waiting.ensures.keeps
     (at_end moment name unread rest mid line.bytes.items line.is_ended s c.in_ok-line.ensures (sym c.is_nothing.ensures ∙ c.if-is_nothing.true))
 
 pub returns-clause-ok : goal.returns-clause-ok
@@ -78,7 +78,7 @@ returns-clause-ok g c =
     let told = c.in_ok-told.told in
     let old = c.args.self.now in
     let new = c.reply_to.new.self in
-    served_behind_flush moment name unread rest (contents c.args.output.now) mid all old new c.goes_on.result c.flush_before_waiting.ensures
+    served_behind_flush moment name unread rest (contents c.args.output.now) mid all old new c.goes_on.result c.flush_before_waiting.ensures.keeps
     (subst (ServesLine moment name unread rest mid all old new) (sym c.goes_on.ensures)
     (one_line moment name unread rest mid all line.bytes.items line.is_ended told old new c.in_ok-line.ensures
     (sym c.is_nothing.ensures ∙ c.if-is_nothing.false)
