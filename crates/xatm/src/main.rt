@@ -166,9 +166,9 @@ fn run<W: Write>(
     claim_log(rt, path, &ManagerName::none(), &[])?;
     let opened = open_log(rt, path)?;
     match run_in_files(alloc, &texts, opened, with_trace, out) {
-        Ok(closed) => closed.map_err(|fault| opening_failure(rt, path, fault)),
+        Ok(closed) => leave(rt, path, closed),
         Err(fault) => {
-            gather(rt, path);
+            let _gathered = gather(rt, path);
             Err(running_failure(rt, path, failure_of(alloc, files, &texts, fault)))
         }
     }
@@ -226,9 +226,9 @@ fn run_threads<T: Threads + Wait + Clock + Sync, W: Write>(
     claim_log(rt, path, &ManagerName::none(), &[])?;
     let opened = open_log(rt, path)?;
     match run_jobs_in_files(threads, alloc, source.text, opened, out) {
-        Ok(closed) => closed.map_err(|fault| opening_failure(rt, path, fault)),
+        Ok(closed) => leave(rt, path, closed),
         Err(fault) => {
-            gather(rt, path);
+            let _gathered = gather(rt, path);
             Err(running_failure(rt, path, source.failure(alloc, fault)))
         }
     }
@@ -259,11 +259,12 @@ fn serve(
     let flushed = out.flush();
     match served {
         Ok(closed) => {
+            let left = leave(rt, log, closed);
             flushed.map_err(|_| Failure::Run(RunFault::Output))?;
-            closed.map_err(|fault| opening_failure(rt, log, fault))
+            left
         }
         Err(failure) => {
-            gather(rt, log);
+            let _gathered = gather(rt, log);
             Err(running_failure(rt, log, failure))
         }
     }
@@ -319,10 +320,19 @@ fn list_as_json<W: Write>(rt: &HostRuntime, path: &str, out: &mut W) -> Result<(
     Ok(write_text(json.as_bytes(), out)?)
 }
 
-/// Copies the journal of the log at a path into its file, once a run has ended by a fault and its log is gone. What is told is
-/// that fault, also if this fails.
-fn gather(rt: &HostRuntime, path: &str) {
-    if let Ok(log) = SqlLog::look(rt, path) {
-        let _closed = close_in_files(log);
+/// What comes of a run that went to its end, by how its log was closed. A log that has failed can't be: it is opened anew for that.
+fn leave(rt: &HostRuntime, path: &str, closed: Result<(), LogFault>) -> Result<(), Failure> {
+    match closed {
+        Ok(()) => Ok(()),
+        Err(_) => gather(rt, path),
     }
+}
+
+/// Copies the journal of the log at a path into its file. Nobody may hold that log any longer.
+fn gather(rt: &HostRuntime, path: &str) -> Result<(), Failure> {
+    let gathered = match SqlLog::look(rt, path) {
+        Ok(log) => close_in_files(log),
+        Err(fault) => Err(fault),
+    };
+    gathered.map_err(|fault| opening_failure(rt, path, fault))
 }
