@@ -371,6 +371,7 @@ final class Session {
 
     /** The coordinator is gone: what is open is given up, before the next session looks at the resources. */
     void abandon() {
+        commits.abandon();
         keepers.forEach(Keeper::stop);
         live.forEach(GlobalTransaction::abandon);
         rms.forEach(ResourceManager::startAnew);
