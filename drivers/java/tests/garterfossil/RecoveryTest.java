@@ -13,6 +13,7 @@ import java.util.Map;
 import java.util.Set;
 import java.util.concurrent.FutureTask;
 import java.util.concurrent.TimeUnit;
+import javax.transaction.xa.XAException;
 import org.junit.Rule;
 import org.junit.Test;
 
@@ -315,6 +316,39 @@ public class RecoveryTest {
         world.overBoth().commit();
         nothingIsLeft();
         assertEquals(1, world.b.committed.size());
+    }
+
+    @Test
+    public void aRecoveryThatFailsByAnError() throws Exception {
+        world.a.before = World.failingOnce();
+        world.manager.session().keeper(world.manager.resourceManager(world.a)).scanLater();
+        nothingIsLeft();
+        world.overBoth().commit();
+    }
+
+    @Test
+    public void anXaCommitThatIsPutOffWhileAnotherIsLost() throws Exception {
+        world.manager.close();
+        BranchXid one = BranchXid.of(world.manager.name(), "0000000000000001" + "0000000000000008", 1, 1);
+        BranchXid other = BranchXid.of(world.manager.name(), "0000000000000001" + "0000000000000009", 1, 1);
+        world.put("rows", one.transaction() + " 7:" + one.transaction() + ":0000000100000001\n"
+            + other.transaction() + " 7:" + other.transaction() + ":0000000100000001\n");
+        world.b.answer("commit", XAException.XA_RETRY);
+        world.b.before = () -> {
+            if (world.b.calls.contains("commit")) {
+                world.b.before = () -> { };
+                world.b.answer("commit", StandInResource.LOST_BEFORE);
+            }
+            if (world.b.calls.contains("recover")) {
+                // No scan has found them.
+                world.b.branches.put(one, StandInResource.State.PREPARED);
+                world.b.branches.put(other, StandInResource.State.PREPARED);
+            }
+        };
+        world.b.calls.clear();
+        world.manager = world.builder().start();
+        World.eventually(() -> world.b.committed.size() == 2 && world.rows().isEmpty());
+        world.manager.close();
     }
 
     @Test
