@@ -117,9 +117,9 @@ public final class Manager implements AutoCloseable {
     final Helpers helpers;
     private final Builder made;
     private final List<ResourceManager> rms = new ArrayList<>();
+    // Time-outs, which may all wait for a resource; and what is done each second. That may wait for the coordinator, until its watch ends it.
     private final ScheduledThreadPoolExecutor clock = new ScheduledThreadPoolExecutor(4, work -> daemon(work, "garterfossil clock"));
-    // All else may wait for the coordinator, and its watch ends that.
-    private final ScheduledThreadPoolExecutor watch = new ScheduledThreadPoolExecutor(1, work -> daemon(work, "garterfossil watch"));
+    private final ScheduledThreadPoolExecutor seconds = new ScheduledThreadPoolExecutor(2, work -> daemon(work, "garterfossil seconds"));
     private final ThreadLocal<GlobalTransaction> current = new ThreadLocal<>();
     private final Object starting = new Object();
     // As the log keeps them.
@@ -152,10 +152,10 @@ public final class Manager implements AutoCloseable {
                     resource.belongTo(names.manager);
                     rms.add(new ResourceManager(names.numberOf(resource.name(), made.log), resource));
                 }
-                watch.scheduleWithFixedDelay(this::watch, 1, 1, TimeUnit.SECONDS);
+                seconds.scheduleWithFixedDelay(this::watch, 1, 1, TimeUnit.SECONDS);
                 start(coordinator());
             }
-            clock.scheduleWithFixedDelay(this::tick, 1, 1, TimeUnit.SECONDS);
+            seconds.scheduleWithFixedDelay(this::tick, 1, 1, TimeUnit.SECONDS);
         } catch (Fault | RuntimeException | Error error) {
             close();
             throw error;
@@ -390,7 +390,7 @@ public final class Manager implements AutoCloseable {
         if (last != null) {
             last.abandon();
         }
-        watch.shutdownNow();
+        seconds.shutdownNow();
         helpers.stop();
         rms.forEach(ResourceManager::close);
     }

@@ -11,6 +11,7 @@ import java.time.Duration;
 import java.util.HashSet;
 import java.util.Map;
 import java.util.Set;
+import java.util.concurrent.CountDownLatch;
 import java.util.concurrent.FutureTask;
 import java.util.concurrent.TimeUnit;
 import javax.transaction.xa.XAException;
@@ -297,6 +298,37 @@ public class RecoveryTest {
         assertTrue(message, message.contains("it didn't reply for 1 s"));
         nothingIsLeft();
         world.manager.close();
+    }
+
+    @Test
+    public void timeOutsThatAllWaitForAResource() throws Exception {
+        world.manager.close();
+        world.manager = world.builder().threads(8).start();
+        CountDownLatch waiting = new CountDownLatch(4), mayGoOn = new CountDownLatch(1);
+        world.a.before = () -> {
+            if (Thread.currentThread().getName().equals("garterfossil clock")) {
+                waiting.countDown();
+                await(mayGoOn);
+            }
+        };
+        for (int count = 0; count < 4; count++) {
+            world.manager.begin(Duration.ofMillis(100)).enlist(world.a);
+        }
+        await(waiting);
+        // Nobody but the manager's own threads sees to it that its row leaves the log.
+        world.overBoth().commit();
+        World.eventually(() -> world.rows().isEmpty());
+        mayGoOn.countDown();
+        nothingIsLeft();
+        world.manager.close();
+    }
+
+    private static void await(CountDownLatch latch) {
+        try {
+            assertTrue(latch.await(20, TimeUnit.SECONDS));
+        } catch (InterruptedException error) {
+            throw new AssertionError(error);
+        }
     }
 
     @Test
