@@ -1,6 +1,7 @@
 package garterfossil;
 
 import java.util.ArrayList;
+import java.util.Iterator;
 import java.util.List;
 import java.util.Optional;
 import java.util.concurrent.CopyOnWriteArrayList;
@@ -65,10 +66,7 @@ final class Branches {
     Branch begin(ResourceManager rm, XAResource brought) throws Fault {
         join();
         session.keeper(rm).usage.enter(transaction.left());
-        ResourceManager.Lease lease = brought == null ? lease(rm) : null;
-        XAResource resource = brought == null ? lease.link.xaResource() : brought;
-        Branch branch = new Branch(BranchXid.of(session.name, gtrid, slot.number, rm.number), slot.line(rm), lease, resource);
-        all.add(branch);
+        Branch branch = made(rm, brought);
         branch.start();
         if (all.size() > 1) {
             // It will be committed in two phases: so the calls of the first are issued while the work goes on.
@@ -88,7 +86,7 @@ final class Branches {
         Session.Slot taken = up.take(transaction.left());
         try {
             gtrid = taken.begin();
-        } catch (Fault error) {
+        } catch (Fault | RuntimeException | Error error) {
             up.giveBack(taken);
             throw error;
         }
@@ -107,13 +105,22 @@ final class Branches {
         slot.postAndBegin();
     }
 
-    private ResourceManager.Lease lease(ResourceManager rm) throws Fault {
+    /** A branch that is among the others, and ends with them. */
+    private Branch made(ResourceManager rm, XAResource brought) throws Fault {
+        ResourceManager.Lease lease = null;
         try {
-            return rm.borrow(transaction.left());
-        } catch (Fault | RuntimeException error) {
+            lease = brought == null ? rm.borrow(transaction.left()) : null;
+            XAResource resource = brought == null ? lease.link.xaResource() : brought;
+            Branch branch = new Branch(BranchXid.of(session.name, gtrid, slot.number, rm.number), slot.line(rm), lease, resource);
+            all.add(branch);
+            return branch;
+        } catch (Fault | RuntimeException | Error error) {
             session.keeper(rm).usage.leave();
             if (error instanceof Fault.Lost) {
                 session.keeper(rm).scanLater();
+            }
+            if (lease != null) {
+                lease.lose();
             }
             throw error;
         }
@@ -149,18 +156,37 @@ final class Branches {
         if (slot == null) {
             return;
         }
-        // The answers come before whatever a recovery tells from now on.
-        slot.post();
-        for (Branch branch : all) {
+        Session.Slot over = slot;
+        slot = null;
+        try {
+            // The answers come before whatever a recovery tells from now on.
+            over.post();
+        } catch (RuntimeException | Error error) {
+            // The thread's next transaction would begin behind half of this one.
+            session.coordinator.failed(error);
+            throw error;
+        } finally {
+            release(all.iterator(), over);
+        }
+    }
+
+    /** Releases the branches that are left, and then the thread: whatever goes wrong with one, the others are released. */
+    private void release(Iterator<Branch> left, Session.Slot over) {
+        if (!left.hasNext()) {
+            session.remove(transaction);
+            session.giveBack(over);
+            return;
+        }
+        Branch branch = left.next();
+        try {
             if (session.coordinator.isGone()) {
                 branch.abandon("the coordinator ended", true);
             } else {
                 branch.release();
             }
+        } finally {
             session.keeper(branch.rm()).usage.leave();
+            release(left, over);
         }
-        session.remove(transaction);
-        session.giveBack(slot);
-        slot = null;
     }
 }

@@ -23,8 +23,10 @@ final class Commits {
         private final Thread asking = Thread.currentThread();
         // What was asked for together with it, if its thread is to wait for the reply.
         private volatile Group led;
-        private volatile boolean isOver;
+        // Only a reply says so. Where the wait ends in another way nobody here knows.
+        private boolean isDecided;
         private Fault fault;
+        private volatile boolean isOver;
 
         Commit(String gtrid, Behind behind) {
             this.gtrid = gtrid;
@@ -52,20 +54,33 @@ final class Commits {
     /** What is decided by one request. */
     private static final class Group {
         final List<Commit> commits;
+        // Null where the request, or what goes behind it, couldn't be posted.
         private Coordinator.Reply reply;
 
         Group(List<Commit> commits) {
             this.commits = commits;
         }
 
+        void noteDecided() {
+            commits.forEach(it -> it.isDecided = true);
+        }
+
+        /** Those that are decided alone stay so. */
         void fail(Fault fault) {
-            commits.forEach(it -> it.fault = fault);
+            commits.forEach(it -> it.fault = it.fault == null ? fault : it.fault);
+        }
+
+        void end() {
+            for (Commit commit : commits) {
+                commit.end();
+            }
         }
     }
 
     private final Coordinator coordinator;
+    // Under the monitor of this object: what is being decided, or null, and what was asked for meanwhile.
+    private Group deciding;
     private List<Commit> asked = new ArrayList<>();
-    private boolean isDeciding;
 
     Commits(Coordinator coordinator) {
         this.coordinator = coordinator;
@@ -74,42 +89,63 @@ final class Commits {
     /** Decides that the transaction commits. Once this returns, the decision is in the log. */
     void decide(String gtrid, Behind behind) throws Fault {
         Commit mine = new Commit(gtrid, behind);
-        boolean isFirst;
+        Group first = null;
         synchronized (this) {
-            isFirst = !isDeciding;
-            isDeciding = true;
-            if (!isFirst) {
+            if (deciding == null) {
+                first = new Group(List.of(mine));
+                deciding = first;
+            } else {
                 asked.add(mine);
             }
         }
-        if (isFirst) {
-            mine.led = new Group(List.of(mine));
-            post(mine.led);
+        if (first != null) {
+            mine.led = first;
+            post(first);
         }
         mine.await();
         if (mine.led != null) {
             see(mine.led);
         }
-        if (mine.fault != null) {
-            throw mine.fault;
+        if (!mine.isDecided) {
+            throw mine.fault != null ? mine.fault : coordinator.lost();
         }
     }
 
     /** Sees that what was posted is written: now, or once a decision that is under way is made, since nothing else is done before that. */
     void flush() throws Fault.Gone {
         synchronized (this) {
-            if (isDeciding) {
+            if (deciding != null) {
                 return;
             }
         }
         coordinator.flush();
     }
 
+    /** The session is over: whoever still waits for a thread that failed waits no more. Nobody here knows what is decided. */
+    synchronized void abandon() {
+        if (deciding != null) {
+            deciding.end();
+        }
+        deciding = null;
+        for (Commit commit : asked) {
+            commit.end();
+        }
+        asked.clear();
+    }
+
     /** Waits for the reply to a request that was posted, and has what was asked for meanwhile decided. */
     private void see(Group group) {
         try {
             await(group);
+            goOn();
         } finally {
+            group.end();
+        }
+    }
+
+    /** Posts what was asked for meanwhile, and writes it with what else was posted. Another thread waits for its reply. Others wait for this. */
+    private void goOn() {
+        try {
             Group next = next();
             if (next != null) {
                 post(next);
@@ -118,19 +154,25 @@ final class Commits {
             if (next != null) {
                 lead(next);
             }
-            group.commits.forEach(Commit::end);
+        } catch (RuntimeException | Error error) {
+            try {
+                coordinator.failed(error);
+            } finally {
+                abandon();
+            }
         }
     }
 
     /** What was asked for meanwhile, or null. */
     private synchronized Group next() {
-        isDeciding = !asked.isEmpty();
-        if (!isDeciding) {
+        if (asked.isEmpty()) {
+            deciding = null;
             return null;
         }
-        Group next = new Group(asked);
-        asked = new ArrayList<>();
-        return next;
+        List<Commit> others = new ArrayList<>();
+        deciding = new Group(asked);
+        asked = others;
+        return deciding;
     }
 
     /** Writes the next decision, and what else was posted meanwhile. */
@@ -149,24 +191,28 @@ final class Commits {
         coordinator.wake(first.asking, group.reply);
     }
 
+    /** Posts the request, and what goes behind it. Where that fails the request may be written all the same: so it is as if its reply was lost. */
     private void post(Group group) {
-        StringBuilder request = new StringBuilder("decide ");
-        group.commits.forEach(it -> request.append(it.gtrid).append(' '));
-        group.reply = coordinator.post(request.append("commit").toString());
         try {
+            StringBuilder request = new StringBuilder("decide ");
+            group.commits.forEach(it -> request.append(it.gtrid).append(' '));
+            Coordinator.Reply reply = coordinator.post(request.append("commit").toString());
             group.commits.forEach(it -> it.behind.post());
+            group.reply = reply;
         } catch (RuntimeException | Error error) {
-            ended(error);
+            group.fail(coordinator.failed(error));
         }
     }
 
     private void await(Group group) {
         try {
-            seeReply(group);
+            if (group.reply != null) {
+                seeReply(group);
+            }
         } catch (Fault fault) {
             group.fail(fault);
         } catch (RuntimeException | Error error) {
-            group.fail(ended(error));
+            group.fail(coordinator.failed(error));
         }
     }
 
@@ -174,6 +220,7 @@ final class Commits {
     private void seeReply(Group group) throws Fault {
         try {
             coordinator.await(group.reply);
+            group.noteDecided();
         } catch (Fault.Refused refused) {
             group.commits.forEach(it -> it.behind.takeBack());
             if (group.commits.size() == 1) {
@@ -181,13 +228,6 @@ final class Commits {
             }
             group.commits.forEach(this::decideAlone);
         }
-    }
-
-    /** An error of the driver itself: nobody here knows what is decided, and the next session finds it in the log. */
-    private Fault.Gone ended(Throwable error) {
-        String reason = "an error of the driver: " + error;
-        coordinator.kill(reason);
-        return new Fault.Gone(reason);
     }
 
     private void decideAlone(Commit commit) {

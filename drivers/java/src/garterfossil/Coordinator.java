@@ -24,7 +24,7 @@ import java.util.concurrent.locks.ReentrantLock;
  * next one that is waited for, and the replies come in the order of the lines: whichever thread waits reads what has come, and wakes the
  * threads whose replies are among it.
  */
-final class Coordinator {
+class Coordinator {
     /** The rules by which a step is refused because the manager is down, or the transaction is over. */
     static final int MANAGER_DOWN = 1, UNKNOWN_TRANSACTION = 5, LOG_FAULT = 15;
     /** Stands between the requests of a line, and in its reply for each that was done before the one that it replies to. */
@@ -87,7 +87,7 @@ final class Coordinator {
     private byte[] came = new byte[8192];
     private int begun;
     private final Object ending = new Object();
-    private volatile String fault;
+    private volatile String killedFor, fault;
 
     /** What starts the process. */
     interface Starter {
@@ -233,6 +233,9 @@ final class Coordinator {
             }
         } catch (IOException error) {
             throw gone(error.getMessage());
+        } catch (RuntimeException | Error error) {
+            // What was taken to be written may never be, and others wait for its replies.
+            throw failed(error);
         } finally {
             writing.unlock();
         }
@@ -287,11 +290,26 @@ final class Coordinator {
         }
     }
 
+    /** Reads what has come already, since replies that nobody waits for would look as if they never came. */
+    void readWhatCame() throws Fault.Gone {
+        if (isRead.compareAndSet(false, true)) {
+            try {
+                readAsOnly(null);
+            } catch (IOException error) {
+                throw gone(error.getMessage());
+            }
+        }
+    }
+
+    /** Reads until the reply has come; without one, what is there. */
     private void readAsOnly(Reply reply) throws IOException {
         try {
-            while (reply.line == null) {
+            while (fault == null && (reply == null ? input.available() > 0 : reply.line == null)) {
                 read();
             }
+        } catch (RuntimeException | Error error) {
+            // Of what came a part may be given out, and the rest is lost: the next line would be taken for another's reply.
+            failed(error);
         } finally {
             isRead.set(false);
             wakeNext();
@@ -307,12 +325,19 @@ final class Coordinator {
         }
     }
 
-    /** Wakes a thread that waits for a reply in another way: once it is there, or as soon as nobody else reads. */
+    /** Wakes a thread that waits for a reply in another way: once it is there, or as soon as nobody else reads. At once, if there is none to come. */
     void wake(Thread thread, Reply reply) {
-        reply.waiter = thread;
-        asleep.add(reply);
-        if (reply.line != null || fault != null || !isRead.get()) {
-            LockSupport.unpark(thread);
+        boolean isWokenLater = false;
+        try {
+            if (reply != null) {
+                reply.waiter = thread;
+                asleep.add(reply);
+                isWokenLater = reply.line == null && fault == null && isRead.get();
+            }
+        } finally {
+            if (!isWokenLater) {
+                LockSupport.unpark(thread);
+            }
         }
     }
 
@@ -378,25 +403,60 @@ final class Coordinator {
 
     /** Ends the process at once. */
     void kill(String reason) {
-        process.destroyForcibly();
-        end(reason);
+        // Whoever reads that its output ended doesn't know why.
+        killedFor = killedFor == null ? reason : killedFor;
+        try {
+            process.destroyForcibly();
+        } finally {
+            end(reason);
+        }
+    }
+
+    /** An error of the driver itself ends the session: what is open, and what is decided, the next one finds in the log and at the resources. */
+    Fault.Gone failed(Throwable error) {
+        String reason = "an error of the driver";
+        try {
+            reason += ": " + error;
+        } finally {
+            kill(reason);
+        }
+        return lost();
+    }
+
+    /** What whoever still waits for a reply ends in. */
+    Fault.Gone lost() {
+        return new Fault.Gone(fault);
     }
 
     private Fault.Gone gone(String reason) {
         end(reason);
-        return new Fault.Gone(fault);
+        return lost();
     }
 
-    /** Sees that the process has ended, wakes who waits, and keeps the reason. */
+    /** Sees that the process has ended, wakes who waits, and keeps the reason: also where there is no memory for more. */
     private void end(String reason) {
-        synchronized (ending) {
-            if (fault == null) {
-                String said = said();
-                process.destroyForcibly();
-                fault = said.isEmpty() ? reason : reason + "; it said: " + said;
+        try {
+            synchronized (ending) {
+                if (fault == null) {
+                    endProcess(reason);
+                }
+            }
+        } finally {
+            for (Reply reply : asleep) {
+                LockSupport.unpark(reply.waiter);
             }
         }
-        asleep.forEach(reply -> LockSupport.unpark(reply.waiter));
+    }
+
+    private void endProcess(String reason) {
+        String whole = killedFor == null ? reason : killedFor;
+        try {
+            String said = said();
+            process.destroyForcibly();
+            whole += said.isEmpty() ? "" : "; it said: " + said;
+        } finally {
+            fault = whole;
+        }
     }
 
     /** What it said as it ended. The end of its input ends it. */

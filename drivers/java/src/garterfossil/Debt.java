@@ -28,8 +28,11 @@ final class Debt {
     /** The branch is over: it was answered so. */
     void pay(int answer) {
         code = answer;
-        whenPaid.run();
-        paid.countDown();
+        try {
+            whenPaid.run();
+        } finally {
+            paid.countDown();
+        }
     }
 
     /** The session is over: the next one pays it. */

@@ -144,8 +144,7 @@ public final class GlobalTransaction {
         } catch (Fault error) {
             Manager.LOG.log(Level.WARNING, () -> this + ": " + error.getMessage());
         } finally {
-            release();
-            lock.unlock();
+            leave();
         }
     }
 
@@ -194,7 +193,7 @@ public final class GlobalTransaction {
         int count = branches.all().size();
         try {
             return branches.begin(rm, brought);
-        } catch (Fault error) {
+        } catch (Fault | RuntimeException | Error error) {
             if (branches.all().size() > count) {
                 setRollbackOnly("no branch at " + rm + ": " + error.getMessage());
             }
@@ -239,11 +238,11 @@ public final class GlobalTransaction {
                 requireOpen();
                 commitLocked();
             } catch (RuntimeException | Error error) {
+                outcome = Outcome.UNKNOWN;
                 giveUp(error);
                 throw error;
             } finally {
-                release();
-                lock.unlock();
+                leave();
             }
         } finally {
             callAfter();
@@ -274,9 +273,8 @@ public final class GlobalTransaction {
 
     /** An error of the driver itself: the next session ends what is open. */
     private void giveUp(Throwable error) {
-        outcome = Outcome.UNKNOWN;
         if (branches.session() != null) {
-            branches.session().coordinator.kill("an error of the driver: " + error);
+            branches.session().coordinator.failed(error);
         }
     }
 
@@ -294,8 +292,7 @@ public final class GlobalTransaction {
             requireOpen();
             rollBack();
         } finally {
-            release();
-            lock.unlock();
+            leave();
             callAfter();
         }
     }
@@ -306,6 +303,9 @@ public final class GlobalTransaction {
             if (branches.gtrid() != null && !branches.isSessionOver()) {
                 new Rollback(this, branches).make();
             }
+        } catch (RuntimeException | Error error) {
+            giveUp(error);
+            throw error;
         } finally {
             outcome = Outcome.ROLLED_BACK;
         }
@@ -334,13 +334,17 @@ public final class GlobalTransaction {
         }
     }
 
-    /** It is over: its connections go back to their pools. */
-    private void release() {
-        if (alarm != null) {
-            alarm.cancel(false);
-        }
-        if (outcome.isOver()) {
-            branches.release();
+    /** Lets other threads at it. If it is over, its connections go back to their pools. */
+    private void leave() {
+        try {
+            if (alarm != null) {
+                alarm.cancel(false);
+            }
+            if (outcome.isOver()) {
+                branches.release();
+            }
+        } finally {
+            lock.unlock();
         }
     }
 

@@ -3,6 +3,7 @@ package garterfossil;
 import java.util.ArrayDeque;
 import java.util.ArrayList;
 import java.util.List;
+import java.util.concurrent.ThreadFactory;
 import java.util.concurrent.atomic.AtomicBoolean;
 import java.util.concurrent.atomic.AtomicInteger;
 import java.util.concurrent.locks.LockSupport;
@@ -60,13 +61,18 @@ final class Helpers {
         }
     }
 
-    private final class Helper extends Thread {
+    private final class Helper implements Runnable {
+        private final Thread thread = threads.newThread(this);
         private volatile Part part;
 
         Helper(Part first) {
-            super("garterfossil helper");
-            setDaemon(true);
             part = first;
+        }
+
+        void start() {
+            thread.setName("garterfossil helper");
+            thread.setDaemon(true);
+            thread.start();
         }
 
         @Override
@@ -83,11 +89,12 @@ final class Helpers {
 
         void take(Part next) {
             part = next;
-            LockSupport.unpark(this);
+            LockSupport.unpark(thread);
         }
     }
 
     private final int most;
+    private final ThreadFactory threads;
     // The helpers that wait, the one that was used last first; and how many there are. Under the monitor of this object.
     private final ArrayDeque<Helper> idle = new ArrayDeque<>();
     private int count;
@@ -96,7 +103,12 @@ final class Helpers {
     private volatile boolean isOver;
 
     Helpers(int most) {
+        this(most, Thread::new);
+    }
+
+    Helpers(int most, ThreadFactory threads) {
         this.most = most;
+        this.threads = threads;
     }
 
     /**
@@ -118,10 +130,11 @@ final class Helpers {
     private void together(List<Branch> branches, Step step) {
         List<Part> parts = new ArrayList<>(branches.size());
         for (Branch branch : branches) {
-            Part part = new Part(step, branch);
-            parts.add(part);
-            if (parts.size() > 1 && branch.link() != null) {
-                give(part);
+            parts.add(new Part(step, branch));
+        }
+        for (int at = 1; at < parts.size(); at++) {
+            if (branches.get(at).link() != null) {
+                give(parts.get(at));
             }
         }
         parts.forEach(Part::makeUnlessBegun);
@@ -160,12 +173,21 @@ final class Helpers {
         synchronized (this) {
             helper = idle.pollFirst();
             if (helper == null && count < most && !isOver) {
-                count++;
-                new Helper(part).start();
+                begin(part);
             }
         }
         if (helper != null) {
             helper.take(part);
+        }
+    }
+
+    /** One helper more. Where there is no thread to be had the one that asks makes the part itself, and doesn't leave while others are made. */
+    private void begin(Part first) {
+        try {
+            new Helper(first).start();
+            count++;
+        } catch (RuntimeException | Error error) {
+            // It only takes longer.
         }
     }
 
@@ -176,7 +198,7 @@ final class Helpers {
     void stop() {
         isOver = true;
         synchronized (this) {
-            idle.forEach(LockSupport::unpark);
+            idle.forEach(helper -> LockSupport.unpark(helper.thread));
         }
     }
 }

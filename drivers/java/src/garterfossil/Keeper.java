@@ -82,15 +82,29 @@ final class Keeper {
     // ** the thread
 
     private void keep() {
-        while (!isOver && !session.coordinator.isGone()) {
+        try {
+            while (!isOver && !session.coordinator.isGone()) {
+                keepOnce();
+            }
+            disconnect();
+        } catch (RuntimeException | Error error) {
+            session.coordinator.failed(error);
+        }
+    }
+
+    private void keepOnce() {
+        try {
             if (!isScanDue && debts.isEmpty()) {
                 disconnect();
                 pause(0);
             } else if (!work()) {
                 pause(PAUSE);
             }
+        } catch (RuntimeException | Error error) {
+            // What is owed waits for this thread alone: so it goes on, over another connection.
+            putOff(error.toString());
+            pause(PAUSE);
         }
-        disconnect();
     }
 
     /** Waits so many milliseconds, or with 0 until something is due. */
@@ -114,10 +128,14 @@ final class Keeper {
         } catch (Fault.Gone error) {
             isOver = true;
         } catch (Fault error) {
-            note(rm + " is recovered later: " + error.getMessage());
-            disconnect();
+            putOff(error.getMessage());
         }
         return false;
+    }
+
+    private void putOff(String why) {
+        note(rm + " is recovered later: " + why);
+        disconnect();
     }
 
     /** The same is said once. */
@@ -316,17 +334,11 @@ final class Keeper {
 
     /** Ends the branches that are owed. False if some are left. */
     private boolean payAll() throws Fault {
-        List<Debt> left = new ArrayList<>();
-        for (Debt debt = debts.peek(); debt != null; debt = debts.peek()) {
-            if (pay(debt)) {
-                debts.remove(debt);
-            } else {
-                debts.remove(debt);
-                left.add(debt);
-            }
+        boolean isAllPaid = true;
+        for (Debt debt : debts) {
+            isAllPaid &= pay(debt);
         }
-        debts.addAll(left);
-        return left.isEmpty();
+        return isAllPaid;
     }
 
     private boolean pay(Debt debt) throws Fault {
@@ -351,6 +363,7 @@ final class Keeper {
             Manager.LOG.log(Level.ERROR, () -> debt.call() + " of " + debt.xid + " at " + rm + " is answered " + Code.name(odd)
                 + ": the resource ended it by itself. The log has a record");
         }
+        debts.remove(debt);
         debt.pay(code);
         return true;
     }

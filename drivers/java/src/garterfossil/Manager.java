@@ -117,11 +117,9 @@ public final class Manager implements AutoCloseable {
     final Helpers helpers;
     private final Builder made;
     private final List<ResourceManager> rms = new ArrayList<>();
-    private final ScheduledThreadPoolExecutor clock = new ScheduledThreadPoolExecutor(4, work -> {
-        Thread thread = new Thread(work, "garterfossil clock");
-        thread.setDaemon(true);
-        return thread;
-    });
+    // Time-outs, which may all wait for a resource; and what is done each second. That may wait for the coordinator, until its watch ends it.
+    private final ScheduledThreadPoolExecutor clock = new ScheduledThreadPoolExecutor(4, work -> daemon(work, "garterfossil clock"));
+    private final ScheduledThreadPoolExecutor seconds = new ScheduledThreadPoolExecutor(2, work -> daemon(work, "garterfossil seconds"));
     private final ThreadLocal<GlobalTransaction> current = new ThreadLocal<>();
     private final Object starting = new Object();
     // As the log keeps them.
@@ -133,6 +131,12 @@ public final class Manager implements AutoCloseable {
         this.made = made;
         helpers = new Helpers(made.helpers);
         clock.setRemoveOnCancelPolicy(true);
+    }
+
+    private static Thread daemon(Runnable work, String name) {
+        Thread thread = new Thread(work, name);
+        thread.setDaemon(true);
+        return thread;
     }
 
     /** A manager over the log in this file, which is made where there was none before. */
@@ -148,13 +152,14 @@ public final class Manager implements AutoCloseable {
                     resource.belongTo(names.manager);
                     rms.add(new ResourceManager(names.numberOf(resource.name(), made.log), resource));
                 }
+                seconds.scheduleWithFixedDelay(this::watch, 1, 1, TimeUnit.SECONDS);
                 start(coordinator());
             }
-        } catch (Fault error) {
+            seconds.scheduleWithFixedDelay(this::tick, 1, 1, TimeUnit.SECONDS);
+        } catch (Fault | RuntimeException | Error error) {
             close();
             throw error;
         }
-        clock.scheduleWithFixedDelay(this::tick, 1, 1, TimeUnit.SECONDS);
     }
 
     // ** sessions
@@ -189,6 +194,10 @@ public final class Manager implements AutoCloseable {
             next.recover();
         } catch (Fault error) {
             coordinator.kill("its start failed: " + error.getMessage());
+            throw error;
+        } catch (RuntimeException | Error error) {
+            // It isn't recovered, and nobody may use it.
+            coordinator.failed(error);
             throw error;
         }
         LOG.log(Level.INFO, () -> "the coordinator is up: " + coordinator.greeting);
@@ -246,12 +255,36 @@ public final class Manager implements AutoCloseable {
     }
 
     private void tick() {
-        try {
+        seeDone(() -> {
             if (!isClosed) {
-                session().tick(made.patience.toNanos());
+                session().tick();
             }
-        } catch (Fault | RuntimeException error) {
-            LOG.log(Level.WARNING, () -> "no coordinator: " + error.getMessage());
+        });
+    }
+
+    private void watch() {
+        seeDone(() -> {
+            Session up = session;
+            if (up != null && !up.coordinator.isGone()) {
+                up.watch(made.patience.toNanos());
+            }
+        });
+    }
+
+    private interface Duty {
+        void fulfil() throws Fault;
+    }
+
+    /** Whatever goes wrong in it, it is done again a second later. */
+    private static void seeDone(Duty duty) {
+        try {
+            duty.fulfil();
+        } catch (Fault | RuntimeException | Error error) {
+            try {
+                LOG.log(Level.WARNING, () -> "no coordinator: " + error.getMessage());
+            } catch (RuntimeException | Error second) {
+                // There may be no memory for that.
+            }
         }
     }
 
@@ -357,6 +390,7 @@ public final class Manager implements AutoCloseable {
         if (last != null) {
             last.abandon();
         }
+        seconds.shutdownNow();
         helpers.stop();
         rms.forEach(ResourceManager::close);
     }

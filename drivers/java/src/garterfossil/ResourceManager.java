@@ -117,17 +117,30 @@ final class ResourceManager {
                 return;
             }
             isOver = true;
-            boolean isGood = link.reset();
+            boolean isKept = false;
+            try {
+                isKept = link.reset() && keep();
+            } finally {
+                leave(isKept);
+            }
+        }
+
+        /** For the next one. False if it can't be kept. */
+        private boolean keep() {
             synchronized (ResourceManager.this) {
-                isGood = isGood && lentIn == session && !isClosed;
-                if (isGood) {
-                    idle.addLast(new Idle(link));
+                return lentIn == session && !isClosed && idle.offerLast(new Idle(link));
+            }
+        }
+
+        /** Its place is free, whatever becomes of the connection. */
+        private void leave(boolean isKept) {
+            try {
+                if (!isKept) {
+                    discard(link);
                 }
+            } finally {
+                places.release();
             }
-            if (!isGood) {
-                discard(link);
-            }
-            places.release();
         }
 
         /** It is lost, or what is on it is. */
@@ -135,8 +148,7 @@ final class ResourceManager {
         public void lose() {
             if (!isOver) {
                 isOver = true;
-                discard(link);
-                places.release();
+                leave(false);
             }
         }
     }
@@ -181,9 +193,12 @@ final class ResourceManager {
 
     /** The connection is closed, and before the next one is made it is seen that it is gone. */
     void discard(Link link) {
-        link.close();
-        kept.remove(link.number());
-        hasStrays = true;
+        try {
+            link.close();
+        } finally {
+            kept.remove(link.number());
+            hasStrays = true;
+        }
     }
 
     /** Gives all connections up: a session begins, and what the last one had under way must not happen any more. */

@@ -327,9 +327,10 @@ final class Session {
         return fatal;
     }
 
-    /** Looks once in a while: what waits is written, and a coordinator that doesn't reply any more is ended. */
-    void tick(long patience) {
+    /** Looks once in a while whether the coordinator replies, and ends it if it doesn't any more. It waits for no reply, since others wait for it. */
+    void watch(long patience) throws Fault.Gone {
         coordinator.seeRuns();
+        coordinator.readWhatCame();
         Coordinator.Reply first = coordinator.oldest();
         if (first == null || first != oldest) {
             oldest = first;
@@ -337,6 +338,10 @@ final class Session {
         } else if (System.nanoTime() - oldestSince > patience) {
             coordinator.kill("it didn't reply for " + TimeUnit.NANOSECONDS.toSeconds(patience) + " s");
         }
+    }
+
+    /** Does once in a while what nobody waits for: rows leave the log, and what waits is written. */
+    void tick() {
         finishAll();
         seeFinished();
         try {
@@ -371,6 +376,7 @@ final class Session {
 
     /** The coordinator is gone: what is open is given up, before the next session looks at the resources. */
     void abandon() {
+        commits.abandon();
         keepers.forEach(Keeper::stop);
         live.forEach(GlobalTransaction::abandon);
         rms.forEach(ResourceManager::startAnew);

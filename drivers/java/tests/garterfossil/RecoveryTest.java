@@ -1,12 +1,20 @@
 package garterfossil;
 
 import static org.junit.Assert.assertEquals;
+import static org.junit.Assert.assertFalse;
 import static org.junit.Assert.assertNotEquals;
 import static org.junit.Assert.assertThrows;
 import static org.junit.Assert.assertTrue;
 
 import java.nio.file.Files;
 import java.time.Duration;
+import java.util.HashSet;
+import java.util.Map;
+import java.util.Set;
+import java.util.concurrent.CountDownLatch;
+import java.util.concurrent.FutureTask;
+import java.util.concurrent.TimeUnit;
+import javax.transaction.xa.XAException;
 import org.junit.Rule;
 import org.junit.Test;
 
@@ -247,5 +255,147 @@ public class RecoveryTest {
         Fault.Unavailable error = assertThrows(Fault.Unavailable.class, () -> Manager.over(world.folder.resolve("other"))
             .program("/no/such/program").resource(new StandInResource("c")).start());
         assertTrue(error.getMessage(), error.getMessage().contains("Builder.program"));
+    }
+
+    private StandInCoordinator standIn() {
+        return (StandInCoordinator) world.coordinator;
+    }
+
+    @Test
+    public void anErrorOfTheDriverAsItAsksForADecision() throws Exception {
+        GlobalTransaction transaction = world.overBoth();
+        standIn().writing = Map.entry("decide", new OutOfMemoryError("a test's"));
+        Fault.RolledBack error = assertThrows(Fault.RolledBack.class, transaction::commit);
+        assertTrue(error.getMessage(), error.getMessage().contains("an error of the driver: java.lang.OutOfMemoryError"));
+        nothingIsLeft();
+        assertTrue(world.a.committed.isEmpty() && world.b.committed.isEmpty());
+        world.overBoth().commit();
+    }
+
+    @Test
+    public void anErrorOfTheDriverAsItReadsThatItIsDecided() throws Exception {
+        GlobalTransaction transaction = world.overBoth();
+        standIn().reading = Map.entry("decided", new OutOfMemoryError("a test's"));
+        transaction.commit();
+        nothingIsLeft();
+        assertEquals(1, world.a.committed.size());
+        assertEquals(1, world.b.committed.size());
+    }
+
+    @Test
+    public void aCoordinatorThatIsSilent() throws Exception {
+        world.manager.close();
+        world.manager = world.builder().patience(Duration.ofSeconds(1)).start();
+        // Its row is to leave the log: the manager's clock asks for that, and gets no reply either.
+        world.overBoth().commit();
+        GlobalTransaction transaction = world.overBoth();
+        world.put("silent", "decide");
+        FutureTask<Fault> committing = new FutureTask<>(() -> assertThrows(Fault.RolledBack.class, transaction::commit));
+        Thread thread = new Thread(committing);
+        thread.setDaemon(true);
+        thread.start();
+        String message = committing.get(10, TimeUnit.SECONDS).getMessage();
+        assertTrue(message, message.contains("it didn't reply for 1 s"));
+        nothingIsLeft();
+        world.manager.close();
+    }
+
+    @Test
+    public void timeOutsThatAllWaitForAResource() throws Exception {
+        world.manager.close();
+        world.manager = world.builder().threads(8).start();
+        CountDownLatch waiting = new CountDownLatch(4), mayGoOn = new CountDownLatch(1);
+        world.a.before = () -> {
+            if (Thread.currentThread().getName().equals("garterfossil clock")) {
+                waiting.countDown();
+                await(mayGoOn);
+            }
+        };
+        for (int count = 0; count < 4; count++) {
+            world.manager.begin(Duration.ofMillis(100)).enlist(world.a);
+        }
+        await(waiting);
+        // Nobody but the manager's own threads sees to it that its row leaves the log.
+        world.overBoth().commit();
+        World.eventually(() -> world.rows().isEmpty());
+        mayGoOn.countDown();
+        nothingIsLeft();
+        world.manager.close();
+    }
+
+    private static void await(CountDownLatch latch) {
+        try {
+            assertTrue(latch.await(20, TimeUnit.SECONDS));
+        } catch (InterruptedException error) {
+            throw new AssertionError(error);
+        }
+    }
+
+    @Test
+    public void aStartThatFailsByAnError() throws Exception {
+        Process first = world.coordinator;
+        Runnable failing = World.failingOnce();
+        world.a.before = () -> {
+            if (world.coordinator != first) {
+                failing.run();
+            }
+        };
+        first.destroy();
+        // The manager's clock starts the next session, and after that one more.
+        Set<Process> all = new HashSet<>();
+        World.eventually(() -> all.add(world.coordinator) && all.size() == 3);
+        world.b.answer("commit", StandInResource.LOST_BEFORE);
+        world.overBoth().commit();
+        nothingIsLeft();
+        assertEquals(1, world.b.committed.size());
+    }
+
+    @Test
+    public void aRecoveryThatFailsByAnError() throws Exception {
+        world.a.before = World.failingOnce();
+        world.manager.session().keeper(world.manager.resourceManager(world.a)).scanLater();
+        nothingIsLeft();
+        world.overBoth().commit();
+    }
+
+    @Test
+    public void anXaCommitThatIsPutOffWhileAnotherIsLost() throws Exception {
+        world.manager.close();
+        BranchXid one = BranchXid.of(world.manager.name(), "0000000000000001" + "0000000000000008", 1, 1);
+        BranchXid other = BranchXid.of(world.manager.name(), "0000000000000001" + "0000000000000009", 1, 1);
+        world.put("rows", one.transaction() + " 7:" + one.transaction() + ":0000000100000001\n"
+            + other.transaction() + " 7:" + other.transaction() + ":0000000100000001\n");
+        world.b.answer("commit", XAException.XA_RETRY);
+        world.b.before = () -> {
+            if (world.b.calls.contains("commit")) {
+                world.b.before = () -> { };
+                world.b.answer("commit", StandInResource.LOST_BEFORE);
+            }
+            if (world.b.calls.contains("recover")) {
+                // No scan has found them.
+                world.b.branches.put(one, StandInResource.State.PREPARED);
+                world.b.branches.put(other, StandInResource.State.PREPARED);
+            }
+        };
+        world.b.calls.clear();
+        world.manager = world.builder().start();
+        World.eventually(() -> world.b.committed.size() == 2 && world.rows().isEmpty());
+        world.manager.close();
+    }
+
+    @Test
+    public void aCoordinatorThatIsntAskedForLong() throws Exception {
+        world.manager.close();
+        world.manager = world.builder().patience(Duration.ofSeconds(1)).start();
+        Session session = world.manager.session();
+        GlobalTransaction open = world.overBoth();
+        // Nobody waits for the reply to what its resource answered.
+        GlobalTransaction alone = world.begin();
+        alone.enlist(world.a);
+        alone.commit();
+        Thread.sleep(5000);
+        assertFalse(session.coordinator.isGone());
+        open.commit();
+        world.manager.close();
     }
 }

@@ -1,6 +1,8 @@
 package garterfossil;
 
 import java.io.BufferedReader;
+import java.io.FilterInputStream;
+import java.io.FilterOutputStream;
 import java.io.IOException;
 import java.io.InputStream;
 import java.io.InputStreamReader;
@@ -36,7 +38,8 @@ import java.util.stream.Collectors;
  * several. Where `slow` is there, a decision takes 20 ms. The file `refuse-at` has the beginning of a request that is refused once.
  * Where the file `die-at` has a word, it ends at the first request that begins with it, instead of a reply, and removes the file;
  * {@code decided} is a decision to commit that it makes and doesn't tell. It begins with the line of the protocol where the file
- * `protocol` has its words. The file `names` has what {@code xatm log} prints of its log.
+ * `protocol` has its words. The file `names` has what {@code xatm log} prints of its log. From the first request that begins with the word of
+ * the file `silent` on it says nothing, and the file is removed.
  */
 final class StandInCoordinator extends Process {
     private static final int S0 = 1, S1 = 2, S2 = 4, S3 = 8, S4 = 16, S5 = 32;
@@ -61,6 +64,13 @@ final class StandInCoordinator extends Process {
     private final Map<String, Integer> asked = new HashMap<>();
     private final Set<String> recorded = new HashSet<>();
     private long sequence;
+    private boolean isSilent;
+    /** Before each reply. */
+    volatile Runnable before = () -> { };
+    /** What the driver's write, or read, of such a text ends in: once a half is written, or all is read. */
+    volatile Map.Entry<String, Error> writing, reading;
+    /** What its next try to end this ends in. */
+    volatile Error ending;
 
     /** The process of a command, as {@code xatm} has it. */
     static Process of(Path folder, List<String> words) throws IOException {
@@ -124,6 +134,20 @@ final class StandInCoordinator extends Process {
         }
     }
 
+    private void beSilentAt(String moment) throws IOException {
+        Path file = folder.resolve("silent");
+        if (Files.exists(file) && moment.startsWith(Files.readString(file).trim())) {
+            Files.delete(file);
+            isSilent = true;
+        }
+        while (isSilent) {
+            LockSupport.parkNanos(10_000_000);
+            if (Thread.interrupted()) {
+                throw new IOException("it ends");
+            }
+        }
+    }
+
     /** The requests of a line are done in turn, up to the first that is refused. The reply is that to the last which was asked. */
     private String replyToAll(String line) throws IOException {
         if (Files.exists(folder.resolve("one-a-line")) && line.contains(";")) {
@@ -141,7 +165,9 @@ final class StandInCoordinator extends Process {
 
     private String reply(String line) throws IOException {
         Files.writeString(folder.resolve("requests"), line + "\n", StandardOpenOption.CREATE, StandardOpenOption.APPEND);
+        before.run();
         dieAt(line);
+        beSilentAt(line);
         Path refused = folder.resolve("refuse-at");
         if (Files.exists(refused) && line.startsWith(Files.readString(refused))) {
             Files.delete(refused);
@@ -398,8 +424,8 @@ final class StandInCoordinator extends Process {
                 write(replies, "protocol " + Files.readString(folder.resolve("protocol")).trim());
             }
             write(replies, "restarted " + incarnation + " " + rows.size() + " 0");
-            BufferedReader requests = new BufferedReader(new InputStreamReader(fromDriver, StandardCharsets.ISO_8859_1));
-            for (String line = requests.readLine(); line != null; line = requests.readLine()) {
+            BufferedReader lines = new BufferedReader(new InputStreamReader(requests(), StandardCharsets.ISO_8859_1));
+            for (String line = lines.readLine(); line != null; line = lines.readLine()) {
                 // The name stands in front of the transaction in each identifier that leaves.
                 String reply = replyToAll(line.replaceAll("(^| )7:" + name, "$17:"));
                 write(replies, reply.replaceAll("(^| )7:", "$17:" + name));
@@ -414,7 +440,26 @@ final class StandInCoordinator extends Process {
         }
     }
 
-    /** A pipe between threads takes nothing once the thread that read last has ended, until another one reads. */
+    /** A pipe between threads gives nothing once the thread that wrote last has ended, until another one writes. */
+    private InputStream requests() {
+        return new FilterInputStream(fromDriver) {
+            @Override
+            public int read(byte[] bytes, int from, int count) throws IOException {
+                while (true) {
+                    try {
+                        return super.read(bytes, from, count);
+                    } catch (IOException error) {
+                        if (!List.of("Write end dead", "Pipe broken").contains("" + error.getMessage())) {
+                            throw error;
+                        }
+                        LockSupport.parkNanos(1_000_000);
+                    }
+                }
+            }
+        };
+    }
+
+    /** It takes nothing once the thread that read last has ended, until another one reads. */
     private static void write(OutputStream replies, String line) throws IOException {
         byte[] bytes = (line + "\n").getBytes(StandardCharsets.ISO_8859_1);
         while (true) {
@@ -435,12 +480,34 @@ final class StandInCoordinator extends Process {
 
     @Override
     public OutputStream getOutputStream() {
-        return input;
+        return new FilterOutputStream(input) {
+            @Override
+            public void write(byte[] bytes, int from, int count) throws IOException {
+                Map.Entry<String, Error> told = writing;
+                if (told != null && new String(bytes, from, count, StandardCharsets.ISO_8859_1).contains(told.getKey())) {
+                    writing = null;
+                    out.write(bytes, from, count / 2);
+                    throw told.getValue();
+                }
+                out.write(bytes, from, count);
+            }
+        };
     }
 
     @Override
     public InputStream getInputStream() {
-        return output;
+        return new FilterInputStream(output) {
+            @Override
+            public int read(byte[] bytes, int from, int count) throws IOException {
+                int came = super.read(bytes, from, count);
+                Map.Entry<String, Error> told = reading;
+                if (told != null && came > 0 && new String(bytes, from, came, StandardCharsets.ISO_8859_1).contains(told.getKey())) {
+                    reading = null;
+                    throw told.getValue();
+                }
+                return came;
+            }
+        };
     }
 
     @Override
@@ -486,6 +553,11 @@ final class StandInCoordinator extends Process {
     @Override
     public Process destroyForcibly() {
         destroy();
+        Error told = ending;
+        if (told != null) {
+            ending = null;
+            throw told;
+        }
         return this;
     }
 }

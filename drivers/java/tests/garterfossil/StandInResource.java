@@ -26,8 +26,8 @@ final class StandInResource implements Resource {
     volatile boolean isDown;
     /** Whether connections that are made from now on take xa_end and xa_prepare by one request. */
     volatile boolean isPreparedAtEnd;
-    /** Before each call. */
-    volatile Runnable before = () -> { };
+    /** Before each call; before a connection is made; and before one is made as new. */
+    volatile Runnable before = () -> { }, beforeConnect = () -> { }, beforeReset = () -> { };
     private final String name;
     private final Map<String, IntSupplier> answers = new HashMap<>();
     private final int max;
@@ -76,6 +76,7 @@ final class StandInResource implements Resource {
 
     @Override
     public synchronized Link connect() throws Fault.Lost {
+        beforeConnect.run();
         if (isDown) {
             throw new Fault.Lost("no connection to " + name, null);
         }
@@ -123,6 +124,7 @@ final class StandInResource implements Resource {
 
         @Override
         public boolean reset() {
+            beforeReset.run();
             return isUsable();
         }
 

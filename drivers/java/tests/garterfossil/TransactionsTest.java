@@ -12,6 +12,7 @@ import java.util.concurrent.CyclicBarrier;
 import java.util.concurrent.ExecutorService;
 import java.util.concurrent.Executors;
 import java.util.concurrent.Future;
+import java.util.concurrent.FutureTask;
 import java.util.concurrent.TimeUnit;
 import java.util.concurrent.atomic.AtomicInteger;
 import java.util.stream.Collectors;
@@ -342,5 +343,39 @@ public class TransactionsTest {
         GlobalTransaction fifth = world.manager.begin(java.time.Duration.ofMillis(300));
         Fault.Unavailable error = assertThrows(Fault.Unavailable.class, () -> fifth.enlist(world.a));
         assertTrue(error.getMessage(), error.getMessage().contains("more threads"));
+    }
+
+    @Test
+    public void aConnectionThatCantBeGivenBack() throws Exception {
+        // There are places for 8 connections and 4 transactions.
+        for (int count = 1; count <= 10; count++) {
+            GlobalTransaction transaction = world.overBoth();
+            world.a.beforeReset = World.failingOnce();
+            assertThrows(OutOfMemoryError.class, transaction::commit);
+            assertEquals(Outcome.COMMITTED, settledOf(transaction));
+            assertEquals(count, world.b.committed.size());
+        }
+        world.overBoth().commit();
+    }
+
+    /** As another thread sees it. */
+    private static Outcome settledOf(GlobalTransaction transaction) throws Exception {
+        FutureTask<Outcome> asking = new FutureTask<>(transaction::settled);
+        Thread thread = new Thread(asking);
+        thread.setDaemon(true);
+        thread.start();
+        return asking.get(5, TimeUnit.SECONDS);
+    }
+
+    @Test
+    public void aConnectionThatCantBeMade() throws Exception {
+        GlobalTransaction transaction = world.begin();
+        world.a.beforeConnect = World.failingOnce();
+        assertThrows(OutOfMemoryError.class, () -> transaction.enlist(world.a));
+        transaction.rollback();
+        // Nobody uses the resource now, so it can be recovered.
+        world.manager.session().keeper(world.manager.resourceManager(world.a)).scanLater();
+        World.eventually(() -> world.manager.owing() == 0);
+        world.overBoth().commit();
     }
 }

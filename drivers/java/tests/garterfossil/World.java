@@ -8,6 +8,7 @@ import java.time.Duration;
 import java.util.ArrayList;
 import java.util.List;
 import java.util.concurrent.TimeUnit;
+import java.util.concurrent.atomic.AtomicBoolean;
 import java.util.function.BooleanSupplier;
 import org.junit.rules.ExternalResource;
 import org.junit.rules.TemporaryFolder;
@@ -20,7 +21,7 @@ final class World extends ExternalResource {
     Path folder;
     Manager manager;
     /** The process that was started last. */
-    Process coordinator;
+    volatile Process coordinator;
 
     @Override
     protected void before() throws Throwable {
@@ -94,6 +95,16 @@ final class World extends ExternalResource {
         } catch (IOException error) {
             throw new java.io.UncheckedIOException(error);
         }
+    }
+
+    /** What fails once, by an error of the Java machine. */
+    static Runnable failingOnce() {
+        AtomicBoolean isDone = new AtomicBoolean();
+        return () -> {
+            if (isDone.compareAndSet(false, true)) {
+                throw new OutOfMemoryError("a test's");
+            }
+        };
     }
 
     static void eventually(BooleanSupplier condition) throws InterruptedException {
