@@ -78,7 +78,7 @@ def orders(it, sent, taken):
     hidden = 0
     if missing:
         # A broker that was killed may hide messages until its index is made anew from its journal.
-        it.broker.stop()
+        it.broker.kill()
         for name in ("db.data", "db.redo"):
             if os.path.exists(f"{it.broker.home}/store/{name}"):
                 os.remove(f"{it.broker.home}/store/{name}")

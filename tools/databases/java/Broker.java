@@ -2,11 +2,18 @@ import java.io.File;
 import org.apache.activemq.broker.BrokerService;
 import org.apache.activemq.store.kahadb.KahaDBPersistenceAdapter;
 
-/** A broker of ActiveMQ with its store in a folder. Usage: Broker FOLDER PORT. */
+/**
+ * A broker of ActiveMQ with its store in a folder. Usage: Broker FOLDER PORT.
+ *
+ * <p>It keeps all of its journal. If it is killed its index may lack messages that the journal has, and it would delete a file of the
+ * journal of which the index names no message.
+ */
 public class Broker {
     public static void main(String[] words) throws Exception {
         KahaDBPersistenceAdapter store = new KahaDBPersistenceAdapter();
         store.setDirectory(new File(words[0], "store"));
+        store.setCleanupInterval(0);
+        store.setCleanupOnStop(false);
         BrokerService broker = new BrokerService();
         broker.setBrokerName("bank");
         broker.setUseJmx(false);
