@@ -88,6 +88,11 @@ def orders(it, sent, taken):
         queue += found
         missing -= set(found)
     nowhere = (set(taken) | set(queue)) - sent
+    if missing:
+        kept = tempfile.mkdtemp(prefix="xatm-lost-")
+        shutil.copytree(it.broker.home, f"{kept}/broker")
+        shutil.copy(f"{it.world.home}/driver.log", kept)
+        print(f"java: the broker's store and what the driver logged are kept in {kept}")
     for order in missing | nowhere:
         print(f"java: order {order} is", "lost" if order in missing else "from nowhere")
     twice = len(taken) + len(queue) - len(set(taken) | set(queue))
