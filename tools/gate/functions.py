@@ -5,6 +5,7 @@ import os
 import re
 import subprocess
 
+DECLARED = re.compile(r"(?m)^\s*(?:pub(?:\(.*?\))? )?(?:struct|enum) (\w+)")
 PAIRS = {"(": ")", "[": "]", "{": "}"}
 
 
@@ -14,9 +15,7 @@ class Function:
     def __init__(self, file, owner, modules, rows, words, places):
         start, at, opens, close = places
         self.file, self.name, self.owner = file, words[at + 1], owner
-        self.modules = [*os.path.splitext(file)[0].split("/")[1:], *modules]
-        if self.modules[-1:] in (["lib"], ["main"], ["mod"]):
-            self.modules.pop()
+        self.modules = [*modules_of(file), *modules]
         self.begins, self.opens, self.ends = rows[at][1], rows[opens][2], rows[close - 1][1]
         self.lines = range(rows[start][0], rows[close - 1][0] + 1)
         before = words[start:at]
@@ -28,33 +27,54 @@ class Function:
     def key(self):
         return self.file, self.begins
 
-    def guess(self):
-        """The end of the name that a check prints for it."""
-        head, rest = self.owner[1:], []
+    def of(self):
+        """The type that it is a method of, as the name that a check prints has it, and whether that is for any of its parameters."""
+        head, rest, parameters = self.owner[1:], [], []
         if head[:1] == ["<"]:
-            head = head[past_angles(head) :]
+            parameters, head = head[: past_angles(head)], head[past_angles(head) :]
         if "where" in head:
             head = head[: head.index("where")]
         if self.of_trait:
             rest, head = head[: head.index("for")], head[head.index("for") + 1 :]
-        plain = [it for it in head if re.match(r"[A-Za-z_]", it)][:1] + [it for it in rest if re.match(r"[A-Z]", it)]
-        of = "".join(plain) if self.owner else "::".join(self.modules[-1:])
+        words = [it for it in head if re.match(r"[A-Za-z_]", it)]
+        if not rest and any(it not in parameters for it in words[1:]):
+            return "+".join(words), False
+        return "".join(words[:1] + [it for it in rest if re.match(r"[A-Z]", it)]), True
+
+    def guess(self):
+        """The end of the name that a check prints for it."""
+        of = self.of()[0] if self.owner else "::".join(self.modules[-1:])
         return f"{of}::{self.name}".removeprefix("::")
 
-    def path(self):
-        """Its path below the crate, as far as the text of its file tells that."""
-        of = self.modules[:-1] if self.modules and not self.owner else self.modules
-        return "::".join([*of, self.guess()])
+    def path(self, homes):
+        """Its path below the crate, as far as that can be told from texts: where the crate's types are declared (homes). A method
+        stands with its type, but where it is one for some of its parameters alone."""
+        if not self.owner:
+            return "::".join([*self.modules[:-1], self.guess()])
+        of, is_for_any = self.of()
+        return "::".join([*(homes.get(of, self.modules) if is_for_any else self.modules), self.guess()])
 
-    def symbol(self, crate, symbols):
-        """Its whole name among those that a check printed, or None if that isn't sure. If none was made, by its path."""
-        if symbols is None:
-            return f"{crate}::{self.path()}"
+    def symbol(self, symbols):
+        """Its whole name among those that a check printed, or None if that isn't sure."""
         found = [it for it in symbols if f"::{it}".endswith(f"::{self.guess()}")]
         if len(found) > 1:
             path = "::".join([*self.modules, ""])
             found = [it for it in found if it.partition("::")[2].startswith(path)]
         return found[0] if len(found) == 1 else None
+
+
+def modules_of(file):
+    modules = os.path.splitext(file)[0].split("/")[1:]
+    return modules[:-1] if modules[-1:] in (["lib"], ["main"], ["mod"]) else modules
+
+
+def homes_of(texts):
+    """The module of each type that is declared in one alone of the files (texts, by file)."""
+    homes = {}
+    for file, text in texts.items():
+        for it in DECLARED.findall(text):
+            homes[it] = None if it in homes else modules_of(file)
+    return {it: modules for it, modules in homes.items() if modules is not None}
 
 
 def past_angles(words):

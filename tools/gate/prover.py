@@ -10,6 +10,7 @@ import tempfile
 import threading
 
 from .crates import PARTS, text_of
+from .holes import Holes
 from .reports import reports
 
 # What a check printed, its status, its processor seconds and the most memory that it took.
@@ -67,11 +68,13 @@ class Room:
 
 class Prover:
     """Checks of one crate, each begun with what a check of the crate as it stands has proved (the seed). If it is known that the crate
-    is proved, no such check is made: each begins with what those before it proved of what their edits left alone."""
+    is proved, no such check is made: each begins with what those before it proved of what their edits left alone, and one of functions
+    with edits may leave the others out (holes)."""
 
     def __init__(self, kit, crate, room, is_known):
         self.kit, self.crate, self.room, self.work, self.is_known = kit, crate, room, room.new(crate.name), is_known
         self.seed, self.files, self.symbols = f"{self.work}/seed", {}, []
+        self.names = self.holes = Holes(kit, crate) if is_known else None
         self.seconds, self.bytes, self.checks = 0.0, 0, 0
 
     def prove(self, edits, whole):
@@ -86,7 +89,6 @@ class Prover:
             os.mkdir(self.seed)
             is_begun = False
         if self.is_known:
-            self.symbols = None
             return None
         paths = {it.path() for it in edits}
         whole = whole or is_begun or None in paths
@@ -97,11 +99,15 @@ class Prover:
         self.files = listing(self.seed)
         return None
 
-    def over_seed(self, edits, paths, left_out=()):
+    def symbol(self, edit):
+        """The whole name of the edit's function, or None if that isn't sure."""
+        return self.names.symbol(edit.function) if self.is_known else edit.function.symbol(self.symbols)
+
+    def over_seed(self, edits, paths, left_out=(), with_holes=False):
         """A check of these paths, all if there are none, with the edits made, over a copy of the seed, which no check may change.
         Of left_out, pairs of a file and an answer in it, nothing is read."""
         if self.is_known:
-            return self.check(edits, asking(paths), self.seed, left_out)
+            return self.check(edits, asking(paths), self.seed, left_out, with_holes)
         over = tempfile.mkdtemp(prefix="over-", dir=self.work)
         os.rmdir(over)
         linked(self.seed, over)
@@ -115,11 +121,13 @@ class Prover:
     def clean(self):
         shutil.rmtree(self.work, ignore_errors=True)
 
-    def check(self, edits, flags, over, left_out=()):
+    def check(self, edits, flags, over, left_out=(), with_holes=False):
         with tempfile.TemporaryDirectory(prefix="try-", dir=self.work) as folder:
             for part in PARTS:
                 if os.path.isdir(f"{self.crate.folder}/{part}"):
                     shutil.copytree(f"{self.crate.folder}/{part}", f"{folder}/{part}")
+            if with_holes:
+                self.holes.make(folder, edits)
             make(edits, folder)
             for file, answer in left_out:
                 leave_out(f"{folder}/{file}", answer)

@@ -29,6 +29,11 @@ def own_goals(edit, symbol, found):
     return ""
 
 
+def of_edit(edit, prover, found):
+    """The reports that have an open goal of the edit's own function."""
+    return [it for it in found if own_goals(edit, prover.symbol(edit), [it])]
+
+
 def try_all(edits, prover, whole):
     """Tries edits, and yields those that a check has just settled."""
     together, alone = ([], edits) if whole else rounds(edits)
@@ -43,13 +48,19 @@ def try_all(edits, prover, whole):
 
 def try_together(edits, prover):
     """Tries edits of different functions in one check of these, and returns those that are to be tried alone."""
-    asked = {it: it.function.symbol(prover.crate.name, prover.symbols) for it in edits}
+    asked = {it: prover.symbol(it) for it in edits}
     unknown = [it for it in edits if asked[it] is None]
     edits = [it for it in edits if asked[it]]
     if not edits:
         return unknown
-    said = prover.over_seed(edits, {asked[it] for it in edits})
+    symbols = {asked[it] for it in edits}
+    said = prover.over_seed(edits, symbols, with_holes=prover.holes is not None)
     found = reports(said.text)
+    if not found and prover.holes:
+        # It may be for what is left out that the crate doesn't compile.
+        prover.holes = None
+        said = prover.over_seed(edits, symbols)
+        found = reports(said.text)
     if not found and len(edits) > 1:
         return [*unknown, *try_parts(edits, prover, said)]
     rest = []
@@ -77,8 +88,12 @@ def try_parts(edits, prover, said):
 
 
 def try_alone(edit, prover, whole=False):
-    """Tries an edit alone: by a check of what it changes, and, if that doesn't refuse it, by one of the whole crate."""
+    """Tries an edit alone: by a check of what it changes, with holes and without, and, if that doesn't refuse it, by one of the whole
+    crate."""
     path = None if whole or edit.seems_proved else edit.path()
+    if path and edit.function and prover.holes:
+        if judge(edit, prover, prover.over_seed([edit], [path], with_holes=True), [path], with_holes=True):
+            return
     for paths in [[path], []] if path else [[]]:
         said = prover.over_seed([edit], paths)
         if judge(edit, prover, said, paths):
@@ -91,11 +106,13 @@ def try_alone(edit, prover, whole=False):
         give(edit, UNSURE, f"its check ended with status {said.status}: {first_words(said.text)}")
 
 
-def judge(edit, prover, said, paths):
-    """Whether a check with this edit alone settles it."""
+def judge(edit, prover, said, paths, with_holes=False):
+    """Whether a check with this edit alone settles it. One with holes does only by an open goal of its function."""
     found, wrong = reports(said.text), errors(said.text)
+    if with_holes:
+        found = of_edit(edit, prover, found)
     unreadable = [it for it in wrong if it.of_front_end or it.is_unreadable()]
-    if said.status == 1 and unreadable:
+    if said.status == 1 and unreadable and not with_holes:
         give(edit, BAD, f"it doesn't reach the prover: {unreadable[0].text}")
         return True
     opened = [it for it in found if it.goals]
@@ -105,8 +122,8 @@ def judge(edit, prover, said, paths):
     if said.status != 1 or not wrong:
         return False
     if any(it.is_of_answer() for it in wrong):
-        return judge_without(edit, prover, wrong, paths)
-    return judge_errors(edit, wrong)
+        return judge_without(edit, prover, wrong, paths, with_holes)
+    return not with_holes and judge_errors(edit, wrong)
 
 
 def judge_errors(edit, wrong):
@@ -119,7 +136,7 @@ def judge_errors(edit, wrong):
     return True
 
 
-def judge_without(edit, prover, wrong, paths):
+def judge_without(edit, prover, wrong, paths, with_holes):
     """The verdict where answers written by hand don't fit any more: they are left out, so that the goals stand by themselves. One that
     is now proved, or trivial, refuses nothing."""
     left_out, false, others = set(), set(), []
@@ -128,10 +145,12 @@ def judge_without(edit, prover, wrong, paths):
         left_out |= {(it.file, it.answer) for it in answers}
         false |= {(it.file, it.answer) for it in answers if not it.names_what_is_gone()}
         others += [it for it in wrong if not it.is_of_answer()]
-        said = prover.over_seed([edit], paths, sorted(left_out))
+        said = prover.over_seed([edit], paths, sorted(left_out), with_holes)
         found, wrong = reports(said.text), errors(said.text)
         if not any(it.is_of_answer() for it in wrong):
             break
+    if with_holes:
+        found = of_edit(edit, prover, found)
     gone = []
     for it in found:
         folder = f"proofs/{it.path().replace('::', '/')}/Answers.antt"
@@ -144,6 +163,8 @@ def judge_without(edit, prover, wrong, paths):
         if misfit:
             give(edit, REFUSED, f"{told(it, misfit)} (its answer no longer fits)")
             return True
+    if with_holes:
+        return False
     if gone:
         give(edit, GONE, f"only an answer names what it took away, which says nothing of a contract: {gone[0]}")
         return True

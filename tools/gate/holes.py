@@ -1,0 +1,69 @@
+"""What a check with edits leaves out of a crate that is known to be proved.
+
+A function is proved by the contracts of those that it calls, whatever their bodies are and however these are proved. So in the copy
+that the check of some functions reads, each other function has a body that does nothing and a hole for its proof. Then no function that
+calls one reads as proved; but each goal of its own is judged as ever."""
+
+import os
+
+from .crates import text_of
+from .functions import functions, homes_of
+
+# What stands in the place of a body, and in that of a proof.
+BODY = b" loop {} "
+PROOF = """\
+use Rattle.{crate}.proofs.{module}.Statement.{{statement}}
+
+pub {name}_spec : {{M : Type 1}} → statement M
+{name}_spec = ?
+"""
+# What is written of a proof by hand: beside a hole nobody can use it.
+WRITTEN = ("Invariants", "Answers")
+
+
+class Holes:
+    """The functions of a crate, by what they are called as far as texts tell, and those that can be left out. If rattle calls one
+    otherwise, it isn't proved then, which says nothing of another function either."""
+
+    def __init__(self, kit, crate):
+        self.crate, self.left_out = crate, {}
+        paths = {os.path.relpath(it, crate.folder): it for it in crate.files(("src",)) if it.endswith(".rt")}
+        self.homes = homes_of({file: text_of(it) for file, it in paths.items()})
+        cited = "\n".join(text_of(it) for it in crate.files(("proofs",)))
+        for file in paths:
+            self.left_out[file] = [it for it in functions(kit, crate.folder, file) if self.can_be_left_out(it, cited)]
+
+    def can_be_left_out(self, function, cited):
+        # Others may rest on the body of a method of a trait's impl or of a const fn; and those of a cycle of calls have one proof.
+        return not function.is_read_by_others and not any(f"proofs.{self.module(function)}.{it}" in cited for it in WRITTEN)
+
+    def symbol(self, function):
+        return f"{self.crate.name}::{function.path(self.homes)}"
+
+    def module(self, function):
+        return function.path(self.homes).replace("::", ".")
+
+    def make(self, folder, edits):
+        """Leaves out all functions but those of the edits, in a copy of the crate as it stands. Each line keeps its number."""
+        kept = {self.symbol(it.function) for it in edits}
+        for file, found in self.left_out.items():
+            left_out = [it for it in found if self.symbol(it) not in kept]
+            self.empty(f"{folder}/{file}", left_out)
+            for it in left_out:
+                self.write_hole(folder, it)
+
+    @staticmethod
+    def empty(file, left_out):
+        with open(file, "rb") as it:
+            text = it.read()
+        for it in sorted(left_out, key=lambda it: it.opens, reverse=True):
+            lines = text[it.opens : it.ends].count(b"\n")
+            text = text[: it.opens] + BODY + b"\n" * lines + text[it.ends :]
+        with open(file, "wb") as it:
+            it.write(text)
+
+    def write_hole(self, folder, function):
+        at = f"{folder}/proofs/{self.module(function).replace('.', '/')}"
+        os.makedirs(at, exist_ok=True)
+        with open(f"{at}/Proof.antt", "w", encoding="utf-8") as it:
+            it.write(PROOF.format(crate=self.crate.name, module=self.module(function), name=function.name))
