@@ -28,7 +28,7 @@ class Costs:
         parts = [self.part(left, self.crates) * PROOFS, sum(edits.values()) * EDIT]
         minutes = (QUICK + sum(parts)) / jobs_for(BYTES_A_JOB) + PROGRAMS
         kept = f"of {len(self.crates)} crates {len(self.crates) - len(left)} have passed here as they are"
-        return f"the quick part is done, and then the whole gate: about {self.rounded(minutes)}, {self.on()}; {kept}"
+        return f"the quick part is done, and the whole gate: about {self.rounded(minutes)}, {self.on()}; {kept}"
 
     @staticmethod
     def part(some, every):
