@@ -156,7 +156,8 @@ def leave_out(file, answer):
     """Takes an answer out of a file of them: from its type to the next line that begins something else. A file with no answer goes."""
     kept, is_left_out = [], False
     for line in text_of(file).split("\n"):
-        if line[:1].strip():
+        # A bracket at its beginning ends what is above it.
+        if line[:1].strip(" }])"):
             words = line.removeprefix("abbrev ").removeprefix("pub ").split()
             is_left_out = words[:1] == [answer]
         if not is_left_out:
