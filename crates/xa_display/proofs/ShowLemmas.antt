@@ -6,7 +6,7 @@ use Rattle.xa_base.specs.declared.reply.Event.{Event}
 use Rattle.xa_base.specs.declared.state.Fate.{Fate}
 use Rattle.xa_chart.specs.Pictures.{IsPicture}
 use Rattle.xa_story.specs.Naming.{Naming, with_events}
-use Rattle.xa_story.specs.Stories.{IsSpelled, TellEvents}
+use Rattle.xa_story.specs.Stories.{IsSpelled, IsStory, TellEvents}
 use Rattle.xa_story.specs.declared.line.StoryLine.{StoryLine}
 
 -- what follows, where a function succeeded
@@ -25,6 +25,11 @@ pub spelled_as : {n m : Naming} {ls ks : List StoryLine} {fs gs : List (Xid × F
     → IsSpelled n ls fs text → IsSpelled m ks gs text
 spelled_as {m = m} {ls = ls} {ks = ks} {fs = fs} text names lines fates is =
     subst (λ x. IsSpelled m ks x text) fates (subst (λ x. IsSpelled m x fs text) lines (subst (λ x. IsSpelled x ls fs text) names is))
+
+pub story_as : {ns ms : List (List ℕ)} {es fs : List Event} {gs hs : List (Xid × Fate)} (text : List ℕ) → ns ≡ ms → es ≡ fs → gs ≡ hs
+    → IsStory ns es gs text → IsStory ms fs hs text
+story_as {ms = ms} {es = es} {fs = fs} {gs = gs} text names events fates is =
+    subst (λ x. IsStory ms fs x text) fates (subst (λ x. IsStory ms x gs text) events (subst (λ x. IsStory x es gs text) names is))
 
 pub writes_as : (old new : Option (List ℕ)) {a b : List ℕ} → a ≡ b → Appends old new a → Appends old new b
 writes_as old new same writes = subst (λ x. Appends old new x) same writes

@@ -1,15 +1,18 @@
 //! A scenario file is run, and its story is told.
 
-ghost use Rattle.std.specs.Prelude.{◌≡◌, ◌≢◌, Err, IfErr, IsErr, OnOk};
+ghost use Rattle.std.specs.Prelude.{◌≡◌, ◌≢◌, Err, IfErr, IfOk, IsErr, OnOk, map};
 ghost use Rattle.std.specs.Io.KnownBytes.{Keeps};
+ghost use Rattle.std.specs.String.{string_bytes};
 ghost use Rattle.xa_display.specs.Shows.{TellsRun};
 ghost use Rattle.xa_files.specs.Reading.{EndsWith, SaysOfReading};
 ghost use Rattle.xa_files.specs.declared.fault.RunFault.{RunFault};
 ghost use Rattle.xa_files.specs.declared.fault.RunFault.TheVariants.{Work};
 ghost use Rattle.xa_scenario_file.specs.Scenarios.{scenario_of};
+ghost use Rattle.xa_story.specs.Stories.{IsStory};
 
 use std::alloc::Global;
 use std::io::Write;
+use xa_base::{Event, Fate, Memory, Xid};
 use xa_files::{RunFault, write_text};
 use xa_log::DecisionLog;
 use xa_scenario::system_after;
@@ -42,8 +45,22 @@ pub fn explain_scenario<L: DecisionLog + Drop, W: Write>(
     let named = read_named_scenario(alloc, text)?;
     let system = system_after(alloc, &named.scenario, log)?;
     let fates = system.report(alloc)?;
-    let mut scene = Scene::new(alloc, &named.names);
-    let lines = lines_of(alloc, &mut scene, system.trace())?;
-    let story = story_text(alloc, &lines, &scene, &fates)?;
+    let story = story_of(alloc, &named.names, system.trace(), &fates)?;
     write_text(story.as_bytes(), out)
+}
+
+/// The story of some events, and of what became of the branches.
+fn story_of(
+    alloc: Global,
+    names: &[String],
+    events: &[Event],
+    fates: &[(Xid, Fate)],
+) -> Result<String, Memory>
+    ensures { IfOk result (λ story. IsStory (map string_bytes names.now) events.now fates.now
+        (string_bytes story)) }
+{
+    let mut scene = Scene::new(alloc, names);
+    let lines = lines_of(alloc, &mut scene, events)?;
+    let story = story_text(alloc, &lines, &scene, fates)?;
+    Ok(story)
 }

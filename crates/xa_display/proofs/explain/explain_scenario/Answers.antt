@@ -1,7 +1,6 @@
-use Rattle.std.proofs.Common.{◌∙◌, ap, map, string_bytes}
+use Rattle.std.proofs.Common.{ap, map, string_bytes}
 use Rattle.std.proofs.lemmas.Result.{err_from_is_err_and}
-use Rattle.xa_display.proofs.ShowLemmas.{names_as, on_ok, spelled_as, told_as, writes_as}
-use Rattle.xa_story.specs.Naming.{unbegun}
+use Rattle.xa_display.proofs.ShowLemmas.{on_ok, story_as, writes_as}
 use Rattle.xa_scenario_file.specs.Scenarios.{plan_of, scenario_of}
 use Rattle.xa_files.proofs.ReadingLemmas.{ends_with}
 use Rattle.xa_scenario.proofs.RunLemmas.{explains, not_of_work}
@@ -24,7 +23,6 @@ returns-in_err-named-clause-refused g c =
 
 pub returns-clause-ok : goal.returns-clause-ok
 returns-clause-ok g c =
-    let names = c.new-scene.ensures ∙ ap (λ ns. unbegun (map string_bytes ns)) c.deref.ensures.value in
     on_ok c.write_text.result c.write_text.ensures.whole (λ whole. record {
       plan = plan_of c.in_ok-named.named.scenario;
       origin = _;
@@ -35,11 +33,7 @@ returns-clause-ok g c =
       run = record { reads = c.in_ok-named.ensures.read; over = c.in_ok-system.ensures.over; run = c.in_ok-system.ensures.run };
       named = c.in_ok-named.ensures.names;
       report = record { in_order = c.in_ok-fates.ensures.in_order; listed = c.in_ok-fates.ensures.listed };
-      told = record {
-        lines = c.in_ok-lines.lines.items;
-        told = told_as c.in_ok-lines.lines.items names c.trace.ensures c.in_ok-lines.ensures.told;
-        spelled = spelled_as (string_bytes c.in_ok-story.story) (names_as c.in_ok-lines.ensures.names names c.trace.ensures)
-            c.deref-2.ensures.value c.deref-3.ensures.value c.in_ok-story.ensures;
-      };
+      told = story_as (string_bytes c.in_ok-story.story) (ap (λ ns. map string_bytes ns) c.deref.ensures.value) c.trace.ensures
+          c.deref-2.ensures.value c.in_ok-story.ensures;
       writes = writes_as _ _ c.as_bytes.ensures.value whole;
     })
