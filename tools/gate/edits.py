@@ -15,7 +15,7 @@ class Edit:
     def __init__(self, path):
         self.name = os.path.basename(path).removesuffix(".edit")
         self.text, self.lines, self.function, self.bad = text_of(path), {}, None, None
-        self.kind, self.why, self.seems_proved = None, "", False
+        self.kind, self.why, self.seems_proved, self.was_over_holes = None, "", False, False
 
     def read(self, kit, crate, found):
         """Finds which lines it changes, and the one function in whose body they are, if there is one. found keeps the functions of

@@ -5,6 +5,8 @@ import os
 import re
 import subprocess
 
+from .crates import text_of
+
 DECLARED = re.compile(r"(?m)^\s*(?:pub(?:\(.*?\))? )?(?:struct|enum) (\w+)")
 PAIRS = {"(": ")", "[": "]", "{": "}"}
 
@@ -61,6 +63,24 @@ class Function:
             path = "::".join([*self.modules, ""])
             found = [it for it in found if it.partition("::")[2].startswith(path)]
         return found[0] if len(found) == 1 else None
+
+
+class Names:
+    """The functions of a crate, by file, and what rattle calls them as far as texts tell. If it calls one otherwise, an edit of that one
+    is tried alone."""
+
+    def __init__(self, kit, crate):
+        self.crate = crate.name
+        paths = {os.path.relpath(it, crate.folder): it for it in crate.files(("src",)) if it.endswith(".rt")}
+        self.homes = homes_of({file: text_of(it) for file, it in paths.items()})
+        self.functions = {file: functions(kit, crate.folder, file) for file in paths}
+
+    def symbol(self, function):
+        return f"{self.crate}::{function.path(self.homes)}"
+
+    def module(self, function):
+        """The module of its proof, below the crate's proofs."""
+        return function.path(self.homes).replace("::", ".")
 
 
 def modules_of(file):

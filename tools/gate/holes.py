@@ -7,7 +7,6 @@ calls one reads as proved; but each goal of its own is judged as ever."""
 import os
 
 from .crates import text_of
-from .functions import functions, homes_of
 
 # What stands in the place of a body, and in that of a proof.
 BODY = b" loop {} "
@@ -22,32 +21,24 @@ WRITTEN = ("Invariants", "Answers")
 
 
 class Holes:
-    """The functions of a crate, by what they are called as far as texts tell, and those that can be left out. If rattle calls one
-    otherwise, it isn't proved then, which says nothing of another function either."""
+    """The functions of a crate that can be left out, by file."""
 
-    def __init__(self, kit, crate):
-        self.crate, self.left_out = crate, {}
-        paths = {os.path.relpath(it, crate.folder): it for it in crate.files(("src",)) if it.endswith(".rt")}
-        self.homes = homes_of({file: text_of(it) for file, it in paths.items()})
+    def __init__(self, crate, names):
+        self.crate, self.names = crate.name, names
         cited = "\n".join(text_of(it) for it in crate.files(("proofs",)))
-        for file in paths:
-            self.left_out[file] = [it for it in functions(kit, crate.folder, file) if self.can_be_left_out(it, cited)]
+        self.left_out = {}
+        for file, found in names.functions.items():
+            self.left_out[file] = [it for it in found if self.can_be_left_out(it, cited)]
 
     def can_be_left_out(self, function, cited):
-        # Others may rest on the body of a method of a trait's impl or of a const fn; and those of a cycle of calls have one proof.
-        return not function.is_read_by_others and not any(f"proofs.{self.module(function)}.{it}" in cited for it in WRITTEN)
-
-    def symbol(self, function):
-        return f"{self.crate.name}::{function.path(self.homes)}"
-
-    def module(self, function):
-        return function.path(self.homes).replace("::", ".")
+        module = self.names.module(function)
+        return not function.is_read_by_others and not any(f"proofs.{module}.{it}" in cited for it in WRITTEN)
 
     def make(self, folder, edits):
         """Leaves out all functions but those of the edits, in a copy of the crate as it stands. Each line keeps its number."""
-        kept = {self.symbol(it.function) for it in edits}
+        kept = {it.function.key() for it in edits}
         for file, found in self.left_out.items():
-            left_out = [it for it in found if self.symbol(it) not in kept]
+            left_out = [it for it in found if it.key() not in kept]
             self.empty(f"{folder}/{file}", left_out)
             for it in left_out:
                 self.write_hole(folder, it)
@@ -63,7 +54,8 @@ class Holes:
             it.write(text)
 
     def write_hole(self, folder, function):
-        at = f"{folder}/proofs/{self.module(function).replace('.', '/')}"
+        module = self.names.module(function)
+        at = f"{folder}/proofs/{module.replace('.', '/')}"
         os.makedirs(at, exist_ok=True)
         with open(f"{at}/Proof.antt", "w", encoding="utf-8") as it:
-            it.write(PROOF.format(crate=self.crate.name, module=self.module(function), name=function.name))
+            it.write(PROOF.format(crate=self.crate, module=module, name=function.name))

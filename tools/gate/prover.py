@@ -10,6 +10,7 @@ import tempfile
 import threading
 
 from .crates import PARTS, text_of
+from .functions import Names
 from .holes import Holes
 from .reports import reports
 
@@ -74,7 +75,8 @@ class Prover:
     def __init__(self, kit, crate, room, is_known):
         self.kit, self.crate, self.room, self.work, self.is_known = kit, crate, room, room.new(crate.name), is_known
         self.seed, self.files, self.symbols = f"{self.work}/seed", {}, []
-        self.names = self.holes = Holes(kit, crate) if is_known else None
+        self.names = Names(kit, crate) if is_known else None
+        self.holes, self.has_holes = Holes(crate, self.names) if is_known else None, is_known
         self.seconds, self.bytes, self.checks = 0.0, 0, 0
 
     def prove(self, edits, whole):

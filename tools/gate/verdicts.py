@@ -10,6 +10,35 @@ GONE, UNSURE = "NOT SHOWN", "NOT TRIED"
 TIMES = 4
 
 
+class Trial:
+    """A check with some edits made, of what each of them names (paths; None is the whole crate). Made again, it reads none of the answers
+    written by hand that didn't fit, so that their goals stand by themselves."""
+
+    def __init__(self, prover, paths, with_holes=False):
+        self.prover, self.paths, self.with_holes = prover, paths, with_holes
+        # Answers, each with its file, and those of them that are false; errors of anything else.
+        self.left_out, self.false, self.others = set(), set(), []
+        self.check()
+
+    def check(self):
+        paths = [it for it in self.paths.values() if it]
+        self.said = self.prover.over_seed(list(self.paths), paths, sorted(self.left_out), self.with_holes)
+        self.found, wrong = reports(self.said.text), errors(self.said.text)
+        self.misfits = [it for it in wrong if it.is_of_answer()]
+        self.others += [it for it in wrong if not it.is_of_answer()]
+
+    def again(self, edits):
+        """Makes it again with these of its edits."""
+        self.left_out |= {(it.file, it.answer) for it in self.misfits}
+        self.false |= {(it.file, it.answer) for it in self.misfits if not it.names_what_is_gone()}
+        self.paths = {it: self.paths[it] for it in edits}
+        self.check()
+
+    def is_unread(self):
+        """Whether it didn't get to the prover."""
+        return not self.found and not self.misfits
+
+
 def told(report, goals):
     return f"{report.path()}: {', '.join(it.name for it in goals)}"
 
@@ -18,20 +47,36 @@ def give(edit, kind, why):
     edit.kind, edit.why = kind, why[:400]
 
 
+def answers_of(symbol):
+    """The file of the answers written by hand for a function of this whole name."""
+    return f"proofs/{symbol.partition('::')[2].replace('::', '/')}/Answers.antt"
+
+
 def own_goals(edit, symbol, found):
-    """The open goals of the edit's own function, in words; the empty text if there are none. A goal is its function's by the place of
-    what it is about, or by the function's line."""
+    """The open goals of the edit's own function, by report. A goal is its function's by the place of what it is about, or by the
+    function's line."""
+    own = []
     for it in found:
         function = edit.function
         here = [goal for goal in it.noted if goal.file == function.file and goal.line in function.lines]
         if here or it.name == symbol and it.named:
-            return told(it, here or it.named)
-    return ""
+            own.append((it, here or it.named))
+    return own
 
 
-def of_edit(edit, prover, found):
-    """The reports that have an open goal of the edit's own function."""
-    return [it for it in found if own_goals(edit, prover.symbol(edit), [it])]
+def is_refused(edit, opened, trial):
+    """Whether one of these open goals refuses the edit. One whose answer names what is gone does not."""
+    for report, goals in opened:
+        file = answers_of(report.name)
+        new = [it for it in goals if (file, it.name) not in trial.left_out]
+        false = [it for it in goals if (file, it.name) in trial.false]
+        if new:
+            give(edit, REFUSED, told(report, new))
+        elif false:
+            give(edit, REFUSED, f"{told(report, false)} (its answer no longer fits)")
+        if new or false:
+            return True
+    return False
 
 
 def try_all(edits, prover, whole):
@@ -48,37 +93,49 @@ def try_all(edits, prover, whole):
 
 def try_together(edits, prover):
     """Tries edits of different functions in one check of these, and returns those that are to be tried alone."""
-    asked = {it: prover.symbol(it) for it in edits}
-    unknown = [it for it in edits if asked[it] is None]
-    edits = [it for it in edits if asked[it]]
+    symbols = {it: prover.symbol(it) for it in edits}
+    unknown = [it for it in edits if symbols[it] is None]
+    edits = [it for it in edits if symbols[it]]
     if not edits:
         return unknown
-    symbols = {asked[it] for it in edits}
-    said = prover.over_seed(edits, symbols, with_holes=prover.holes is not None)
-    found = reports(said.text)
-    if not found and prover.holes:
+    trial = Trial(prover, {it: symbols[it] for it in edits}, prover.has_holes)
+    if trial.is_unread() and prover.has_holes:
         # It may be for what is left out that the crate doesn't compile.
-        prover.holes = None
-        said = prover.over_seed(edits, symbols)
-        found = reports(said.text)
-    if not found and len(edits) > 1:
-        return [*unknown, *try_parts(edits, prover, said)]
-    rest = []
-    for it in edits:
-        goals = own_goals(it, asked[it], found)
-        if goals:
-            give(it, REFUSED, goals)
-            continue
-        own = [one for one in found if one.name == asked[it]]
-        # What a function's line says so is true whatever the bodies of the others are.
-        it.seems_proved = bool(own) and (own[0].is_proved or own[0].is_held_up)
-        rest.append(it)
-    return [*unknown, *rest]
+        trial = Trial(prover, trial.paths)
+        prover.has_holes = trial.is_unread()
+    if trial.is_unread() and len(edits) > 1:
+        return [*unknown, *try_parts(edits, prover, trial)]
+    return [*unknown, *judge_together(trial, symbols)]
 
 
-def try_parts(edits, prover, said):
+def judge_together(trial, symbols):
+    """Judges edits by the open goals of their own functions, each once all answers of its function fit or are left out, and returns
+    those that none refuses."""
+    left = []
+    for times in range(TIMES + 1):
+        misfits = {it.file for it in trial.misfits} if times < TIMES else ()
+        waiting = [it for it in trial.paths if answers_of(symbols[it]) in misfits]
+        for it in trial.paths:
+            if it not in waiting and not is_refused(it, own_goals(it, symbols[it], trial.found), trial):
+                note(it, symbols[it], trial)
+                left.append(it)
+        if not waiting:
+            break
+        trial.again(waiting)
+    return left
+
+
+def note(edit, symbol, trial):
+    """Notes what a check of several says of an edit that is to be tried alone."""
+    own = [it for it in trial.found if it.name == symbol]
+    # What a function's line says so is true whatever the bodies of the others are.
+    edit.seems_proved = bool(own) and (own[0].is_proved or own[0].is_held_up)
+    edit.was_over_holes = trial.with_holes
+
+
+def try_parts(edits, prover, trial):
     """The same where a check of all didn't get to the prover: those that an error points at are taken out, or else halves are tried."""
-    places = [(it.file, it.line) for it in errors(said.text)]
+    places = [(it.file, it.line) for it in trial.others]
     wrong = [it for it in edits if any(file == it.function.file and line in it.function.lines for file, line in places)]
     if wrong and len(wrong) < len(edits):
         return [*wrong, *try_together([it for it in edits if it not in wrong], prover)]
@@ -91,39 +148,41 @@ def try_alone(edit, prover, whole=False):
     """Tries an edit alone: by a check of what it changes, with holes and without, and, if that doesn't refuse it, by one of the whole
     crate."""
     path = None if whole or edit.seems_proved else edit.path()
-    if path and edit.function and prover.holes:
-        if judge(edit, prover, prover.over_seed([edit], [path], with_holes=True), [path], with_holes=True):
+    if path and edit.function and prover.has_holes and not edit.was_over_holes:
+        if not judge_together(Trial(prover, {edit: path}, True), {edit: prover.symbol(edit)}):
             return
-    for paths in [[path], []] if path else [[]]:
-        said = prover.over_seed([edit], paths)
-        if judge(edit, prover, said, paths):
+    for it in [path, None] if path else [None]:
+        trial = Trial(prover, {edit: it})
+        if judge(edit, trial):
             return
+    said = trial.said
     if said.status == 0:
-        give(edit, THROUGH, "the crate is still proved with it")
+        give(edit, THROUGH, "the crate is still proved with it" + ", without the answers that no longer fit" * bool(trial.left_out))
     elif said.status == 3 and LIMIT.search(said.text):
         give(edit, REFUSED, f"only by a limit of the prover, which says less of a contract: {LIMIT.search(said.text)[0]}")
     else:
         give(edit, UNSURE, f"its check ended with status {said.status}: {first_words(said.text)}")
 
 
-def judge(edit, prover, said, paths, with_holes=False):
-    """Whether a check with this edit alone settles it. One with holes does only by an open goal of its function."""
-    found, wrong = reports(said.text), errors(said.text)
-    if with_holes:
-        found = of_edit(edit, prover, found)
-    unreadable = [it for it in wrong if it.of_front_end or it.is_unreadable()]
-    if said.status == 1 and unreadable and not with_holes:
+def judge(edit, trial):
+    """Whether a check with this edit alone settles it: the crate is proved without it, so any open goal is for its sake."""
+    unreadable = [it for it in trial.others if it.of_front_end or it.is_unreadable()]
+    if trial.said.status == 1 and unreadable:
         give(edit, BAD, f"it doesn't reach the prover: {unreadable[0].text}")
         return True
-    opened = [it for it in found if it.goals]
-    if said.status == 1 and opened:
-        give(edit, REFUSED, told(opened[0], opened[0].goals))
-        return True
-    if said.status != 1 or not wrong:
+    for _ in range(TIMES):
+        if not trial.misfits:
+            break
+        trial.again([edit])
+    opened = [(it, it.goals) for it in trial.found if it.goals]
+    if trial.said.status != 1:
         return False
-    if any(it.is_of_answer() for it in wrong):
-        return judge_without(edit, prover, wrong, paths, with_holes)
-    return not with_holes and judge_errors(edit, wrong)
+    if is_refused(edit, opened, trial):
+        return True
+    if opened:
+        give(edit, GONE, f"only an answer names what it took away, which says nothing of a contract: {told(*opened[0])}")
+        return True
+    return judge_errors(edit, [*trial.others, *trial.misfits])
 
 
 def judge_errors(edit, wrong):
@@ -131,50 +190,6 @@ def judge_errors(edit, wrong):
     false = [it for it in wrong if not it.names_what_is_gone()]
     if false:
         give(edit, REFUSED, f"a proof no longer fits: {false[0].text}")
-    else:
+    elif wrong:
         give(edit, GONE, f"only a proof names what it took away, which says nothing of a contract: {wrong[0].text}")
-    return True
-
-
-def judge_without(edit, prover, wrong, paths, with_holes):
-    """The verdict where answers written by hand don't fit any more: they are left out, so that the goals stand by themselves. One that
-    is now proved, or trivial, refuses nothing."""
-    left_out, false, others = set(), set(), []
-    for _ in range(TIMES):
-        answers = [it for it in wrong if it.is_of_answer()]
-        left_out |= {(it.file, it.answer) for it in answers}
-        false |= {(it.file, it.answer) for it in answers if not it.names_what_is_gone()}
-        others += [it for it in wrong if not it.is_of_answer()]
-        said = prover.over_seed([edit], paths, sorted(left_out), with_holes)
-        found, wrong = reports(said.text), errors(said.text)
-        if not any(it.is_of_answer() for it in wrong):
-            break
-    if with_holes:
-        found = of_edit(edit, prover, found)
-    gone = []
-    for it in found:
-        folder = f"proofs/{it.path().replace('::', '/')}/Answers.antt"
-        new = [goal for goal in it.goals if (folder, goal.name) not in left_out]
-        misfit = [goal for goal in it.goals if (folder, goal.name) in false]
-        gone += [told(it, [goal]) for goal in it.goals if goal not in [*new, *misfit]]
-        if new:
-            give(edit, REFUSED, told(it, new))
-            return True
-        if misfit:
-            give(edit, REFUSED, f"{told(it, misfit)} (its answer no longer fits)")
-            return True
-    if with_holes:
-        return False
-    if gone:
-        give(edit, GONE, f"only an answer names what it took away, which says nothing of a contract: {gone[0]}")
-        return True
-    if wrong or others:
-        return judge_errors(edit, [*others, *wrong])
-    return paths == [] and judge_proved(edit, said)
-
-
-def judge_proved(edit, said):
-    if said.status:
-        return False
-    give(edit, THROUGH, "the crate is still proved with it, without the answers that no longer fit")
-    return True
+    return bool(wrong)
