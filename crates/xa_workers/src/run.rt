@@ -21,7 +21,7 @@ use crate::serve::Served;
 use crate::signals::Signals;
 use crate::start::{Hands, Joined, Team, start_all, to_serve};
 use crate::verify::{Work, verified_outcomes};
-use crate::{Board, Gate, Jobs, Outcomes, WorkFault};
+use crate::{Board, BoardSeat, Gate, Jobs, Outcomes, WorkFault};
 use std::alloc::Global;
 use std::marker::{Brand, PhantomData};
 use std::sync::{Mutex, Wait};
@@ -143,6 +143,48 @@ fn run_all<
     )
 }
 
+/// Runs the jobs of a crew over a log that has begun, and over the two ends of each line: deals the ends to the workers,
+/// runs all of them, and looks at what they left.
+fn run_dealt<
+    J: Run + Send + Sync,
+    R: Threads + Wait + Clock + Sync,
+    L: DecisionLog + Drop,
+    G: Gate + Sync,
+>(
+    rt: &R,
+    alloc: Global,
+    crew: &Crew<'_, J, G>,
+    seat: BoardSeat,
+    begun: Begun<L>,
+    issuers: Vec<Issuer>,
+    takers: Vec<Taker>,
+) -> Result<Outcomes<L>, WorkFault>
+    requires seat { seat.board ≡ crew.now.board.now.table }
+    requires some_rms { 0 < crew.now.jobs.now.rms }
+    requires takers { takers.items ≡ J.takers }
+    requires paired { ArePaired issuers.items J.takers }
+    requires begun { Logs L.DecisionLog crew.now.incarnation no_rows begun.first.value begun.log }
+    ensures ends { IfOk result (λ o. AreEndsOf crew.now.jobs.now o.ends.items) }
+    ensures fates { IfOk result (λ o. o.fates.items
+        ≡ fates_of crew.now.jobs.now crew.now.incarnation o.ends.items) }
+    ensures rms { IfOk result (λ o. HaveFates crew.now.jobs.now crew.now.incarnation
+        o.rms.items o.fates.items) }
+    ensures lines { IfOk result (λ o. AreLinesOf crew.now.jobs.now o.lines.items) }
+    ensures rows { IfOk result (λ o. Logs L.DecisionLog crew.now.incarnation
+        (rows_of_jobs crew.now.jobs.now crew.now.incarnation o.ends.items)
+        begun.first.value o.log) }
+{
+    let (jobs, incarnation) = (crew.jobs, crew.incarnation);
+    let hands = Hands::<J> {
+        threads: by_thread(alloc, jobs, issuers)?,
+        seat,
+    };
+    let served = to_serve(alloc, jobs, incarnation, by_rm(alloc, jobs, takers)?)?;
+    let run_rows = RunRows::new(alloc, jobs, incarnation, begun.first, begun.log)?;
+    let work = run_all(rt, alloc, crew, &served, hands, run_rows)?;
+    verified_outcomes(alloc, jobs, incarnation, work, served)
+}
+
 /// Runs the jobs over a log that has begun, and over the two ends of each line.
 fn run_named<
     J: Run + Send + Sync,
@@ -179,31 +221,19 @@ fn run_named<
     ensures rows { IfOk result (λ o. Logs L.DecisionLog begun.incarnation
         (rows_of_jobs jobs.now begun.incarnation o.ends.items) begun.first.value o.log) }
 {
-    let Begun {
-        incarnation,
-        first,
-        log,
-    } = begun;
     let signals = Signals::new(rt, alloc, jobs)?;
     let docket = Docket::new(alloc, jobs.threads)?;
     let (board, seat) = Board::new(alloc, jobs.votes.len())?;
     let crew = Crew::<J, G> {
         jobs,
-        incarnation,
+        incarnation: begun.incarnation,
         gate,
         signals: &signals,
         board: &board,
         docket: &docket,
         run: PhantomData,
     };
-    let hands = Hands::<J> {
-        threads: by_thread(alloc, jobs, issuers)?,
-        seat,
-    };
-    let served = to_serve(alloc, jobs, incarnation, by_rm(alloc, jobs, takers)?)?;
-    let run_rows = RunRows::new(alloc, jobs, incarnation, first, log)?;
-    let work = run_all(rt, alloc, &crew, &served, hands, run_rows)?;
-    verified_outcomes(alloc, jobs, incarnation, work, served)
+    run_dealt(rt, alloc, &crew, seat, begun, issuers, takers)
 }
 
 /// Runs the jobs by two-phase commit with presumed rollback (XA, section 2.3): one worker for each thread of control, one

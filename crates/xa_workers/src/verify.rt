@@ -162,6 +162,53 @@ fn are_all_lines(jobs: &Jobs, lines: &[Line]) -> bool
     lines.len() as u64 == u64::from(jobs.threads) * u64::from(jobs.rms)
 }
 
+/// How the jobs ended, where they may end so.
+fn ends_left<J: Run>(
+    alloc: Global,
+    jobs: &Jobs,
+    controlled: &[Controlled<J>],
+) -> Result<Vec<Outcome>, WorkFault>
+    requires { 0 < jobs.now.threads }
+    ensures { IfOk result (λ ends. AreEndsOf jobs.now ends.items) }
+{
+    let ends = gathered_ends(alloc, jobs, controlled)?;
+    let planned = jobs.planned_ends(alloc)?;
+    if may_all_end(jobs.sweep, &planned, &ends) {
+        Ok(ends)
+    } else {
+        Err(WorkFault::Mixed)
+    }
+}
+
+/// The resource managers that were served, and the lines, whose ends have met again.
+#[derive(Drop)]
+struct Reunited {
+    rms: Vec<MemRm>,
+    lines: Vec<Line>,
+}
+
+/// Takes the resource managers out of their locks, and has the ends of all lines meet again.
+fn all_reunited<J: Run>(
+    alloc: Global,
+    jobs: &Jobs,
+    controlled: Vec<Controlled<J>>,
+    served: Vec<Mutex<Served<J>>>,
+) -> Result<Reunited, WorkFault>
+    ensures rms { IfOk result (λ left. (r : ℕ) (rm : _) → slice_get left.rms.items r ≡ Some rm
+        → HasOnly (J.is_own r) rm) }
+    ensures lines { IfOk result (λ left. AreLinesOf jobs.now left.lines.items) }
+{
+    let issuers = taken_ends(alloc, controlled)?;
+    let mut takers = Vec::new(alloc);
+    let rms = taken_rms(alloc, served, &mut takers)?;
+    let lines = all_met(alloc, issuers, &mut takers)?;
+    if are_all_lines(jobs, &lines) {
+        Ok(Reunited { rms, lines })
+    } else {
+        Err(WorkFault::Mixed)
+    }
+}
+
 /// What the jobs came to, where all that the workers left, and the resource managers that were served, agree with it.
 pub(crate) fn verified_outcomes<J: Run, L: DecisionLog + Drop>(
     alloc: Global,
@@ -185,26 +232,16 @@ pub(crate) fn verified_outcomes<J: Run, L: DecisionLog + Drop>(
         controlled,
         run_rows,
     } = work;
-    let ends = gathered_ends(alloc, jobs, &controlled)?;
-    let planned = jobs.planned_ends(alloc)?;
+    let ends = ends_left(alloc, jobs, &controlled)?;
     let fates = jobs.fates(alloc, incarnation, &ends)?;
-    let issuers = taken_ends(alloc, controlled)?;
-    let mut takers = Vec::new(alloc);
-    let rms = taken_rms(alloc, served, &mut takers)?;
-    let lines = all_met(alloc, issuers, &mut takers)?;
-    if !are_all_lines(jobs, &lines) {
-        return Err(WorkFault::Mixed);
-    }
+    let left = all_reunited(alloc, jobs, controlled, served)?;
     let RunRows { log, written, .. } = run_rows;
-    if may_all_end(jobs.sweep, &planned, &ends)
-        && have_rows(jobs, &ends, &written)
-        && rms_agree(jobs, &rms, &fates)
-    {
+    if have_rows(jobs, &ends, &written) && rms_agree(jobs, &left.rms, &fates) {
         Ok(Outcomes {
             ends,
             fates,
-            rms,
-            lines,
+            rms: left.rms,
+            lines: left.lines,
             log,
         })
     } else {
