@@ -176,6 +176,26 @@ fn play_process<R: ResourceManager + Drop, L: DecisionLog + Drop>(
     Ok(())
 }
 
+/// Plays a scenario at a system that has just started, and gives the text of the trace, as `trace_text` does.
+fn text_of_play<R: ResourceManager + Drop, L: DecisionLog + Drop>(
+    alloc: Global,
+    system: &mut System<R, L>,
+    gtrids: &mut Vec<Gtrid>,
+    scenario: &Scenario,
+    number: Option<usize>,
+    with_trace: bool,
+) -> Result<String, RunFault>
+    ensures played { OnOk result (HasPlayed (observes R.look L.moment) (plan_of scenario.now)
+        gtrids.old.items gtrids.new.items system.old system.new) }
+    ensures text { IfOk result (λ text. string_bytes text
+        ≡ shown with_trace (heading number ++ trace_lines 1 system.new.events)) }
+    ensures fault { IfErr result (λ e. e ≡ Memory) }
+{
+    play_process(system, gtrids, scenario)?;
+    let text = trace_text(alloc, number, with_trace, system.trace())?;
+    Ok(text)
+}
+
 /// The first process.
 pub fn first_process<R: ResourceManager + Drop, L: DecisionLog + Drop>(
     alloc: Global,
@@ -195,11 +215,10 @@ pub fn first_process<R: ResourceManager + Drop, L: DecisionLog + Drop>(
     ensures log { result ≡ Err Log → IsToBlame L.DecisionLog log }
     ensures fault { IfErr result IsStartFault }
 {
-    let mut gtrids = Vec::new(alloc);
-    let names = Vec::new(alloc);
     let mut system = system_of(alloc, scenario, rms, log)?;
-    play_process(&mut system, &mut gtrids, scenario)?;
-    let text = trace_text(alloc, None, with_trace, system.trace())?;
+    let mut gtrids = Vec::new(alloc);
+    let text = text_of_play(alloc, &mut system, &mut gtrids, scenario, None, with_trace)?;
+    let names = Vec::new(alloc);
     Ok(Process {
         system,
         gtrids,
@@ -233,14 +252,32 @@ fn next_process<R: ResourceManager + Drop, L: DecisionLog + Drop>(
     add_started(alloc, &before.system, &mut names)?;
     before.system.agree();
     let mut system = next_system(alloc, scenario.threads, before.system)?;
-    play_process(&mut system, &mut gtrids, scenario)?;
-    let text = trace_text(alloc, Some(number), with_trace, system.trace())?;
+    let number = Some(number);
+    let text = text_of_play(alloc, &mut system, &mut gtrids, scenario, number, with_trace)?;
     Ok(Process {
         system,
         gtrids,
         names,
         text,
     })
+}
+
+/// Adds what became of these branches of earlier processes, and then the report of a system.
+fn add_fates<R: ResourceManager + Drop, L: DecisionLog + Drop>(
+    alloc: Global,
+    system: &System<R, L>,
+    names: Vec<Xid>,
+    text: &mut String,
+) -> Result<(), RunFault>
+    ensures text { OnOk result (AddsFates (origin_in R.look system.now) system.now.events
+        names.items (string_bytes text.old) (string_bytes text.new)) }
+    ensures fault { IfErr result (λ e. e ≡ Memory) }
+{
+    let earlier = fates_of(alloc, system, names)?;
+    push_fates(text, alloc, &earlier)?;
+    let own = system.report(alloc)?;
+    push_fates(text, alloc, &own)?;
+    Ok(())
 }
 
 /// The text of the trace of the last process, with what became of the branches of all, and the log that it leaves.
@@ -256,10 +293,7 @@ fn last_text<R: ResourceManager + Drop, L: DecisionLog + Drop>(
     let mut text = last.text;
     let names = last.names;
     let system = last.system;
-    let earlier = fates_of(alloc, &system, names)?;
-    push_fates(&mut text, alloc, &earlier)?;
-    let own = system.report(alloc)?;
-    push_fates(&mut text, alloc, &own)?;
+    add_fates(alloc, &system, names, &mut text)?;
     let Ok(remains) = system.into_parts() else {
         return Err(RunFault::Memory);
     };

@@ -21,6 +21,14 @@ fn answer_text(alloc: Global, answer: &Answer) -> Result<String, RunFault>
     Ok(text)
 }
 
+/// A text of one word.
+fn word_text(alloc: Global, word: &str) -> Result<String, RunFault>
+    ensures text { IfOk result (λ text. string_bytes text ≡ word.now) }
+    ensures fault { IfErr result (λ e. e ≡ Memory) }
+{
+    Ok(String::from_str(alloc, word)?)
+}
+
 /// A reply in words.
 fn reply_text(alloc: Global, reply: &Reply) -> Result<String, RunFault>
     ensures text { IfOk result (λ text. string_bytes text ≡ reply_text reply.now) }
@@ -28,7 +36,7 @@ fn reply_text(alloc: Global, reply: &Reply) -> Result<String, RunFault>
 {
     match reply {
         Reply::Begun(gtrid) => Ok(begun_text(alloc, *gtrid)?),
-        Reply::Issued => Ok(String::from_str(alloc, "issued")?),
+        Reply::Issued => word_text(alloc, "issued"),
         Reply::Took(call, answer) => {
             let answer = answer_text(alloc, answer)?;
             Ok(format!(in alloc; "took {} {answer}", call.kind().name())?)
@@ -37,13 +45,13 @@ fn reply_text(alloc: Global, reply: &Reply) -> Result<String, RunFault>
             let answer = answer_text(alloc, answer)?;
             Ok(format!(in alloc; "heard {} {answer}", call.kind().name())?)
         }
-        Reply::Nothing => Ok(String::from_str(alloc, "nothing")?),
-        Reply::Noted => Ok(String::from_str(alloc, "noted")?),
-        Reply::Claimed => Ok(String::from_str(alloc, "claimed")?),
-        Reply::Decided => Ok(String::from_str(alloc, "decided")?),
+        Reply::Nothing => word_text(alloc, "nothing"),
+        Reply::Noted => word_text(alloc, "noted"),
+        Reply::Claimed => word_text(alloc, "claimed"),
+        Reply::Decided => word_text(alloc, "decided"),
         Reply::Resolved(calls) => Ok(format!(in alloc; "resolved {calls}")?),
-        Reply::Crashed => Ok(String::from_str(alloc, "crashed")?),
-        Reply::RmRestarted => Ok(String::from_str(alloc, "restarted")?),
+        Reply::Crashed => word_text(alloc, "crashed"),
+        Reply::RmRestarted => word_text(alloc, "restarted"),
         Reply::Restarted {
             incarnation,
             decisions,

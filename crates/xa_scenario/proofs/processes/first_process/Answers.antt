@@ -13,10 +13,10 @@ returns-clause-last g c =
     let begun = c.in_ok-system.system in
     first_stands look g.L.DecisionLog.moment c.args.log plan begun _ c.in_ok-system.ensures.over c.new-names.ensures.items
     c.in_ok-system.ensures.empty c.in_ok-system.ensures.start c.in_ok-system.ensures.right
-    (subst (λ gs. HasPlayed see plan gs c.play_process.new.gtrids.items begun c.play_process.new.system) c.new-gtrids.ensures.items
-    c.in_ok-play_process.ensures.played)
+    (subst (λ gs. HasPlayed see plan gs c.text_of_play.new.gtrids.items begun c.text_of_play.new.system) c.new-gtrids.ensures.items
+    c.in_ok-text.ensures.played)
 
 pub returns-clause-count : goal.returns-clause-count
 returns-clause-count g c =
-    still_counted g.R.ResourceManager.look g.L.DecisionLog.moment (plan_of c.args.scenario.now) _ _ c.in_ok-system.system c.play_process.new.system
-    c.args.scenario.now.rms c.in_ok-play_process.ensures.played c.in_ok-system.ensures.start.rms
+    still_counted g.R.ResourceManager.look g.L.DecisionLog.moment (plan_of c.args.scenario.now) _ _ c.in_ok-system.system c.text_of_play.new.system
+    c.args.scenario.now.rms c.in_ok-text.ensures.played c.in_ok-system.ensures.start.rms
