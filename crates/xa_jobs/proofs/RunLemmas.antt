@@ -10,7 +10,6 @@ use Rattle.xa_log.specs.declared.decision_log.DecisionLog as DecisionLog
 use Rattle.xa_workers.specs.declared.fault.WorkFault.{WorkFault}
 use Rattle.xa_workers.specs.declared.fault.WorkFault.TheVariants as work
 use Rattle.xa_workers.specs.declared.jobs.Jobs.{Jobs}
-use Rattle.xa_workers.specs.declared.outcomes.Outcomes.{Outcomes}
 use Rattle.xa_jobs.proofs.TextFaults as texts
 
 -- ** a fault of the reading
@@ -110,7 +109,7 @@ not_told_as_log (Ok done) told is other = λ e. cc
 not_told_as_log (Err fault) told is other = not_by_the_log fault (run_fault_of fault) refl (λ e. other (is ∙ e))
 
 -- and the fault that is told is one of a run
-pub fault_told : {L : Type 0} (ran : Result (Outcomes L) WorkFault) (told : Result (Outcomes L) RunFault)
+pub fault_told : {A : Type 0} (ran : Result A WorkFault) (told : Result A RunFault)
     → IfOk ran (λ done. told ≡ Ok done) → IfErr ran (λ fault. told ≡ Err (run_fault_of fault)) → IfErr told IsWorkFault
 fault_told (Ok done) told is fault = rw is tt
 fault_told (Err fault) told done is = rw is (is_work_fault fault)
@@ -118,8 +117,7 @@ fault_told (Err fault) told done is = rw is (is_work_fault fault)
 -- ** what is handed on
 
 -- what holds of what a run came to holds of what is told of it
-pub told_as : {L : Type 0} (P : Outcomes L → Type 0) (ran : Result (Outcomes L) WorkFault)
-    (told : Result (Outcomes L) RunFault)
+pub told_as : {A : Type 0} (P : A → Type 0) (ran : Result A WorkFault) (told : Result A RunFault)
     → IfOk ran (λ done. told ≡ Ok done) → IfErr ran (λ fault. told ≡ Err (run_fault_of fault)) → IfOk ran P → IfOk told P
 told_as P (Ok done) told is fault holds = rw is holds
 told_as P (Err fault) told done is holds = rw is tt

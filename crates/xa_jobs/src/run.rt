@@ -43,8 +43,8 @@ fn run_fault_of(fault: WorkFault) -> RunFault
     }
 }
 
-/// What a run came to, with its fault as the file tells it.
-fn told<L: Drop>(ran: Result<Outcomes<L>, WorkFault>) -> Result<Outcomes<L>, RunFault>
+/// What a run came to, with its fault as the file tells it. A proof that names `Outcomes` takes several times as long.
+fn told<T: Drop>(ran: Result<T, WorkFault>) -> Result<T, RunFault>
     ensures done { IfOk ran (λ done. result ≡ Ok done) }
     ensures fault { IfErr ran (λ fault. result ≡ Err (run_fault_of fault)) }
 {
