@@ -13,35 +13,40 @@ use crate::heads::{draw_heads, draw_lifelines};
 use crate::labels::{Label, add_labels};
 use crate::layout::Layout;
 use crate::legend::draw_legend;
-use crate::notes::notes_of;
+use crate::notes::{Note, notes_of};
 use crate::run::Run;
-use crate::spans::spans_of;
+use crate::spans::{Span, spans_of};
 use crate::style::STYLE;
 use crate::texts::{write_labels, write_notes};
 use std::alloc::Global;
-use xa_base::Memory;
-use xa_story::Party;
+use xa_base::{Event, Memory};
+use xa_story::{Party, StoryLine};
+
+/// Adds what is written beside the lifelines at an event.
+fn add_all_labels(
+    labels: &mut Vec<Label>,
+    run: &Run,
+    line: &StoryLine,
+    event: &Event,
+) -> Result<(), Memory> {
+    for thread in 0..run.threads {
+        let thread = Lifeline::Part(Party::Thread(thread));
+        add_labels(labels, run, line, event, thread)?;
+    }
+    add_labels(labels, run, line, event, Lifeline::Part(Party::Manager))?;
+    add_labels(labels, run, line, event, Lifeline::Log)?;
+    for rm in 0..run.rms {
+        let rm = Lifeline::Part(Party::Rm(rm));
+        add_labels(labels, run, line, event, rm)?;
+    }
+    Ok(())
+}
 
 /// What is written beside the lifelines at all events.
 fn labels_of(run: &Run) -> Result<Vec<Label>, Memory> {
     let mut labels = Vec::new(run.alloc);
     for (line, event) in run.lines.iter().zip(run.events) {
-        for thread in 0..run.threads {
-            let thread = Lifeline::Part(Party::Thread(thread));
-            add_labels(&mut labels, run, line, event, thread)?;
-        }
-        add_labels(
-            &mut labels,
-            run,
-            line,
-            event,
-            Lifeline::Part(Party::Manager),
-        )?;
-        add_labels(&mut labels, run, line, event, Lifeline::Log)?;
-        for rm in 0..run.rms {
-            let rm = Lifeline::Part(Party::Rm(rm));
-            add_labels(&mut labels, run, line, event, rm)?;
-        }
+        add_all_labels(&mut labels, run, line, event)?;
     }
     Ok(labels)
 }
@@ -81,29 +86,59 @@ fn document(alloc: Global, size: Size, title: &str, elements: &str) -> Result<St
     Ok(format!(in alloc; "{head}{title}{body}")?)
 }
 
+/// What is drawn and written at the events.
+#[derive(Drop)]
+struct Marks {
+    labels: Vec<Label>,
+    spans: Vec<Span>,
+    notes: Vec<Note>,
+}
+
+fn marks_of(run: &Run) -> Result<Marks, Memory> {
+    let labels = labels_of(run)?;
+    let spans = spans_of(run)?;
+    let notes = notes_of(run)?;
+    Ok(Marks {
+        labels,
+        spans,
+        notes,
+    })
+}
+
+/// Draws the parts with their lifelines, and what happens at them.
+fn draw_events(
+    canvas: &mut Canvas,
+    layout: &Layout,
+    run: &Run,
+    marks: &Marks,
+) -> Result<(), Memory> {
+    draw_lifelines(canvas, layout)?;
+    draw_all_downs(canvas, layout, run)?;
+    draw_bars(canvas, layout, run, &marks.spans)?;
+    draw_strays(canvas, layout, run)?;
+    draw_arrows(canvas, layout, run)?;
+    draw_heads(canvas, run.alloc, layout)?;
+    write_labels(canvas, layout, &marks.labels)?;
+    write_notes(canvas, run.alloc, layout, &marks.notes)
+}
+
+/// Draws a run with the legend below it, and says how large that is.
+fn draw_run(canvas: &mut Canvas, run: &Run) -> Result<Size, Memory> {
+    let marks = marks_of(run)?;
+    let layout = Layout::new(run, &marks.labels, &marks.spans, &marks.notes)?;
+    draw_events(canvas, &layout, run, &marks)?;
+    let width = layout.width;
+    let height = draw_legend(canvas, width, layout.timeline.foot())?;
+    Ok(Size { width, height })
+}
+
 /// The picture of a run, as a document of SVG.
 pub fn chart_text(run: &Run) -> Result<String, Memory>
     ensures { IfOk result (λ text.
         IsPicture run.now.threads run.now.rms (length run.now.events.now) (string_bytes text)) }
 {
-    let labels = labels_of(run)?;
-    let spans = spans_of(run)?;
-    let notes = notes_of(run)?;
-    let layout = Layout::new(run, &labels, &spans, &notes)?;
     let mut canvas = Canvas::new(run.alloc);
-    draw_lifelines(&mut canvas, &layout)?;
-    draw_all_downs(&mut canvas, &layout, run)?;
-    draw_bars(&mut canvas, &layout, run, &spans)?;
-    draw_strays(&mut canvas, &layout, run)?;
-    draw_arrows(&mut canvas, &layout, run)?;
-    draw_heads(&mut canvas, run.alloc, &layout)?;
-    write_labels(&mut canvas, &layout, &labels)?;
-    write_notes(&mut canvas, run.alloc, &layout, &notes)?;
-    let height = draw_legend(&mut canvas, layout.width, layout.timeline.foot())?;
-    let size = Size {
-        width: layout.width,
-        height,
-    };
+    let size = draw_run(&mut canvas, run)?;
     let title = title_text(run.alloc, run.threads, run.rms, run.events.len())?;
     let picture = document(run.alloc, size, title.as_str(), canvas.text())?;
     Ok(picture)
