@@ -253,7 +253,14 @@ fn next_process<R: ResourceManager + Drop, L: DecisionLog + Drop>(
     before.system.agree();
     let mut system = next_system(alloc, scenario.threads, before.system)?;
     let number = Some(number);
-    let text = text_of_play(alloc, &mut system, &mut gtrids, scenario, number, with_trace)?;
+    let text = text_of_play(
+        alloc,
+        &mut system,
+        &mut gtrids,
+        scenario,
+        number,
+        with_trace,
+    )?;
     Ok(Process {
         system,
         gtrids,
