@@ -182,18 +182,18 @@ fn ends_left<J: Run>(
 
 /// The resource managers that were served, and the lines, whose ends have met again.
 #[derive(Drop)]
-struct Reunited {
+struct RmsAndLines {
     rms: Vec<MemRm>,
     lines: Vec<Line>,
 }
 
 /// Takes the resource managers out of their locks, and has the ends of all lines meet again.
-fn all_reunited<J: Run>(
+fn rms_and_lines<J: Run>(
     alloc: Global,
     jobs: &Jobs,
     controlled: Vec<Controlled<J>>,
     served: Vec<Mutex<Served<J>>>,
-) -> Result<Reunited, WorkFault>
+) -> Result<RmsAndLines, WorkFault>
     ensures rms { IfOk result (λ left. (r : ℕ) (rm : _) → slice_get left.rms.items r ≡ Some rm
         → HasOnly (J.is_own r) rm) }
     ensures lines { IfOk result (λ left. AreLinesOf jobs.now left.lines.items) }
@@ -203,7 +203,7 @@ fn all_reunited<J: Run>(
     let rms = taken_rms(alloc, served, &mut takers)?;
     let lines = all_met(alloc, issuers, &mut takers)?;
     if are_all_lines(jobs, &lines) {
-        Ok(Reunited { rms, lines })
+        Ok(RmsAndLines { rms, lines })
     } else {
         Err(WorkFault::Mixed)
     }
@@ -234,7 +234,7 @@ pub(crate) fn verified_outcomes<J: Run, L: DecisionLog + Drop>(
     } = work;
     let ends = ends_left(alloc, jobs, &controlled)?;
     let fates = jobs.fates(alloc, incarnation, &ends)?;
-    let left = all_reunited(alloc, jobs, controlled, served)?;
+    let left = rms_and_lines(alloc, jobs, controlled, served)?;
     let RunRows { log, written, .. } = run_rows;
     if have_rows(jobs, &ends, &written) && rms_agree(jobs, &left.rms, &fates) {
         Ok(Outcomes {
