@@ -6,7 +6,7 @@ use std::alloc::Global;
 use xa_base::{Memory, Xid, XidFault};
 
 /// Writes an identifier as text and reads that text: it is the same identifier.
-pub(crate) fn read_again(alloc: Global, xid: &Xid) -> Result<Result<Xid, XidFault>, Memory>
+pub fn read_again(alloc: Global, xid: &Xid) -> Result<Result<Xid, XidFault>, Memory>
     ensures { IfOk result (λ read. read ≡ Ok xid.now) }
 {
     let _format = xid.format();

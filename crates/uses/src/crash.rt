@@ -83,7 +83,7 @@ fn connection_after_crash<S: Alter + Reopen + Drop>(
 
 /// The log that is found after a crash of the store of one in order: it is in order, and holds one of what a crash may
 /// leave of that. It is never refused as an unknown one: a fault is that of the store, or comes for want of memory.
-pub(crate) fn log_after_crash<S: Alter + Reopen + Drop>(
+pub fn log_after_crash<S: Alter + Reopen + Drop>(
     alloc: Global,
     log: SqlLog<S>,
 ) -> Result<SqlLog<S>, (LogFault, S)>
@@ -118,7 +118,7 @@ pub(crate) fn log_after_crash<S: Alter + Reopen + Drop>(
 ///
 /// The premises: the log was in order as it was handed in, a restart may follow over what a crash leaves of it, as it may
 /// over that of a new system and after every step, and the store that is found is honest.
-pub(crate) fn restart_after_crash<R: ResourceManager + Drop, S: Alter + Reopen + Drop>(
+pub fn restart_after_crash<R: ResourceManager + Drop, S: Alter + Reopen + Drop>(
     alloc: Global,
     system: &mut System<R, SqlLog<S>>,
 ) -> Result<Result<Reply, (SwapFault, SqlLog<S>)>, Option<(LogFault, S)>>
@@ -162,7 +162,7 @@ pub(crate) fn restart_after_crash<R: ResourceManager + Drop, S: Alter + Reopen +
 /// Starts a system over a log in order and runs steps, of which the last may be one in which the log failed. Then the
 /// store of the log crashes, and the system goes on over what is found. No premise is left but that the store is honest;
 /// and the headline holds of all events, before and after.
-pub(crate) fn restart_after_fault<R: ResourceManager + Drop, S: Alter + Reopen + Drop>(
+pub fn restart_after_fault<R: ResourceManager + Drop, S: Alter + Reopen + Drop>(
     alloc: Global,
     threads: u32,
     rms: Vec<R>,
@@ -196,7 +196,7 @@ pub(crate) fn restart_after_fault<R: ResourceManager + Drop, S: Alter + Reopen +
 }
 
 /// The same over a new log in memory: no premise is left.
-pub(crate) fn restart_in_memory(
+pub fn restart_in_memory(
     alloc: Global,
     steps: &[Step],
 ) -> anyhow::Result<

@@ -6,7 +6,7 @@ use std::alloc::Global;
 use xa_files::{RunFault, document_of, size_at};
 
 /// The number of threads that a file says, from 1 to 8; none where it says no such number.
-pub(crate) fn threads_in(alloc: Global, text: &[u8]) -> Result<Option<u32>, RunFault>
+pub fn threads_in(alloc: Global, text: &[u8]) -> Result<Option<u32>, RunFault>
     ensures { IfOk result (λ threads. IfSome threads (λ n. n ≤ 8)) }
 {
     let document = document_of(alloc, text)?;

@@ -14,7 +14,7 @@ use xa_log::{DecisionLog, MemLog};
 /// What a run of a jobs file over a new log prints, and that log, with no premise. It has a row for each job that is
 /// printed as committed and of which a branch voted yes, and nothing else, and is of the first incarnation.
 #[tactic(auto, using(crate::proofs::JobRows::is_first_run))]
-pub(crate) fn printed_and_logged<R: Threads + Wait + Clock + Sync>(
+pub fn printed_and_logged<R: Threads + Wait + Clock + Sync>(
     rt: &R,
     alloc: Global,
     text: &[u8],

@@ -10,7 +10,7 @@ use xa_base::{Answer, Call, Code, Memory};
 use xa_line::Line;
 
 /// Opens a new line: xa_open is issued and taken, and its answer XA_OK is heard.
-pub(crate) fn opened(alloc: Global) -> Result<Option<(Call, Answer)>, Memory>
+pub fn opened(alloc: Global) -> Result<Option<(Call, Answer)>, Memory>
     ensures { IfOk result (λ heard. heard ≡ Some (OpenRm, Ret Success)) }
 {
     let mut line = Line::new(alloc)?;

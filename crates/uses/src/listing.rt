@@ -10,7 +10,7 @@ use xa_listing::list_log;
 use xa_log::DecisionLog;
 
 /// The text of what a log holds.
-pub(crate) fn listed<L: DecisionLog>(log: &mut L, alloc: Global) -> Result<Vec<u8>, RunFault>
+pub fn listed<L: DecisionLog>(log: &mut L, alloc: Global) -> Result<Vec<u8>, RunFault>
     ensures { Honestly (L.moment log.old) (L.moment log.new)
         (IfOk result (λ out. PrintsLog (L.moment log.old).content (Some []) (Some out.items))) }
 {

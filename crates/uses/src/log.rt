@@ -8,7 +8,7 @@ use xa_base::{Branch, Gtrid};
 use xa_log::{DecisionLog, LogFault};
 
 /// Logs that a transaction commits, starts anew in the next incarnation, and looks: the decision is there.
-pub(crate) fn found_again<L: DecisionLog>(
+pub fn found_again<L: DecisionLog>(
     log: &mut L,
     g: Gtrid,
     participants: &[Branch],

@@ -38,7 +38,7 @@ fn served_under<L: DecisionLog + Drop>(
 /// texts say, each one's theorem holds beside the other: what it tells has a right history, and databases that obey the branch
 /// state table agree of its transactions. And if the names differ, neither driver is told a call on an identifier on which the
 /// other one is told a call, up to where a log fails: so nothing of the other's is ended.
-pub(crate) fn served_apart<L: DecisionLog + Drop>(
+pub fn served_apart<L: DecisionLog + Drop>(
     alloc: Global,
     threads: u32,
     rms: u32,

@@ -10,7 +10,7 @@ use xa_model::headline_holds;
 
 /// After these events no branch of a transaction is committed beside one that is rolled back or lost. Nothing is done.
 #[tactic(auto, using(crate::proofs::Alike::at_end))]
-pub(crate) fn end_alike(events: &[Event])
+pub fn end_alike(events: &[Event])
     ensures { (o : Origin) → RightOrigin o → AreAllowed o events.now
         → AreAlike (history o events.now) }
 {

@@ -16,7 +16,7 @@ use xa_system::{NewFault, System};
 /// go, the log is then where the history leaves it: while the manager is up it has just its rows, each with its
 /// participants, its record and its incarnation. So has what a crash of its store leaves. The steps so far are such a
 /// list: so it is after each event.
-pub(crate) fn run_over<R: ResourceManager + Drop, L: DecisionLog + Drop>(
+pub fn run_over<R: ResourceManager + Drop, L: DecisionLog + Drop>(
     alloc: Global,
     threads: u32,
     rms: Vec<R>,
@@ -38,7 +38,7 @@ pub(crate) fn run_over<R: ResourceManager + Drop, L: DecisionLog + Drop>(
 }
 
 /// The same over a new log in memory: no premise is left.
-pub(crate) fn run_in_memory(
+pub fn run_in_memory(
     alloc: Global,
     steps: &[Step],
 ) -> Result<Result<System<MemRm, MemLog>, NewFault>, AllocError>

@@ -23,8 +23,8 @@ use xa_rm::{MemRm, ResourceManager};
 use xa_system::{NewFault, Remains, ResumeFault, System};
 
 /// Why there is no next process.
-#[derive(Clone, Copy, Debug, PartialEq, Eq)]
-pub(crate) enum NextFault {
+#[derive(Clone, Copy)]
+pub enum NextFault {
     /// The first process didn't start.
     First(NewFault),
     /// The log was taken out of the system before, and there is none to go on from.
@@ -36,7 +36,7 @@ pub(crate) enum NextFault {
 }
 
 /// The next process: starts over what a system left, and does the steps.
-pub(crate) fn go_on<R: ResourceManager + Drop, L: DecisionLog + Drop>(
+pub fn go_on<R: ResourceManager + Drop, L: DecisionLog + Drop>(
     alloc: Global,
     threads: u32,
     remains: Remains<R, L>,
@@ -91,7 +91,7 @@ pub(crate) fn go_on<R: ResourceManager + Drop, L: DecisionLog + Drop>(
 }
 
 /// The process after a system: takes that apart, and goes on from what it leaves.
-pub(crate) fn next_process<R: ResourceManager + Drop, L: DecisionLog + Drop>(
+pub fn next_process<R: ResourceManager + Drop, L: DecisionLog + Drop>(
     alloc: Global,
     threads: u32,
     system: System<R, L>,
@@ -136,7 +136,7 @@ fn first_process(alloc: Global, steps: &[Step]) -> Result<System<MemRm, MemLog>,
 
 /// Two processes over a resource manager and a log in memory: no premise is left. The headline holds of all that both
 /// did, at each moment of the second.
-pub(crate) fn two_processes(
+pub fn two_processes(
     alloc: Global,
     first_steps: &[Step],
     second_steps: &[Step],
@@ -154,7 +154,7 @@ pub(crate) fn two_processes(
 }
 
 /// Any number of processes, one for each list of steps.
-pub(crate) fn processes(
+pub fn processes(
     alloc: Global,
     first: &[Step],
     later: &[Vec<Step>],
@@ -173,7 +173,7 @@ pub(crate) fn processes(
 /// prepared there is of its own live transactions: what the processes before it left prepared there is ended. The
 /// premises on the recovery: no call waited on its line before, the page had room for all that was in doubt, and no
 /// call was put off.
-pub(crate) fn recover_next<R: ResourceManager + Drop, L: DecisionLog + Drop>(
+pub fn recover_next<R: ResourceManager + Drop, L: DecisionLog + Drop>(
     alloc: Global,
     threads: u32,
     remains: Remains<R, L>,

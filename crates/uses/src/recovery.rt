@@ -19,7 +19,7 @@ use xa_system::System;
 /// of live transactions: if no call waited on its line before, the page had room for all that was in doubt, and no call
 /// was put off. So it is of a system that had a right start, as a new one has, and of one whose start resumed a right
 /// history: what earlier processes left prepared there is ended too.
-pub(crate) fn recover<R: ResourceManager + Drop, L: DecisionLog + Drop>(
+pub fn recover<R: ResourceManager + Drop, L: DecisionLog + Drop>(
     system: &mut System<R, L>,
     steps: &[Step],
 ) -> Result<(), Refusal>

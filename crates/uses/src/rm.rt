@@ -9,7 +9,7 @@ use xa_rm::{MemRm, ResourceManager};
 
 /// Starts a branch at a new resource manager, ends the work on it, prepares it and commits it. What became of it.
 #[tactic(auto, using(crate::proofs::Branches::same))]
-pub(crate) fn committed(alloc: Global, xid: &Xid) -> Result<Fate, Memory>
+pub fn committed(alloc: Global, xid: &Xid) -> Result<Fate, Memory>
     ensures { IfOk result (λ fate. fate ≡ Fates.Committed) }
 {
     let mut rm = MemRm::new(alloc);

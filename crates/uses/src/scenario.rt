@@ -15,7 +15,7 @@ use xa_log::{DecisionLog, LogFault, MemLog};
 use xa_scenario::run_scenario;
 
 /// What a run of a scenario file over a log prints.
-pub(crate) fn printed<L: DecisionLog + Drop>(
+pub fn printed<L: DecisionLog + Drop>(
     alloc: Global,
     text: &[u8],
     log: L,
@@ -42,7 +42,7 @@ fn log_with(alloc: Global, g: Gtrid, participants: &[Branch]) -> Result<MemLog, 
 }
 
 /// What a run of a scenario file prints over a log that holds the row of a transaction: it starts with that row.
-pub(crate) fn printed_after(
+pub fn printed_after(
     alloc: Global,
     text: &[u8],
     g: Gtrid,

@@ -17,8 +17,8 @@ use xa_server::{ServeFault, Server};
 use xa_tm::StartFault;
 
 /// Why a driver isn't served.
-#[derive(Clone, Copy, Debug, PartialEq, Eq)]
-pub(crate) enum SessionFault {
+#[derive(Clone, Copy)]
+pub enum SessionFault {
     /// The coordinator didn't start.
     Start(StartFault),
     /// The session was broken off.
@@ -40,12 +40,7 @@ pub(crate) fn whole(alloc: Global, text: &[u8]) -> Result<BufReader<&[u8]>, Sess
 /// Whatever the text says, what it tells and what is written for it have a right history; and wherever the branches then
 /// stand at databases that obey the branch state table, no branch of a transaction is committed beside one that is rolled
 /// back or lost.
-pub(crate) fn served(
-    alloc: Global,
-    threads: u32,
-    rms: u32,
-    text: &[u8],
-) -> Result<Vec<u8>, SessionFault>
+pub fn served(alloc: Global, threads: u32, rms: u32, text: &[u8]) -> Result<Vec<u8>, SessionFault>
     ensures { IfOk result (λ written. IsServed threads rms text.now written.items) }
 {
     served_databases_agree::<MemLog>();
@@ -85,7 +80,7 @@ fn served_over<L: DecisionLog + Drop>(
 
 /// Serves a driver that writes this text, over a log, and gives what was written for it and the log. Where the text ends with
 /// votes, XA_OK each, and a line that commits their transactions, and this is replied by `decided`, the log has the row of each.
-pub(crate) fn commits<L: DecisionLog + Drop>(
+pub fn commits<L: DecisionLog + Drop>(
     alloc: Global,
     log: L,
     text: &[u8],
@@ -99,7 +94,7 @@ pub(crate) fn commits<L: DecisionLog + Drop>(
 
 /// Serves a driver that says nothing, over a log that is empty. That is the least of the sessions that agree: no branch is at any
 /// database before it, and none after it.
-pub(crate) fn silent<L: DecisionLog + Drop>(
+pub fn silent<L: DecisionLog + Drop>(
     alloc: Global,
     threads: u32,
     rms: u32,
@@ -123,7 +118,7 @@ pub(crate) fn silent<L: DecisionLog + Drop>(
 /// `decided`, each branch of these that stood prepared as that driver was killed ends committed, whatever the second one asks for:
 /// none is ever rolled back or lost, and once the log has no row of a transaction, its branches are committed, unless a
 /// database ended one by itself.
-pub(crate) fn served_twice<L: DecisionLog + Drop>(
+pub fn served_twice<L: DecisionLog + Drop>(
     alloc: Global,
     threads: u32,
     rms: u32,

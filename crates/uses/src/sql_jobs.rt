@@ -8,7 +8,6 @@ ghost use Rattle.xa_sql_log.specs.ClosedFiles.{HoldsWhole};
 ghost use Rattle.xa_workers.specs.Jobs.{IsRunnable};
 ghost use Rattle.xa_workers.specs.Rows.{HasRows, rows_of_jobs};
 
-use crate::listing::listed;
 use crate::workers::Open;
 use sqlite::{FileStore, Files, MemStore, Options};
 use sqlite_disk::Disk;
@@ -24,7 +23,7 @@ use xa_workers::{Jobs, Outcomes, WorkFault, run_jobs};
 /// branches that voted yes, and nothing else; and its incarnation is one more, that of the jobs. Where it is honest then,
 /// it was so before.
 #[tactic(auto, using(crate::proofs::JobRows::has_rows_over, crate::proofs::JobRows::was_honest))]
-pub(crate) fn logged_over<R: Threads + Wait + Clock + Sync, L: DecisionLog + Drop>(
+pub fn logged_over<R: Threads + Wait + Clock + Sync, L: DecisionLog + Drop>(
     rt: &R,
     alloc: Global,
     jobs: &Jobs,
@@ -41,7 +40,7 @@ pub(crate) fn logged_over<R: Threads + Wait + Clock + Sync, L: DecisionLog + Dro
 }
 
 /// The same over a new log in memory, with no premise: it is empty and in order where it is made, and honest always.
-pub(crate) fn logged_in_memory<R: Threads + Wait + Clock + Sync>(
+pub fn logged_in_memory<R: Threads + Wait + Clock + Sync>(
     rt: &R,
     alloc: Global,
     jobs: &Jobs,
@@ -58,7 +57,7 @@ pub(crate) fn logged_in_memory<R: Threads + Wait + Clock + Sync>(
 
 /// The same over a log in files that hold a whole one: it then holds the rows that they held, and those of the jobs. That
 /// the files give back what was written is the premise.
-pub(crate) fn logged_in_files<R: Threads + Wait + Clock + Sync, D: Disk + Drop>(
+pub fn logged_in_files<R: Threads + Wait + Clock + Sync, D: Disk + Drop>(
     rt: &R,
     alloc: Global,
     jobs: &Jobs,
@@ -76,31 +75,4 @@ pub(crate) fn logged_in_files<R: Threads + Wait + Clock + Sync, D: Disk + Drop>(
 {
     let log = SqlLog::open_files(alloc, files, Options::new(0))?;
     logged_over(rt, alloc, jobs, log)
-}
-
-/// The list of the log that jobs leave in a new database in memory.
-pub(crate) fn listed_in_memory<R: Threads + Wait + Clock + Sync>(
-    rt: &R,
-    alloc: Global,
-    jobs: &Jobs,
-) -> anyhow::Result<Vec<u8>>
-    requires { IsRunnable jobs.now }
-{
-    let mut done = logged_in_memory(rt, alloc, jobs)?;
-    Ok(listed(&mut done.log, alloc)?)
-}
-
-/// And of the one that they leave in files.
-pub(crate) fn listed_in_files<R: Threads + Wait + Clock + Sync, D: Disk + Drop>(
-    rt: &R,
-    alloc: Global,
-    jobs: &Jobs,
-    files: Files<D>,
-) -> anyhow::Result<Vec<u8>>
-    requires runnable { IsRunnable jobs.now }
-    requires log { IsTrue (D.Disk.is_usable files.log) }
-    requires db { IsTrue (D.Disk.is_usable files.db) }
-{
-    let mut done = logged_in_files(rt, alloc, jobs, files)?;
-    Ok(listed(&mut done.log, alloc)?)
 }

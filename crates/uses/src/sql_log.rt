@@ -8,7 +8,7 @@ ghost use Rattle.xa_log.specs.Contract.{FitsRow, Honestly};
 ghost use Rattle.xa_sql_log.specs.OpenedDatabase.{HoldsLog};
 
 use sqlite::{FileStore, Files, Options};
-use sqlite_disk::Disk;
+use sqlite_disk::{Disk, Memory};
 use std::alloc::Global;
 use xa_base::{Branch, Gtrid};
 use xa_log::{DecisionLog, LogFault};
@@ -34,7 +34,7 @@ fn found_until_done<L: DecisionLog>(
 }
 
 /// The same over a new log in memory, with no premise: it is in order where it is made, and honest at every moment.
-pub(crate) fn found_in_new_log(
+pub fn found_in_new_log(
     alloc: Global,
     g: Gtrid,
     participants: &[Branch],
@@ -51,7 +51,7 @@ pub(crate) fn found_in_new_log(
 /// Opens the log in files, or makes it, logs that a transaction commits, and closes it into one file. Then it opens the log
 /// in the same files again, and looks: the decision is there. That the files are empty or hold a log, and that they give
 /// back what was written, up to the last look, is the premise.
-pub(crate) fn found_again<D: Disk + Drop>(
+pub fn found_again<D: Disk + Drop>(
     alloc: Global,
     files: Files<D>,
     g: Gtrid,
@@ -75,18 +75,13 @@ pub(crate) fn found_again<D: Disk + Drop>(
     Ok((found, again))
 }
 
-/// The same, and the log is dropped. It then lies in both files.
-pub(crate) fn is_found_again<D: Disk + Drop>(
-    alloc: Global,
-    files: Files<D>,
-    g: Gtrid,
-    participants: &[Branch],
-) -> Result<bool, LogFault>
-    requires log { IsTrue (D.Disk.is_usable files.log) }
-    requires db { IsTrue (D.Disk.is_usable files.db) }
-    requires fits { FitsRow g }
-    requires own { AllByRecursion (λ b. b.gtrid ≡ g) participants.now }
+/// Two empty files in memory: a log may be opened in them.
+pub fn new_files(alloc: Global) -> Files<Memory>
+    ensures log { IsTrue (⟦<Memory as Disk>⟧.is_usable result.log) }
+    ensures db { IsTrue (⟦<Memory as Disk>⟧.is_usable result.db) }
 {
-    let (found, _log) = found_again(alloc, files, g, participants)?;
-    Ok(found)
+    Files {
+        log: Memory::new(alloc),
+        db: Memory::new(alloc),
+    }
 }

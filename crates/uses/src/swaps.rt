@@ -20,7 +20,7 @@ use xa_system::{SwapFault, System};
 
 /// Takes the log out, where that may be, and gives it straight back. One that isn't shut is refused for want of memory or
 /// for a failure of its own, and for nothing else.
-pub(crate) fn give_back<R: ResourceManager + Drop, L: DecisionLog + Drop>(
+pub fn give_back<R: ResourceManager + Drop, L: DecisionLog + Drop>(
     system: &mut System<R, L>,
 ) -> Result<(), (SwapFault, L)>
     ensures { (L.moment system.old.handed).is_in_order → (c : Content) →
@@ -38,7 +38,7 @@ pub(crate) fn give_back<R: ResourceManager + Drop, L: DecisionLog + Drop>(
 /// Puts in what a crash left of the log that was taken out, and restarts the manager. That log is refused for want of
 /// memory or for a failure of its own, and for nothing else; and where it counts no failure, the restart isn't refused
 /// for its sake. The headline holds of the whole, where the system had a right start, as a new one has.
-pub(crate) fn restart_over<R: ResourceManager + Drop, L: DecisionLog + Drop>(
+pub fn restart_over<R: ResourceManager + Drop, L: DecisionLog + Drop>(
     system: &mut System<R, L>,
     left: L,
 ) -> Result<Reply, (SwapFault, L)>
@@ -67,7 +67,7 @@ pub(crate) fn restart_over<R: ResourceManager + Drop, L: DecisionLog + Drop>(
 
 /// The same over a log in memory: no premise is left. The manager crashes, and comes up over the log that was taken out,
 /// which is what a crash leaves of it.
-pub(crate) fn restart_in_memory(
+pub fn restart_in_memory(
     alloc: Global,
 ) -> Option<(Result<Reply, (SwapFault, MemLog)>, System<MemRm, MemLog>)>
     ensures given { IfSome result (λ it. IfErr it.0 (λ e.

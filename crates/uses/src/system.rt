@@ -19,7 +19,7 @@ const FIRST: Gtrid = Gtrid {
 
 /// Runs steps. However they go, no branch of a transaction is committed then beside one that is rolled back or lost: of
 /// all that happened since a right start, as that of a new system is, and of what earlier processes did and this one.
-pub(crate) fn run_alike<R: ResourceManager + Drop, L: DecisionLog + Drop>(
+pub fn run_alike<R: ResourceManager + Drop, L: DecisionLog + Drop>(
     system: &mut System<R, L>,
     steps: &[Step],
 ) -> Result<(), Refusal>
@@ -29,6 +29,11 @@ pub(crate) fn run_alike<R: ResourceManager + Drop, L: DecisionLog + Drop>(
         AreAlike (joined past (origin_in R.look system.new) system.new.events) }
 {
     system.run(steps)
+}
+
+/// Does a step. With no clause: a proof that carries those of several calls takes many times as long.
+fn step<R: ResourceManager + Drop, L: DecisionLog + Drop>(system: &mut System<R, L>, step: Step) {
+    let _reply = system.step(step);
 }
 
 /// Has a call issued, taken and heard.
@@ -46,21 +51,22 @@ fn call<R: ResourceManager + Drop, L: DecisionLog + Drop>(system: &mut System<R,
 }
 
 /// Commits a new system's first transaction in two phases, at one resource manager.
-pub(crate) fn commit<R: ResourceManager + Drop, L: DecisionLog + Drop>(system: &mut System<R, L>) {
+pub fn commit<R: ResourceManager + Drop, L: DecisionLog + Drop>(system: &mut System<R, L>) {
     let branch = Branch {
         gtrid: FIRST,
         thread: 0,
         rm: 0,
     };
     call(system, Call::OpenRm);
-    let _begun = system.step(Step::Begin { thread: 0 });
+    step(system, Step::Begin { thread: 0 });
     call(system, Call::start(branch.xid()));
     call(system, Call::end(branch.xid()));
     call(system, Call::Prepare { xid: branch.xid() });
-    let _decided = system.step(Step::Decide {
+    let decide = Step::Decide {
         gtrid: FIRST,
         outcome: Outcome::Commit,
-    });
+    };
+    step(system, decide);
     call(system, Call::commit(branch.xid()));
-    let _done = system.step(Step::Done { gtrid: FIRST });
+    step(system, Step::Done { gtrid: FIRST });
 }

@@ -8,7 +8,7 @@ use xa_log::MemLog;
 use xa_tm::{Manager, StartFault};
 
 /// The first transaction of the first manager over a new log.
-pub(crate) fn first(alloc: Global) -> Result<Result<Gtrid, Refusal>, StartFault>
+pub fn first(alloc: Global) -> Result<Result<Gtrid, Refusal>, StartFault>
     ensures { IfOk result (λ begun. IfOk begun (λ g.
         g ≡ record { incarnation = 1; sequence = 1 })) }
 {

@@ -5,16 +5,16 @@ ghost use Rattle.xa_log.specs.Content.{nothing, with_bump};
 ghost use Rattle.xa_workers.specs.Jobs.{IsRunnable, ends_of};
 ghost use Rattle.xa_workers.specs.Rows.{HasRows, rows_of_jobs};
 
-use std::alloc::{AllocError, Global};
+use std::alloc::Global;
 use std::sync::Wait;
 use std::thread::Threads;
 use std::time::Clock;
-use xa_base::{Outcome, RbCode, Vote};
+use xa_base::Outcome;
 use xa_log::{DecisionLog, MemLog};
 use xa_workers::{Gate, Jobs, Outcomes, Point, WorkFault, run_jobs};
 
 /// A gate that holds nobody back.
-pub(crate) struct Open;
+pub struct Open;
 
 impl Gate for Open {
     fn at(&self, _point: Point) -> bool {
@@ -23,7 +23,7 @@ impl Gate for Open {
 }
 
 /// Runs jobs over a new log. Without a recovery that sweeps them each ends as its votes say, whatever the threads do.
-pub(crate) fn ends<R: Threads + Wait + Clock + Sync>(
+pub fn ends<R: Threads + Wait + Clock + Sync>(
     rt: &R,
     alloc: Global,
     jobs: &Jobs,
@@ -34,24 +34,10 @@ pub(crate) fn ends<R: Threads + Wait + Clock + Sync>(
     Ok(run_jobs(rt, alloc, jobs, MemLog::new(alloc), &Open)?.ends)
 }
 
-/// Two jobs at one resource manager, each on a thread of its own. The first votes yes, and the second no.
-pub(crate) fn two_jobs(alloc: Global) -> Result<Jobs, AllocError> {
-    let mut votes = Vec::new(alloc);
-    for vote in [Vote::Yes, Vote::No(RbCode::Deadlock)] {
-        votes.push([Some(vote)].as_slice().to_vec(alloc)?)?;
-    }
-    Ok(Jobs {
-        threads: 2,
-        rms: 1,
-        sweep: false,
-        votes,
-    })
-}
-
 /// Runs jobs over a new log. It then has a row for each job that committed with a yes, with the branches that voted yes,
 /// and nothing else, and is of the first incarnation.
 #[tactic(auto, using(crate::proofs::JobRows::has_just_rows))]
-pub(crate) fn logged<R: Threads + Wait + Clock + Sync>(
+pub fn logged<R: Threads + Wait + Clock + Sync>(
     rt: &R,
     alloc: Global,
     jobs: &Jobs,
