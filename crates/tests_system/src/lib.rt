@@ -28,4 +28,6 @@ mod reply_words;
 #[cfg(test)]
 mod scans;
 #[cfg(test)]
+mod systems;
+#[cfg(test)]
 mod words;

@@ -1,11 +1,11 @@
 //! Rows over logs that hold something at the start.
 
-use crate::full::FullRm;
 use crate::play::{NO_FAULT, play_over};
+use crate::systems::{do_steps, new_system, next_system, one_rm, remains_of};
 use std::test::Fail;
 use xa_base::{Branch, Call, Gtrid, Step};
 use xa_log::{DecisionLog, FailLog, FailPlan, LogCall, MemLog};
-use xa_system::{NewFault, Remains, ResumeFault, System};
+use xa_system::{NewFault, Remains, ResumeFault};
 
 /// The same as in the first incarnation, in the next.
 const SECOND_INCARNATION: &str = "\
@@ -74,8 +74,7 @@ fn refused_logs(rt: HostRuntime) -> Result<(), Fail> {
     let mut ahead = MemLog::new(alloc);
     ahead.bump()?;
     ahead.commit(gtrid, &[])?;
-    let rms = Vec::from_array(alloc, [FullRm::new(alloc, false)])?;
-    let made = System::new(alloc, 1, rms, FailLog::new(ahead, NO_FAULT));
+    let made = new_system(alloc, 1, one_rm(alloc)?, FailLog::new(ahead, NO_FAULT));
     assert!(rt; matches!(made, Err(NewFault::Log)));
     Ok(())
 }
@@ -87,11 +86,11 @@ fn failing_logs(rt: HostRuntime) -> Result<(), Fail> {
     let alloc = rt.alloc();
     for kind in [LogCall::Rows, LogCall::Bump] {
         let plan = FailPlan::Every { kind };
-        let rms = Vec::from_array(alloc, [FullRm::new(alloc, false)])?;
-        let made = System::new(alloc, 1, rms, FailLog::new(MemLog::new(alloc), plan));
+        let log = FailLog::new(MemLog::new(alloc), plan);
+        let made = new_system(alloc, 1, one_rm(alloc)?, log);
         assert!(rt; matches!(made, Err(NewFault::Log)));
-        let rms = Vec::from_array(alloc, [FullRm::new(alloc, false)])?;
-        let made = System::resume(alloc, 1, rms, FailLog::new(MemLog::new(alloc), plan));
+        let log = FailLog::new(MemLog::new(alloc), plan);
+        let made = next_system(alloc, one_rm(alloc)?, log);
         assert!(rt; matches!(made, Err(ResumeFault::Log)));
     }
     Ok(())
@@ -102,8 +101,7 @@ fn failing_logs(rt: HostRuntime) -> Result<(), Fail> {
 #[test]
 fn newer_branches(rt: HostRuntime) -> Result<(), Fail> {
     let alloc = rt.alloc();
-    let rms = Vec::from_array(alloc, [FullRm::new(alloc, false)])?;
-    let mut system = System::new(alloc, 1, rms, MemLog::new(alloc))?;
+    let mut system = new_system(alloc, 1, one_rm(alloc)?, MemLog::new(alloc))?;
     let first = Branch {
         gtrid: FIRST,
         thread: 0,
@@ -126,11 +124,11 @@ fn newer_branches(rt: HostRuntime) -> Result<(), Fail> {
         },
         Step::Take { thread: 0, rm: 0 },
     ];
-    assert!(rt; system.run(&steps) == Ok(()));
-    let Ok(Remains { rms, .. }) = system.into_parts() else {
+    assert!(rt; do_steps(&mut system, &steps) == Ok(()));
+    let Some(Remains { rms, .. }) = remains_of(system) else {
         return Err(Fail::from("out of memory"));
     };
-    let made = System::resume(alloc, 1, rms, MemLog::new(alloc));
+    let made = next_system(alloc, rms, MemLog::new(alloc));
     assert!(rt; matches!(made, Err(ResumeFault::Newer)));
     Ok(())
 }

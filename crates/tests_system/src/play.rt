@@ -6,6 +6,7 @@
 //! fails.
 
 use crate::full::FullRm;
+use crate::systems::{do_step, new_system};
 use crate::{reply_words, words};
 use std::alloc::{AllocError, Global};
 use std::env::Env;
@@ -56,7 +57,7 @@ impl Run {
             met(rt, "refused memory");
             return None;
         };
-        match System::new(alloc, 2, rms, log) {
+        match new_system(alloc, 2, rms, log) {
             Ok(system) => Some(Run {
                 alloc,
                 system,
@@ -73,14 +74,14 @@ impl Run {
     /// Does a step, again where it is refused for want of memory and the row wants something else, and tells the reply.
     /// Steps that take no memory, as where nothing is heard, are never refused for want of it.
     fn step(&mut self, rt: &(impl Abort + Eprint + Env), step: &Step, want: &str) -> Reply {
-        let mut reply = self.system.step(step.copy());
+        let mut reply = do_step(&mut self.system, step.copy());
         for _ in 0..REFUSALS {
             if !matches!(reply, Reply::Refused(Refusal::Memory)) || want == "refused 16" {
                 break;
             }
             met(rt, "refused 16");
             self.again = self.again.saturating_add(1);
-            reply = self.system.step(step.copy());
+            reply = do_step(&mut self.system, step.copy());
             let takes_none = match step {
                 Step::Crash(_) | Step::Restart(Side::Rm { .. }) => true,
                 Step::Hear { .. } => matches!(reply, Reply::Nothing),
