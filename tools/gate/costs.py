@@ -7,7 +7,7 @@ from .edits import edits_of
 from .machine import BYTES_A_JOB, jobs_for, processors
 
 # Minutes of one processor, from nothing: of the quick part, of all proofs of rt ci with the tests, and of an edit.
-QUICK, PROOFS, EDIT = 15, 185, 18 / 60
+QUICK, PROOFS, EDIT = 15, 220, 18 / 60
 # Minutes that building, the tests and the programs take, whatever is kept.
 PROGRAMS = 5
 
