@@ -2,8 +2,7 @@
 //! `xa_`; `serve` and `managers` are callers of `xa_server`, `own_log`, `processes`, `recovery`, `swaps` and `crash` are
 //! further callers of `xa_system`, and `sql_jobs` of `xa_workers`.
 //!
-//! Nothing runs them: that a call comes to its end, and what is printed then, is said by the tests of the libraries that
-//! it calls.
+//! Nothing runs them: that a call comes to its end is said by the tests of the libraries that it calls.
 #![tactic(auto)]
 
 pub mod base;

@@ -94,6 +94,7 @@ struct Marks {
     notes: Vec<Note>,
 }
 
+/// What is drawn and written at the events of a run.
 fn marks_of(run: &Run) -> Result<Marks, Memory> {
     let labels = labels_of(run)?;
     let spans = spans_of(run)?;

@@ -1,10 +1,9 @@
 //! The commands that tell of a file, and of a run in other ways than by its trace.
 
-use crate::failure::Failure;
-use crate::files::{Source, text_of, texts_of, told_path};
 use std::io::Write;
+use xa_commands::{Failure, Source, text_of, texts_of, told_path};
 use xa_diagnostics::{FileKind, check_jobs, check_json, kind_of, warnings};
-use xa_display::{draw_scenario, explain_scenario};
+use xa_display::{ChartFault, draw_scenario, explain_scenario};
 use xa_files::write_text;
 use xa_log::MemLog;
 use xa_scenario::check_scenario;
@@ -108,9 +107,9 @@ pub(crate) fn draw(rt: &HostRuntime, file: &str) -> Result<Vec<u8>, Failure> {
     let mut picture = Vec::new(alloc);
     match draw_scenario(alloc, &text, MemLog::new(alloc), &mut picture) {
         Ok(()) => Ok(picture),
-        Err(fault) => {
-            let source = Source::of(file, &text, FileKind::Scenario);
-            Err(source.told(alloc, Failure::from(fault)))
+        Err(ChartFault::TooLong) => Err(Failure::TooLong),
+        Err(ChartFault::Run(fault)) => {
+            Err(Source::of(file, &text, FileKind::Scenario).failure(alloc, fault))
         }
     }
 }

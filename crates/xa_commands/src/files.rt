@@ -39,7 +39,7 @@ pub(crate) fn system_failure(alloc: Global, path: &str, error: &io::Error) -> Fa
 }
 
 /// The path as it is told: `-` is standard input.
-pub(crate) fn told_path(path: &str) -> &str {
+pub fn told_path(path: &str) -> &str {
     if path == "-" { "<stdin>" } else { path }
 }
 
@@ -52,7 +52,7 @@ fn input_bytes(rt: &HostRuntime) -> io::Result<Vec<u8>> {
 }
 
 /// What the file at a path holds; `-` is standard input.
-pub(crate) fn text_of(rt: &HostRuntime, path: &str) -> Result<Vec<u8>, Failure> {
+pub fn text_of(rt: &HostRuntime, path: &str) -> Result<Vec<u8>, Failure> {
     let text = if path == "-" {
         input_bytes(rt)
     } else {
@@ -62,7 +62,7 @@ pub(crate) fn text_of(rt: &HostRuntime, path: &str) -> Result<Vec<u8>, Failure> 
 }
 
 /// What each of some files holds.
-pub(crate) fn texts_of(rt: &HostRuntime, paths: &[&str]) -> Result<Vec<Vec<u8>>, Failure> {
+pub fn texts_of(rt: &HostRuntime, paths: &[&str]) -> Result<Vec<Vec<u8>>, Failure> {
     let mut texts = Vec::new(rt.alloc());
     for path in paths {
         texts.push(text_of(rt, path)?)?;
@@ -72,7 +72,7 @@ pub(crate) fn texts_of(rt: &HostRuntime, paths: &[&str]) -> Result<Vec<Vec<u8>>,
 
 /// A file that was read, for what it is read, and how much is told of it.
 #[derive(Clone, Copy)]
-pub(crate) struct Source<'a> {
+pub struct Source<'a> {
     pub path: &'a str,
     pub text: &'a [u8],
     /// The files before it, whose transactions it knows.
@@ -124,7 +124,7 @@ impl<'a> Source<'a> {
 }
 
 /// Writes a text into the file at a path, or else prints it.
-pub(crate) fn output_to<W: Write>(
+pub fn output_to<W: Write>(
     rt: &HostRuntime,
     path: Option<&str>,
     text: &[u8],

@@ -13,7 +13,7 @@ use xa_sql_log::SqlLog;
 
 /// Makes the log at a path from the lines on standard input. It is made beside its place and moved there whole, so that a crash
 /// leaves nothing there, or all of it. A path at which there is a file is refused, and so is half of a log.
-pub(crate) fn make_log(rt: &HostRuntime, path: &str) -> Result<(), Failure> {
+pub fn make_log(rt: &HostRuntime, path: &str) -> Result<(), Failure> {
     let alloc = rt.alloc();
     refuse_half(rt, path)?;
     refuse_present(rt, path)?;

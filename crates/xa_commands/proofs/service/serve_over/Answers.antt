@@ -7,11 +7,11 @@ use Rattle.xa_tm.specs.StartFaults.{IsOnlyRead, IsToBlame}
 use Rattle.xa_tm.specs.declared.manager.start.StartFault.{StartFault}
 use Rattle.xa_tm.specs.declared.manager.start.StartFault.TheVariants as starts
 use Rattle.xa_files.specs.declared.fault.RunFault.TheVariants as faults
-use Rattle.xatm.specs.Failures.{failure_of_start}
-use Rattle.xatm.specs.Services.{StartsNot}
-use Rattle.xatm.specs.declared.failure.Failure.{Failure}
-use Rattle.xatm.specs.declared.failure.Failure.TheVariants.{Run}
-use Rattle.xatm.proofs.service.serve_over.Goals as goal
+use Rattle.xa_commands.specs.Failures.{failure_of_start}
+use Rattle.xa_commands.specs.Services.{StartsNot}
+use Rattle.xa_commands.specs.declared.failure.Failure.{Failure}
+use Rattle.xa_commands.specs.declared.failure.Failure.TheVariants.{Run}
+use Rattle.xa_commands.proofs.service.serve_over.Goals as goal
 
 -- why no coordinator starts
 why_not : {C : Type 0} (fault : StartFault) (A B : Type 0) → ((let r : Result C StartFault = Err fault in r) ≡ Err starts.Log → A)

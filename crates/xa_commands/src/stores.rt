@@ -18,42 +18,7 @@ use xa_jobs::run_job_file;
 use xa_listing::{explain_log, list_log};
 use xa_log::{DecisionLog, LogFault};
 use xa_restore::{LogLines, restore_log};
-use xa_scenario::{FileFault, read_scenarios, run_scenarios};
 use xa_sql_log::SqlLog;
-
-/// Runs scenarios, each as a process, and gives the log back. A fault that is none of a file is given the place behind the
-/// last one.
-pub(crate) fn run_over<L: DecisionLog + Drop, W: Write>(
-    alloc: Global,
-    texts: &[Vec<u8>],
-    log: L,
-    with_trace: bool,
-    out: &mut W,
-) -> Result<Option<L>, FileFault> {
-    let scenarios = read_scenarios(alloc, texts)?;
-    match run_scenarios(alloc, &scenarios, log, with_trace, out) {
-        Ok(left) => Ok(left),
-        Err(fault) => Err(FileFault {
-            file: texts.len(),
-            fault,
-        }),
-    }
-}
-
-/// The same over files, which are closed then. Tells why the run ended early, or whether the log could be closed.
-pub(crate) fn run_in_files<D: Disk + Drop, W: Write>(
-    alloc: Global,
-    texts: &[Vec<u8>],
-    log: SqlLog<FileStore<D>>,
-    with_trace: bool,
-    out: &mut W,
-) -> Result<Result<(), LogFault>, FileFault> {
-    match run_over(alloc, texts, log, with_trace, out) {
-        Ok(Some(left)) => Ok(close_in_files(left)),
-        Ok(None) => Ok(Ok(())),
-        Err(fault) => Err(fault),
-    }
-}
 
 /// Runs the jobs of a file over a log in files, which is closed then. Tells why the run ended early, or whether the log could be
 /// closed.
@@ -118,7 +83,7 @@ pub(crate) fn is_spent_copy<D: Disk + Drop>(mut copy: SqlLog<FileStore<D>>) -> b
 }
 
 /// Copies the journal of a log into its file, and closes both.
-pub(crate) fn close_in_files<D: Disk + Drop>(log: SqlLog<FileStore<D>>) -> Result<(), LogFault> {
+pub fn close_in_files<D: Disk + Drop>(log: SqlLog<FileStore<D>>) -> Result<(), LogFault> {
     log.close()
 }
 

@@ -1,14 +1,13 @@
-//! Why the program ends with a status other than 0.
+//! Why a command ends with a status other than 0.
 
 ghost use Rattle.std.specs.Prelude.{◌≡◌};
 ghost use Rattle.xa_files.specs.declared.fault.RunFault.TheVariants as Faults;
-ghost use Rattle.xatm.specs.declared.failure.Failure.TheVariants.{Run};
+ghost use Rattle.xa_commands.specs.declared.failure.Failure.TheVariants.{Run};
 
 use std::alloc::{AllocError, AllocFailed};
 use std::io;
 use std::io::ErrorKind;
 use xa_base::Memory;
-use xa_display::ChartFault;
 use xa_files::RunFault;
 use xa_listing::run_fault;
 use xa_log::LogFault;
@@ -16,11 +15,11 @@ use xa_restore::{LineFault, RestoreFault};
 use xa_server::ServeFault;
 use xa_tm::StartFault;
 
-/// Why the program ends early.
-#[derive(Debug, Drop)]
+/// Why a command ends early.
+#[derive(Drop)]
 pub enum Failure {
-    /// The parser refuses the command line.
-    CommandLine(clap::Error),
+    /// The command line is refused, as this text says.
+    CommandLine(String),
     /// The words of the command line can't be read.
     Words,
     /// A file can't be read: its path, and why.
@@ -48,7 +47,7 @@ pub enum Failure {
 impl Failure {
     ghost use Rattle.std.specs.Prelude.{◌≢◌};
     ghost use Rattle.std.specs.IoError.{error_kind};
-    ghost use Rattle.xatm.specs.Failures.{failure_status};
+    ghost use Rattle.xa_commands.specs.Failures.{failure_status};
 
     /// This failure, or want of memory, where that is the cause.
     pub fn caused_by(self, error: &io::Error) -> Failure
@@ -77,11 +76,10 @@ impl Failure {
     /// Prints the text of the failure.
     pub fn print<R: Print + Eprint>(&self, rt: &R) -> io::Result<()> {
         match self {
-            Failure::CommandLine(error) => error.print(rt),
             Failure::Words => eprintln!(rt; "xatm: command line"),
             Failure::Unreadable(text) | Failure::Failed(text) => eprintln!(rt; "xatm: {text}"),
             Failure::Run(fault) => eprintln!(rt; "{fault}"),
-            Failure::Told(_, text) => eprint!(rt; "{text}"),
+            Failure::CommandLine(text) | Failure::Told(_, text) => eprint!(rt; "{text}"),
             Failure::TooLong => eprintln!(rt; "xatm: chart: more than 200 events"),
             Failure::Input => eprintln!(rt; "xatm: input"),
             Failure::Name => eprintln!(rt; "xatm: name: 1 to 16 letters, digits, _ and -"),
@@ -103,17 +101,8 @@ impl From<RunFault> for Failure {
     }
 }
 
-impl From<ChartFault> for Failure {
-    fn from(fault: ChartFault) -> Failure {
-        match fault {
-            ChartFault::Run(fault) => Failure::Run(fault),
-            ChartFault::TooLong => Failure::TooLong,
-        }
-    }
-}
-
 impl From<StartFault> for Failure {
-    ghost use Rattle.xatm.specs.Failures.{failure_of_start};
+    ghost use Rattle.xa_commands.specs.Failures.{failure_of_start};
 
     ghost from_gives = { λ fault failure. failure ≡ failure_of_start fault };
 
@@ -126,7 +115,7 @@ impl From<StartFault> for Failure {
 }
 
 impl From<ServeFault> for Failure {
-    ghost use Rattle.xatm.specs.Failures.{failure_of_service};
+    ghost use Rattle.xa_commands.specs.Failures.{failure_of_service};
 
     ghost from_gives = { λ fault failure. failure ≡ failure_of_service fault };
 
@@ -179,14 +168,5 @@ impl From<Memory> for Failure {
 
     fn from(_error: Memory) -> Failure {
         Failure::Run(RunFault::Memory)
-    }
-}
-
-impl From<clap::Error> for Failure {
-    fn from(error: clap::Error) -> Failure {
-        match error.kind() {
-            clap::error::ErrorKind::OutOfMemory => Failure::Run(RunFault::Memory),
-            _ => Failure::CommandLine(error),
-        }
     }
 }

@@ -15,8 +15,8 @@ use Rattle.xa_tm.specs.Begins.{BeginsWith}
 use Rattle.xa_tm.specs.Calls.{log_in}
 use Rattle.xa_tm.specs.Started.{IsStartedOver}
 use Rattle.xa_tm.specs.StartFaults.{IsOnlyRead, IsToBlame}
-use Rattle.xatm.specs.declared.failure.Failure.{Failure}
-use Rattle.xatm.specs.declared.failure.Failure.TheVariants.{Run}
+use Rattle.xa_commands.specs.declared.failure.Failure.{Failure}
+use Rattle.xa_commands.specs.declared.failure.Failure.TheVariants.{Run}
 
 module _ {L : Type 0} (moment : L → Moment) (name : List ℕ) (threads rms : ℕ) (handed : Moment) where
   -- A coordinator that started for so many threads and resource managers, over the log that was handed in.

@@ -1,16 +1,19 @@
-//! What is done for a driver, over a log in any store and over one in files.
+//! What is done for a driver, over a log in any store, over one in files, and over the log at a path.
 
 ghost use Rattle.std.specs.Prelude.{◌≡◌, IfErr, OnOk};
 ghost use Rattle.std.specs.Io.Buffered.{reader_remaining};
-ghost use Rattle.xatm.specs.Failures.{failure_status};
-ghost use Rattle.xatm.specs.Services.{HasFailed, HasServed};
+ghost use Rattle.xa_commands.specs.Failures.{failure_status};
+ghost use Rattle.xa_commands.specs.Services.{HasFailed, HasServed};
 
 use crate::failure::Failure;
+use crate::log_names::{check_rm_names, claim_log, introduce, manager_named};
+use crate::logs::{broken_off, leave, open_log};
 use crate::stores::close_in_files;
 use sqlite::FileStore;
 use sqlite_disk::Disk;
 use std::alloc::Global;
-use std::io::{BufReader, Read, Write};
+use std::io::{self, BufReader, BufWriter, Input, Read, Write};
+use xa_files::RunFault;
 use xa_log::{DecisionLog, LogFault};
 use xa_names::ManagerName;
 use xa_server::Server;
@@ -40,7 +43,7 @@ pub(crate) fn serve_over<L: DecisionLog + Drop, R: Read, W: Write>(
 }
 
 /// The same over files, which are closed then. Tells why the session ended early, or whether the log could be closed.
-pub(crate) fn serve_in_files<D: Disk + Drop, R: Read, W: Write>(
+pub fn serve_in_files<D: Disk + Drop, R: Read, W: Write>(
     alloc: Global,
     name: &ManagerName,
     threads: u32,
@@ -61,5 +64,52 @@ pub(crate) fn serve_in_files<D: Disk + Drop, R: Read, W: Write>(
     match serve_over(alloc, name, threads, rms, log, input, out) {
         Ok(log) => Ok(close_in_files(log)),
         Err(failure) => Err(failure),
+    }
+}
+
+/// Serves the driver behind standard input and output, of so many threads and resource managers, over the log at a path; as the
+/// manager of a name, where one is given, and with the names of the resource managers, where there are some. They stand in what the
+/// driver is told first.
+pub fn serve(
+    rt: &HostRuntime,
+    name: Option<&str>,
+    rm_names: &[&str],
+    log: &str,
+    threads: u32,
+    rms: u32,
+) -> Result<(), Failure> {
+    check_rm_names(rm_names, rms)?;
+    let name = manager_named(name)?;
+    claim_log(rt, log, &name, rm_names)?;
+    // Nothing is buffered: it goes out in one text.
+    introduce(rt.alloc(), &name, rm_names, &mut io::writer(rt))?;
+    serve_at(rt, &name, log, threads, rms)
+}
+
+/// Serves that driver over the log at a path, which is this manager's.
+fn serve_at(
+    rt: &HostRuntime,
+    name: &ManagerName,
+    log: &str,
+    threads: u32,
+    rms: u32,
+) -> Result<(), Failure> {
+    let alloc = rt.alloc();
+    let mut input = BufReader::new(alloc, rt.reader()).map_err(|error| Failure::Input.caused_by(
+        &error,
+    ))?;
+    let mut out = BufWriter::new(alloc, io::writer(rt)).map_err(|error| Failure::Run(
+        RunFault::Output,
+    ).caused_by(&error))?;
+    let opened = open_log(rt, log)?;
+    let served = serve_in_files(alloc, name, threads, rms, opened, &mut input, &mut out);
+    let flushed = out.flush();
+    match served {
+        Ok(closed) => {
+            let left = leave(rt, log, closed);
+            flushed.map_err(|_| Failure::Run(RunFault::Output))?;
+            left
+        }
+        Err(failure) => Err(broken_off(rt, log, failure)),
     }
 }

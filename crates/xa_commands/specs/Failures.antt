@@ -1,18 +1,18 @@
 -- The statuses that the program ends with.
 use Rattle.std.specs.Prelude.{ℕ}
 use Rattle.xa_files.specs.Faults.{fault_status}
-use Rattle.xatm.specs.declared.failure.Failure.{Failure}
+use Rattle.xa_commands.specs.declared.failure.Failure.{Failure}
 use Rattle.xa_server.specs.declared.serving.ServeFault.{ServeFault}
 use Rattle.xa_server.specs.declared.serving.ServeFault.TheVariants as services
 use Rattle.xa_files.specs.declared.fault.RunFault.TheVariants as faults
 use Rattle.xa_tm.specs.declared.manager.start.StartFault.{StartFault}
 use Rattle.xa_tm.specs.declared.manager.start.StartFault.TheVariants as starts
-use Rattle.xatm.specs.declared.failure.Failure.TheVariants.{CommandLine, Words, Unreadable, Run, Told, Failed, TooLong, Input, Name, RmNames, Refused, Line}
+use Rattle.xa_commands.specs.declared.failure.Failure.TheVariants.{CommandLine, Words, Unreadable, Run, Told, Failed, TooLong, Input, Name, RmNames, Refused, Line}
 
 -- 3 where the command line is refused, 1 where a file can't be read or a line of a log is wrong, 2 where a run is too long for a picture, the
 -- requests of a driver can't be read, or the log is refused or fails, else the status of the fault
 abbrev pub failure_status : Failure → ℕ
-failure_status (CommandLine error) = 3
+failure_status (CommandLine text) = 3
 failure_status Words = 3
 failure_status Name = 3
 failure_status RmNames = 3

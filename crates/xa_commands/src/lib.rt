@@ -1,0 +1,30 @@
+//! What commands of the program `xatm` do: with files, with a decision log in a file, and for a driver over one; and why a command
+//! ends early.
+//!
+//! [`serve`] serves a driver, [`list`] and [`list_as_json`] show a log, [`make_log`] makes one from lines, and [`run_threads`] runs the
+//! jobs of a file. What runs scenarios stands in the program itself, since it rests on more.
+//!
+//! "XA" in these pages is X/Open CAE Specification C193, "Distributed Transaction Processing: The XA Specification"
+//! (1991).
+#![tactic(auto)]
+
+mod copies;
+mod failure;
+mod files;
+mod jobs;
+mod lists;
+mod log_names;
+mod log_reasons;
+mod logs;
+mod made_logs;
+mod service;
+mod stores;
+
+pub use failure::Failure;
+pub use files::{Source, output_to, text_of, texts_of, told_path};
+pub use jobs::run_threads;
+pub use lists::{list, list_as_json};
+pub use logs::{HostLog, broken_off, leave, open_unnamed};
+pub use made_logs::make_log;
+pub use service::{serve, serve_in_files};
+pub use stores::close_in_files;
