@@ -10,7 +10,7 @@ use xa_log::{DecisionLog, LogFault};
 use xa_sql_log::SqlLog;
 
 /// A call that changes the log.
-#[derive(Clone, Copy, Debug, PartialEq, Eq)]
+#[derive(Clone, Copy)]
 pub enum Change {
     Commit,
     Done,
