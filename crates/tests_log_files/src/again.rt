@@ -1,5 +1,6 @@
 //! Two runs over one log in a file: the second is of the next incarnation.
 
+use crate::texts::text_of;
 use std::alloc::Global;
 use std::fs;
 use std::test::Fail;
@@ -40,11 +41,20 @@ const FATES: [&str; 2] = [
 ",
 ];
 
+/// What a run over a log prints is added to the bytes.
+fn print_run<L: DecisionLog + Drop>(
+    alloc: Global,
+    log: L,
+    out: &mut Vec<u8>,
+) -> Result<(), RunFault> {
+    run_scenario(alloc, TWO_PHASE_COMMIT.as_bytes(), log, false, out)
+}
+
 /// What a run over a log prints.
 fn run_over<L: DecisionLog + Drop>(alloc: Global, log: L) -> Result<String, RunFault> {
     let mut out = Vec::new(alloc);
-    run_scenario(alloc, TWO_PHASE_COMMIT.as_bytes(), log, false, &mut out)?;
-    String::from_utf8(out).map_err(|_| RunFault::Output)
+    print_run(alloc, log, &mut out)?;
+    text_of(out)
 }
 
 /// A run over a log, of which what it prints is kept here.

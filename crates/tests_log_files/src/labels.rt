@@ -65,22 +65,35 @@ fn begun(rt: &HostRuntime, journal: &[u8]) -> Result<Vec<u8>, Fail> {
     Ok(begun)
 }
 
+/// Whether the journal of a log that was dropped is half of it: beside its file, beside an empty one, alone, and beside its file
+/// again.
+fn halves_of_dropped(rt: &HostRuntime) -> Result<[bool; 4], Fail> {
+    let (held, noted) = (fs::read(rt, PATH)?, fs::read(rt, JOURNAL)?);
+    let (held, noted) = (held.as_slice(), noted.as_slice());
+    Ok([
+        is_half(rt, Some(held), noted)?,
+        is_half(rt, Some(b""), noted)?,
+        is_half(rt, None, noted)?,
+        is_half(rt, Some(held), noted)?,
+    ])
+}
+
+/// Whether the journal of a log that was closed is half of it: alone, and as a kill leaves it while the file is made, of which the
+/// first byte alone is there.
+fn halves_of_closed(rt: &HostRuntime) -> Result<[bool; 2], Fail> {
+    look_at(rt, PATH)?;
+    let alone = is_half(rt, None, fs::read(rt, JOURNAL)?.as_slice())?;
+    let begun = begun(rt, fs::read(rt, JOURNAL)?.as_slice())?;
+    Ok([alone, is_half(rt, Some(b"\0"), begun.as_slice())?])
+}
+
 #[test]
 fn half_a_log_is_told_from_a_new_one(rt: HostRuntime) -> Result<(), Fail> {
     make_folder(&rt, "halves")?;
     assert!(rt; !SqlLog::is_half(&rt, PATH)?);
-    assert_eq!(rt; bump_at(&rt, PATH), Ok(1));
-    let (held, noted) = (fs::read(&rt, PATH)?, fs::read(&rt, JOURNAL)?);
-    assert!(rt; !is_half(&rt, Some(held.as_slice()), noted.as_slice())?);
-    // The journal of a log that was dropped, and that of one that was closed.
-    assert!(rt; is_half(&rt, Some(b""), noted.as_slice())?);
-    assert!(rt; is_half(&rt, None, noted.as_slice())?);
-    assert!(rt; !is_half(&rt, Some(held.as_slice()), noted.as_slice())?);
-    look_at(&rt, PATH)?;
-    assert!(rt; is_half(&rt, None, fs::read(&rt, JOURNAL)?.as_slice())?);
-    // A kill while the file is made: its first byte alone is there.
-    let begun = begun(&rt, fs::read(&rt, JOURNAL)?.as_slice())?;
-    assert!(rt; !is_half(&rt, Some(b"\0"), begun.as_slice())?);
+    assert!(rt; bump_at(&rt, PATH) == Ok(1));
+    assert!(rt; halves_of_dropped(&rt)? == [false, true, true, false]);
+    assert!(rt; halves_of_closed(&rt)? == [true, false]);
     fs::remove_dir_all(&rt, "halves")?;
     Ok(())
 }

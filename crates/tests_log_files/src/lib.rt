@@ -12,3 +12,5 @@ mod paths;
 mod processes;
 #[cfg(test)]
 mod starts;
+#[cfg(test)]
+mod texts;

@@ -136,11 +136,17 @@ fn bytes_at(rt: &HostRuntime, path: &str) -> Result<Option<Vec<u8>>, Fail> {
     Ok(Some(fs::read(rt, path)?))
 }
 
+/// The bytes of a file and of its journal, where they are there.
+fn both_at(rt: &HostRuntime, path: &str, journal: &str) -> Result<[Option<Vec<u8>>; 2], Fail> {
+    let file = bytes_at(rt, path)?;
+    Ok([file, bytes_at(rt, journal)?])
+}
+
 /// What a look answers, and whether it leaves the file and its journal as they were, or not there.
 fn look_in_vain(rt: &HostRuntime, path: &str, journal: &str) -> Result<Option<LogFault>, Fail> {
-    let (file, noted) = (bytes_at(rt, path)?, bytes_at(rt, journal)?);
+    let before = both_at(rt, path, journal)?;
     let fault = look_at(rt, path).err();
-    if bytes_at(rt, path)? != file || bytes_at(rt, journal)? != noted {
+    if both_at(rt, path, journal)? != before {
         return Err(Fail::from("a look changes what is there"));
     }
     Ok(fault)
@@ -151,25 +157,29 @@ fn a_look_makes_no_log(rt: HostRuntime) -> Result<(), Fail> {
     make_folder(&rt, "looked_at")?;
     let path = "looked_at/log.db";
     let journal = "looked_at/log.db-wal";
-    assert_eq!(rt; look_in_vain(&rt, path, journal)?, Some(LogFault::Store));
+    assert!(rt; look_in_vain(&rt, path, journal)? == Some(LogFault::Store));
     fs::write(&rt, path, b"")?;
-    assert_eq!(rt; look_in_vain(&rt, path, journal)?, Some(LogFault::Version));
+    assert!(rt; look_in_vain(&rt, path, journal)? == Some(LogFault::Version));
     run_at(&rt, path, "CREATE TABLE other (a INTEGER)")?;
-    assert_eq!(rt; look_in_vain(&rt, path, journal)?, Some(LogFault::Version));
+    assert!(rt; look_in_vain(&rt, path, journal)? == Some(LogFault::Version));
     fs::remove_dir_all(&rt, "looked_at")?;
     Ok(())
+}
+
+/// What a copy of the file of a log answers to `bump`.
+fn bump_of_copy(rt: &HostRuntime, path: &str, copy: &str) -> Result<u64, Fail> {
+    fs::write(rt, copy, fs::read(rt, path)?.as_slice())?;
+    look_at(rt, copy)?;
+    Ok(bump_at(rt, copy)?)
 }
 
 #[test]
 fn a_log_that_was_closed_is_one_file(rt: HostRuntime) -> Result<(), Fail> {
     make_folder(&rt, "closed")?;
     let path = "closed/log.db";
-    assert_eq!(rt; bump_at(&rt, path), Ok(1));
+    assert!(rt; bump_at(&rt, path) == Ok(1));
     gather_at(&rt, path)?;
-    let copy = "closed/copy.db";
-    fs::write(&rt, copy, fs::read(&rt, path)?.as_slice())?;
-    look_at(&rt, copy)?;
-    assert_eq!(rt; bump_at(&rt, copy), Ok(2));
+    assert!(rt; bump_of_copy(&rt, path, "closed/copy.db")? == 2);
     fs::remove_dir_all(&rt, "closed")?;
     Ok(())
 }

@@ -1,5 +1,6 @@
 //! Several scenarios as processes, over one log in a file.
 
+use crate::texts::{text_of, texts_of};
 use std::alloc::Global;
 use std::fs;
 use std::test::Fail;
@@ -98,15 +99,17 @@ const FATES: &str = "\
 7:00000000000000010000000000000002:0000000000000000 rolled-back
 ";
 
-/// The texts in vectors.
-fn texts_of(alloc: Global, texts: &[&str]) -> Result<Vec<Vec<u8>>, RunFault> {
-    let mut list = Vec::new(alloc);
-    for text in texts {
-        let mut bytes = Vec::new(alloc);
-        bytes.extend_from_slice(text.as_bytes())?;
-        list.push(bytes)?;
+/// The scenarios of the texts run over a log, and what they print is added to the bytes. Tells the fault, where there is one.
+fn print_runs<L: DecisionLog + Drop>(
+    alloc: Global,
+    texts: &[Vec<u8>],
+    log: L,
+    out: &mut Vec<u8>,
+) -> Option<RunFault> {
+    match read_scenarios(alloc, texts) {
+        Ok(scenarios) => run_scenarios(alloc, &scenarios, log, true, out).err(),
+        Err(fault) => Some(fault.fault),
     }
-    Ok(list)
 }
 
 /// What runs of the texts print, and the fault, where there is one.
@@ -117,11 +120,8 @@ fn run_all<L: DecisionLog + Drop>(
 ) -> Result<(String, Option<RunFault>), RunFault> {
     let texts = texts_of(alloc, texts)?;
     let mut out = Vec::new(alloc);
-    let fault = match read_scenarios(alloc, &texts) {
-        Ok(scenarios) => run_scenarios(alloc, &scenarios, log, true, &mut out).err(),
-        Err(fault) => Some(fault.fault),
-    };
-    Ok((String::from_utf8(out).map_err(|_| RunFault::Output)?, fault))
+    let fault = print_runs(alloc, &texts, log, &mut out);
+    Ok((text_of(out)?, fault))
 }
 
 /// Runs of both texts over a log, of which what they print is kept here.

@@ -71,8 +71,21 @@ fn answers_at(rt: &HostRuntime, path: &str) -> Result<Result<Answers, NewFault>,
     start.answers.ok_or(LogFault::Store)
 }
 
-/// What a system that starts over a log of version 1 answers, in which this statement has run, and what its tables then hold. The
-/// log is in a new folder of the host.
+/// What a system answers that starts over a log of version 1 at a path, in which this statement has run, and what its tables then
+/// hold.
+fn start_at(
+    rt: &HostRuntime,
+    path: &str,
+    sql: &str,
+) -> Result<(Result<Answers, NewFault>, Seen), LogFault> {
+    run_at(rt, path, VERSION_1)?;
+    run_at(rt, path, sql)?;
+    let answers = answers_at(rt, path)?;
+    let seen = seen_at(rt, path)?;
+    Ok((answers, seen))
+}
+
+/// The same in a new folder of the host.
 fn start_in(
     rt: &HostRuntime,
     folder: &str,
@@ -80,12 +93,9 @@ fn start_in(
 ) -> Result<(Result<Answers, NewFault>, Seen), Fail> {
     make_folder(rt, folder)?;
     let path = format!(in rt.alloc(); "{folder}/log.db")?;
-    run_at(rt, path.as_str(), VERSION_1)?;
-    run_at(rt, path.as_str(), sql)?;
-    let answers = answers_at(rt, path.as_str())?;
-    let seen = seen_at(rt, path.as_str())?;
+    let started = start_at(rt, path.as_str(), sql)?;
     fs::remove_dir_all(rt, folder)?;
-    Ok((answers, seen))
+    Ok(started)
 }
 
 #[test]
@@ -111,6 +121,18 @@ fn no_system_starts_over_a_row_of_its_own_incarnation(rt: HostRuntime) -> Result
     Ok(())
 }
 
+/// Whether the transaction that was begun is of the second incarnation. Of those of the first, the first isn't over, and the second
+/// unknown.
+fn has_first_alone(answers: &Answers) -> bool {
+    let next = Gtrid {
+        incarnation: 2,
+        sequence: 1,
+    };
+    matches!(answers.begun, Reply::Begun(gtrid) if gtrid == next)
+        && matches!(answers.first, Reply::Refused(Refusal::Busy))
+        && matches!(answers.second, Reply::Refused(Refusal::UnknownTransaction))
+}
+
 /// Such a row has no participants, and so waits for an answer that can't come.
 #[test]
 fn a_row_of_version_1_stays(rt: HostRuntime) -> Result<(), Fail> {
@@ -118,13 +140,7 @@ fn a_row_of_version_1_stays(rt: HostRuntime) -> Result<(), Fail> {
     let Ok(answers) = answers else {
         return Err(Fail::from("no system starts"));
     };
-    let next = Gtrid {
-        incarnation: 2,
-        sequence: 1,
-    };
-    assert!(rt; matches!(answers.begun, Reply::Begun(gtrid) if gtrid == next));
-    assert!(rt; matches!(answers.first, Reply::Refused(Refusal::Busy)));
-    assert!(rt; matches!(answers.second, Reply::Refused(Refusal::UnknownTransaction)));
+    assert!(rt; has_first_alone(&answers));
     assert_eq!(rt;
         seen,
         Seen {
