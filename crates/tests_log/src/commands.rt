@@ -83,7 +83,7 @@ pub(crate) fn contains<L: DecisionLog>(
     log.contains(g)
 }
 
-fn participants<L: DecisionLog>(
+pub(crate) fn participants<L: DecisionLog>(
     log: &mut L,
     refused: &mut u64,
     g: Gtrid,
@@ -156,20 +156,68 @@ pub(crate) fn rows<L: DecisionLog>(log: &mut L, refused: &mut u64) -> Result<Log
     log.rows()
 }
 
+/// Whether the participants of a transaction are these.
+fn has_participants<L: DecisionLog>(
+    log: &mut L,
+    refused: &mut u64,
+    g: Gtrid,
+    expected: &[Branch],
+) -> Result<bool, LogFault>
+    requires { FitsRow g }
+{
+    Ok(participants(log, refused, g)?.as_slice() == expected)
+}
+
+/// Whether a branch has this heuristic end, or none.
+fn has_ended<L: DecisionLog>(
+    log: &mut L,
+    refused: &mut u64,
+    b: Branch,
+    expected: Option<How>,
+) -> Result<bool, LogFault>
+    requires { FitsRow b.gtrid }
+{
+    Ok(heuristic_of(log, refused, b)? == expected)
+}
+
+/// Whether a log has these decisions, participants and heuristic ends.
+pub(crate) fn has_rows<L: DecisionLog>(
+    log: &mut L,
+    refused: &mut u64,
+    decisions: &[Gtrid],
+    participants: &[Branch],
+    heuristics: &[(Branch, How)],
+) -> Result<bool, LogFault> {
+    let rows = rows(log, refused)?;
+    Ok(
+        rows.decisions.as_slice() == decisions
+            && rows.participants.as_slice() == participants
+            && rows.heuristics.as_slice() == heuristics,
+    )
+}
+
 /// Runs each kind of call at an empty log of no incarnation.
 pub(crate) fn run_each_call<L: DecisionLog>(rt: &impl Abort, log: &mut L) -> Result<(), Fail> {
     let refused = &mut 0;
     run_decisions(rt, log, refused)?;
     run_heuristics(rt, log, refused)?;
-    assert_eq!(rt; bump(log, refused)?, 1);
-    assert_eq!(rt; bump(log, refused)?, 2);
-    let rows = rows(log, refused)?;
-    assert!(rt; rows.decisions.as_slice() == [FIRST, THIRD].as_slice());
-    assert!(rt; rows.participants.as_slice() == [FIRST_A, FIRST_B].as_slice());
-    assert!(rt;
-        rows.heuristics.as_slice() == [(FIRST_B, How::Rb), (SECOND_A, How::Haz)].as_slice()
-    );
-    assert_eq!(rt; log.faults(), *refused);
+    raise_twice(rt, log, refused)?;
+    let decisions = [FIRST, THIRD];
+    let participants = [FIRST_A, FIRST_B];
+    let heuristics = [(FIRST_B, How::Rb), (SECOND_A, How::Haz)];
+    assert!(rt; has_rows(log, refused, &decisions, &participants, &heuristics)?);
+    assert!(rt; log.faults() == *refused);
+    Ok(())
+}
+
+/// The incarnation is raised, and raised again.
+fn raise_twice<L: DecisionLog>(
+    rt: &impl Abort,
+    log: &mut L,
+    refused: &mut u64,
+) -> Result<(), Fail> {
+    assert!(rt; bump(log, refused)? == 1);
+    assert!(rt; bump(log, refused)? == 2);
     Ok(())
 }
 
@@ -180,20 +228,42 @@ fn run_decisions<L: DecisionLog>(
     refused: &mut u64,
 ) -> Result<(), Fail> {
     assert!(rt; !contains(log, refused, FIRST)?);
-    assert_eq!(rt; commit(log, refused, THIRD, &[])?, Logged::New);
-    assert_eq!(rt; commit(log, refused, SECOND, &[SECOND_A])?, Logged::New);
-    assert_eq!(rt;
-        commit(log, refused, FIRST, &[FIRST_B, FIRST_A])?,
-        Logged::New
-    );
-    assert_eq!(rt; commit(log, refused, FIRST, &[])?, Logged::Already);
+    commit_three(rt, log, refused)?;
+    find_three(rt, log, refused)?;
+    take_second(rt, log, refused)
+}
+
+/// Leaves the decisions FIRST, SECOND and THIRD.
+fn commit_three<L: DecisionLog>(
+    rt: &impl Abort,
+    log: &mut L,
+    refused: &mut u64,
+) -> Result<(), Fail> {
+    assert!(rt; commit(log, refused, THIRD, &[])? == Logged::New);
+    assert!(rt; commit(log, refused, SECOND, &[SECOND_A])? == Logged::New);
+    assert!(rt; commit(log, refused, FIRST, &[FIRST_B, FIRST_A])? == Logged::New);
+    Ok(())
+}
+
+/// The decisions are there, with their participants. FIRST isn't committed again.
+fn find_three<L: DecisionLog>(rt: &impl Abort, log: &mut L, refused: &mut u64) -> Result<(), Fail> {
+    assert!(rt; commit(log, refused, FIRST, &[])? == Logged::Already);
     assert!(rt; contains(log, refused, FIRST)? && contains(log, refused, SECOND)?);
-    assert!(rt; participants(log, refused, FIRST)?.as_slice() == [FIRST_A, FIRST_B].as_slice());
-    assert!(rt; participants(log, refused, THIRD)?.is_empty());
+    assert!(rt; has_participants(log, refused, FIRST, &[FIRST_A, FIRST_B])?);
+    assert!(rt; has_participants(log, refused, THIRD, &[])?);
+    Ok(())
+}
+
+/// SECOND is taken away, with its participant. It isn't there to be taken away again.
+fn take_second<L: DecisionLog>(
+    rt: &impl Abort,
+    log: &mut L,
+    refused: &mut u64,
+) -> Result<(), Fail> {
     assert!(rt; done(log, refused, SECOND)?);
     assert!(rt; !done(log, refused, SECOND)?);
     assert!(rt; !contains(log, refused, SECOND)?);
-    assert!(rt; participants(log, refused, SECOND)?.is_empty());
+    assert!(rt; has_participants(log, refused, SECOND, &[])?);
     Ok(())
 }
 
@@ -203,12 +273,17 @@ fn run_heuristics<L: DecisionLog>(
     log: &mut L,
     refused: &mut u64,
 ) -> Result<(), Fail> {
-    assert_eq!(rt; heuristic_of(log, refused, SECOND_A)?, None);
+    assert!(rt; has_ended(log, refused, SECOND_A, None)?);
+    note_two(log, refused)?;
+    assert!(rt; has_ended(log, refused, SECOND_A, Some(How::Haz))?);
+    assert!(rt; has_ended(log, refused, FIRST_B, Some(How::Rb))?);
+    assert!(rt; has_ended(log, refused, FIRST_A, None)?);
+    Ok(())
+}
+
+/// Notes the heuristic ends of SECOND_A and FIRST_B, and of the second another, which isn't kept.
+fn note_two<L: DecisionLog>(log: &mut L, refused: &mut u64) -> Result<(), LogFault> {
     note_heuristic(log, refused, SECOND_A, How::Haz)?;
     note_heuristic(log, refused, FIRST_B, How::Rb)?;
-    note_heuristic(log, refused, FIRST_B, How::Com)?;
-    assert_eq!(rt; heuristic_of(log, refused, SECOND_A)?, Some(How::Haz));
-    assert_eq!(rt; heuristic_of(log, refused, FIRST_B)?, Some(How::Rb));
-    assert_eq!(rt; heuristic_of(log, refused, FIRST_A)?, None);
-    Ok(())
+    note_heuristic(log, refused, FIRST_B, How::Com)
 }

@@ -62,8 +62,8 @@ fn fails_at_one_kind(rt: HostRuntime) {
         for call in KINDS {
             let failed = failure(&mut log, call) == Some(LogFault::Store);
             let again = failure(&mut log, call) == Some(LogFault::Store);
-            assert_eq!(rt; failed && again, call == kind);
-            assert_eq!(rt; failed || again, call == kind);
+            let fails = call == kind;
+            assert!(rt; failed == fails && again == fails);
         }
     }
 }
@@ -80,7 +80,7 @@ fn fails_at_the_second_call(rt: HostRuntime) {
         for turn in [1, 2, 3] {
             for call in KINDS {
                 let failed = failure(&mut log, call) == Some(LogFault::Store);
-                assert_eq!(rt; failed, call == kind && turn == 2);
+                assert!(rt; failed == (call == kind && turn == 2));
             }
         }
     }
@@ -92,22 +92,22 @@ fn counts_faults(rt: HostRuntime) {
         kind: LogCall::Bump,
     };
     let mut log = FailLog::new(MemLog::new(rt.alloc()), plan);
-    assert_eq!(rt; log.faults(), 0);
-    assert_eq!(rt; bump(&mut log, &mut 0), Err(LogFault::Store));
-    assert_eq!(rt; contains(&mut log, &mut 0, FIRST), Ok(false));
-    assert_eq!(rt; bump(&mut log, &mut 0), Err(LogFault::Store));
-    assert_eq!(rt; log.faults(), 2);
+    assert!(rt; log.faults() == 0);
+    assert!(rt; bump(&mut log, &mut 0) == Err(LogFault::Store));
+    assert!(rt; contains(&mut log, &mut 0, FIRST) == Ok(false));
+    assert!(rt; bump(&mut log, &mut 0) == Err(LogFault::Store));
+    assert!(rt; log.faults() == 2);
 }
 
 #[test]
 fn commits_or_not(rt: HostRuntime) -> Result<(), Fail> {
     for made in [false, true] {
         let mut log = fails_once(rt.alloc(), LogCall::Commit, made)?;
-        assert_eq!(rt; commit(&mut log, &mut 0, SECOND, &[]), Err(LogFault::Store));
-        assert_eq!(rt; contains(&mut log, &mut 0, SECOND), Ok(made));
-        assert_eq!(rt; contains(&mut log, &mut 0, FIRST), Ok(true));
+        assert!(rt; commit(&mut log, &mut 0, SECOND, &[]) == Err(LogFault::Store));
+        assert!(rt; contains(&mut log, &mut 0, SECOND) == Ok(made));
+        assert!(rt; contains(&mut log, &mut 0, FIRST) == Ok(true));
         let logged = if made { Logged::Already } else { Logged::New };
-        assert_eq!(rt; commit(&mut log, &mut 0, SECOND, &[]), Ok(logged));
+        assert!(rt; commit(&mut log, &mut 0, SECOND, &[]) == Ok(logged));
     }
     Ok(())
 }
@@ -116,9 +116,9 @@ fn commits_or_not(rt: HostRuntime) -> Result<(), Fail> {
 fn is_done_or_not(rt: HostRuntime) -> Result<(), Fail> {
     for made in [false, true] {
         let mut log = fails_once(rt.alloc(), LogCall::Done, made)?;
-        assert_eq!(rt; done(&mut log, &mut 0, FIRST), Err(LogFault::Store));
-        assert_eq!(rt; contains(&mut log, &mut 0, FIRST), Ok(!made));
-        assert_eq!(rt; done(&mut log, &mut 0, FIRST), Ok(!made));
+        assert!(rt; done(&mut log, &mut 0, FIRST) == Err(LogFault::Store));
+        assert!(rt; contains(&mut log, &mut 0, FIRST) == Ok(!made));
+        assert!(rt; done(&mut log, &mut 0, FIRST) == Ok(!made));
     }
     Ok(())
 }
@@ -127,17 +127,11 @@ fn is_done_or_not(rt: HostRuntime) -> Result<(), Fail> {
 fn notes_or_not(rt: HostRuntime) -> Result<(), Fail> {
     for made in [false, true] {
         let mut log = fails_once(rt.alloc(), LogCall::NoteHeuristic, made)?;
-        assert_eq!(rt;
-            note_heuristic(&mut log, &mut 0, FIRST_A, How::Mix),
-            Err(LogFault::Store)
-        );
-        assert_eq!(rt;
-            heuristic_of(&mut log, &mut 0, FIRST_A),
-            Ok(made.then_some(How::Mix))
-        );
-        assert_eq!(rt; note_heuristic(&mut log, &mut 0, FIRST_A, How::Com), Ok(()));
+        assert!(rt; note_heuristic(&mut log, &mut 0, FIRST_A, How::Mix) == Err(LogFault::Store));
+        assert!(rt; heuristic_of(&mut log, &mut 0, FIRST_A) == Ok(made.then_some(How::Mix)));
+        assert!(rt; note_heuristic(&mut log, &mut 0, FIRST_A, How::Com) == Ok(()));
         let how = if made { How::Mix } else { How::Com };
-        assert_eq!(rt; heuristic_of(&mut log, &mut 0, FIRST_A), Ok(Some(how)));
+        assert!(rt; heuristic_of(&mut log, &mut 0, FIRST_A) == Ok(Some(how)));
     }
     Ok(())
 }
@@ -146,8 +140,8 @@ fn notes_or_not(rt: HostRuntime) -> Result<(), Fail> {
 fn bumps_or_not(rt: HostRuntime) -> Result<(), Fail> {
     for made in [false, true] {
         let mut log = fails_once(rt.alloc(), LogCall::Bump, made)?;
-        assert_eq!(rt; bump(&mut log, &mut 0), Err(LogFault::Store));
-        assert_eq!(rt; bump(&mut log, &mut 0), Ok(if made { 2 } else { 1 }));
+        assert!(rt; bump(&mut log, &mut 0) == Err(LogFault::Store));
+        assert!(rt; bump(&mut log, &mut 0) == Ok(if made { 2 } else { 1 }));
     }
     Ok(())
 }

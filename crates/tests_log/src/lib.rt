@@ -21,6 +21,8 @@ mod rows;
 #[cfg(test)]
 mod stops;
 #[cfg(test)]
+mod systems;
+#[cfg(test)]
 mod tables;
 #[cfg(test)]
 mod versions;

@@ -5,7 +5,7 @@ ghost use Rattle.std.specs.List.{AllByRecursion};
 ghost use Rattle.xa_log.specs.Contract.{FitsRow};
 
 use crate::commands::{
-    FIRST, FIRST_A, FIRST_B, SECOND, SECOND_A, THIRD, commit, contains, rows, was_refused,
+    FIRST, FIRST_A, FIRST_B, SECOND, SECOND_A, THIRD, commit, contains, has_rows, was_refused,
 };
 use crate::over_files::{Crashes, OverLog, over_new_log};
 use std::alloc::Global;
@@ -78,36 +78,51 @@ fn done_all<L: DecisionLog>(
     log.done_all(gtrids)
 }
 
+/// Whether a log answers so to the list of four.
+fn writes_four<L: DecisionLog>(
+    log: &mut L,
+    refused: &mut u64,
+    alloc: Global,
+    expected: &[Logged],
+) -> Result<bool, LogFault> {
+    Ok(write_four(log, refused, alloc)?.as_slice() == expected)
+}
+
 /// Takes rows away at a log that has FIRST, SECOND and THIRD: of FIRST, which is named twice, and of THIRD; none; and the
 /// same again.
 fn take_lists<L: DecisionLog>(rt: &impl Abort, log: &mut L, refused: &mut u64) -> Result<(), Fail> {
     let gtrids = [FIRST, THIRD, FIRST];
     done_all(log, refused, &gtrids)?;
-    let left = rows(log, refused)?;
-    assert!(rt; left.decisions.as_slice() == [SECOND].as_slice());
-    assert!(rt; left.participants.as_slice() == [SECOND_A].as_slice());
+    assert!(rt; has_rows(log, refused, &[SECOND], &[SECOND_A], &[])?);
     done_all(log, refused, &[])?;
     done_all(log, refused, &gtrids)?;
     assert!(rt; contains(log, refused, SECOND)?);
     Ok(())
 }
 
-/// Writes lists at an empty log.
+/// Writes lists at a log that has SECOND: one of four, the same again, and an empty one.
+fn write_three<L: DecisionLog>(
+    rt: &impl Abort,
+    log: &mut L,
+    refused: &mut u64,
+    alloc: Global,
+) -> Result<(), Fail> {
+    let expected = [Logged::New, Logged::Already, Logged::Already, Logged::New];
+    assert!(rt; writes_four(log, refused, alloc, &expected)?);
+    let (decisions, participants) = ([FIRST, SECOND, THIRD], [FIRST_A, SECOND_A]);
+    assert!(rt; has_rows(log, refused, &decisions, &participants, &[])?);
+    assert!(rt; writes_four(log, refused, alloc, &[Logged::Already; 4])?);
+    assert!(rt; commit_all(log, refused, alloc, &[])?.is_empty());
+    Ok(())
+}
+
+/// Writes lists at an empty log, and takes their rows away.
 fn write_lists<L: DecisionLog>(rt: &impl Abort, log: &mut L, alloc: Global) -> Result<(), Fail> {
     let refused = &mut 0;
-    assert_eq!(rt; commit(log, refused, SECOND, &[SECOND_A])?, Logged::New);
-    let answers = write_four(log, refused, alloc)?;
-    let expected = [Logged::New, Logged::Already, Logged::Already, Logged::New];
-    assert!(rt; answers.as_slice() == expected.as_slice());
-    let rows = rows(log, refused)?;
-    assert!(rt; rows.decisions.as_slice() == [FIRST, SECOND, THIRD].as_slice());
-    assert!(rt; rows.participants.as_slice() == [FIRST_A, SECOND_A].as_slice());
-    let answers = write_four(log, refused, alloc)?;
-    assert!(rt; answers.as_slice() == [Logged::Already; 4].as_slice());
-    let answers = commit_all(log, refused, alloc, &[])?;
-    assert!(rt; answers.is_empty());
+    assert!(rt; commit(log, refused, SECOND, &[SECOND_A])? == Logged::New);
+    write_three(rt, log, refused, alloc)?;
     take_lists(rt, log, refused)?;
-    assert_eq!(rt; log.faults(), *refused);
+    assert!(rt; log.faults() == *refused);
     Ok(())
 }
 

@@ -53,6 +53,18 @@ pub(crate) fn over_files<D: StopsAfter, W: OverLog>(
     }
 }
 
+/// The same over empty files of which the one stops after so many calls.
+pub(crate) fn over_stopping_files<W: OverLog>(
+    rt: &impl Abort,
+    alloc: Global,
+    which: Stops,
+    calls: u64,
+    work: &mut W,
+) -> Result<bool, Fail> {
+    let files = stopping(alloc, &blank(alloc), which, calls)?;
+    over_files(rt, alloc, files, work)
+}
+
 /// The same over a new log. It is made again where memory is refused.
 pub(crate) fn over_new_log<W: OverLog>(
     rt: &impl Abort,
@@ -60,7 +72,7 @@ pub(crate) fn over_new_log<W: OverLog>(
     work: &mut W,
 ) -> Result<(), Fail> {
     for _ in 0..2u32 {
-        if over_files(rt, alloc, blank(alloc), work)? {
+        if over_stopping_files(rt, alloc, Stops::Journal, u64::MAX, work)? {
             return Ok(());
         }
     }

@@ -5,14 +5,15 @@ mod chance;
 mod moves;
 mod told;
 
-use crate::over_files::{Crashes, OverLog, over_files};
+use crate::over_files::{Crashes, OverLog, over_stopping_files};
 use crate::processes::chance::Chance;
 use crate::processes::moves::Player;
 use crate::processes::told::{Ends, RMS, THREADS, Told};
+use crate::systems::{new_system, taken_log, takes_log};
 use std::alloc::Global;
 use std::process::Abort;
 use std::test::Fail;
-use tests_disks::{Stops, blank, stopping};
+use tests_disks::Stops;
 use xa_base::{Side, Step};
 use xa_log::MemLog;
 use xa_rm::MemRm;
@@ -28,66 +29,93 @@ fn calls_by(chance: &mut Chance) -> u64 {
     70u64.saturating_add(u64::from(chance.below(150)))
 }
 
+/// A log as a crash leaves it, opened again and read.
+fn found_again<L: Crashes>(
+    alloc: Global,
+    log: L,
+    told: &mut Told,
+    chance: &mut Chance,
+) -> Result<L, Fail> {
+    let Some(mut log) = log.reopened(alloc, calls_by(chance)) else {
+        return Err(Fail::from("the log stops before it is there"));
+    };
+    told.read(&mut log)?;
+    Ok(log)
+}
+
+/// What a system leaves, which has its log.
+fn remains_of<L: Crashes>(system: System<MemRm, L>) -> Result<(Vec<MemRm>, L), Fail> {
+    let Ok(Remains { rms, log }) = system.into_parts() else {
+        return Err(Fail::from("out of memory"));
+    };
+    match log {
+        Some(log) => Ok((rms, log)),
+        None => Err(Fail::from("the log is out")),
+    }
+}
+
 impl<L: Crashes> Player<L> {
-    /// Where the log has stopped it is taken out, found again, read, and given back. Tells whether it had stopped.
-    fn mend(&mut self, rt: &impl Abort, alloc: Global) -> Result<bool, Fail> {
-        let Some(log) = self.system.take_log() else {
-            return Ok(false);
-        };
-        let calls = calls_by(&mut self.chance);
-        let Some(mut log) = log.reopened(alloc, calls) else {
-            return Err(Fail::from("the log stops before it is there"));
-        };
-        self.told.read(&mut log)?;
-        assert!(rt; self.system.give_log(log).is_ok(), "the log isn't taken");
-        let _up = self
-            .told
-            .step(&mut self.system, Step::Restart(Side::Manager))?;
-        Ok(true)
+    /// The first process.
+    fn new(alloc: Global, log: L, seed: u32) -> Result<Player<L>, Fail> {
+        Ok(Player {
+            system: new_system(alloc, THREADS, RMS, log)?,
+            told: Told::new(alloc),
+            chance: Chance::of(seed),
+            stops: 0,
+        })
     }
 
-    /// A process plays. Tells how often its log had stopped.
-    fn run(&mut self, rt: &impl Abort, alloc: Global) -> Result<u32, Fail> {
-        let mut stops = 0u32;
+    /// Where the log has stopped it is taken out, found again, read, and given back.
+    fn mend(&mut self, rt: &impl Abort, alloc: Global) -> Result<(), Fail> {
+        let Some(log) = taken_log(&mut self.system) else {
+            return Ok(());
+        };
+        self.stops = self.stops.saturating_add(1);
+        let log = found_again(alloc, log, &mut self.told, &mut self.chance)?;
+        assert!(rt; takes_log(&mut self.system, log), "the log isn't taken");
+        self.told
+            .step(&mut self.system, Step::Restart(Side::Manager))?;
+        Ok(())
+    }
+
+    /// A process plays.
+    fn run(&mut self, rt: &impl Abort, alloc: Global) -> Result<(), Fail> {
         for _ in 0..MOVES {
             self.play()?;
-            if self.mend(rt, alloc)? {
-                stops = stops.saturating_add(1);
-            }
+            self.mend(rt, alloc)?;
         }
         let _ends = self.told.look(rt, &self.system);
-        Ok(stops)
+        Ok(())
     }
 
     /// The next process, over what this one leaves.
     fn next(self, alloc: Global) -> Result<Player<L>, Fail> {
-        let (mut told, mut chance) = (self.told, self.chance);
-        let Ok(Remains { rms, log }) = self.system.into_parts() else {
-            return Err(Fail::from("out of memory"));
-        };
-        let Some(log) = log else {
-            return Err(Fail::from("the log is out"));
-        };
-        let Some(mut log) = log.reopened(alloc, calls_by(&mut chance)) else {
-            return Err(Fail::from("the log stops before it is there"));
-        };
-        told.read(&mut log)?;
+        let (mut told, mut chance, stops) = (self.told, self.chance, self.stops);
+        let (rms, log) = remains_of(self.system)?;
+        let log = found_again(alloc, log, &mut told, &mut chance)?;
         Ok(Player {
             system: System::resume(alloc, THREADS, rms, log)?,
             told,
             chance,
+            stops,
         })
     }
 
-    /// All that is in doubt is ended.
-    fn end_all(&mut self) -> Result<(), Fail> {
+    /// A process plays, and the next one begins.
+    fn passed_on(mut self, rt: &impl Abort, alloc: Global) -> Result<Player<L>, Fail> {
+        self.run(rt, alloc)?;
+        self.next(alloc)
+    }
+
+    /// All that is in doubt is ended. Tells how the branches ended.
+    fn end_all(&mut self, rt: &impl Abort) -> Result<Ends, Fail> {
         for rm in 0..RMS {
             // A resource manager may be busy, and a branch that it ended alone is to be forgotten.
             for _ in 0..40u32 {
-                let _calls = self.recover(rm, true)?;
+                self.recover(rm, true)?;
             }
         }
-        Ok(())
+        Ok(self.told.look(rt, &self.system))
     }
 }
 
@@ -98,23 +126,12 @@ fn ten_processes<L: Crashes>(
     log: L,
     seed: u32,
 ) -> Result<(Ends, u32), Fail> {
-    let mut rms = Vec::new(alloc);
-    for _ in 0..RMS {
-        rms.push(MemRm::new(alloc))?;
+    let mut player = Player::new(alloc, log, seed)?;
+    for _ in 0..PROCESSES {
+        player = player.passed_on(rt, alloc)?;
     }
-    let mut player = Player {
-        system: System::new(alloc, THREADS, rms, log)?,
-        told: Told::new(alloc),
-        chance: Chance::of(seed),
-    };
-    let mut stops = player.run(rt, alloc)?;
-    for _ in 1..PROCESSES {
-        player = player.next(alloc)?;
-        stops = stops.saturating_add(player.run(rt, alloc)?);
-    }
-    let mut last = player.next(alloc)?;
-    last.end_all()?;
-    Ok((last.told.look(rt, &last.system), stops))
+    let ends = player.end_all(rt)?;
+    Ok((ends, player.stops))
 }
 
 /// Nothing is left in doubt, and there were ends of both kinds.
@@ -141,9 +158,8 @@ impl OverLog for Ten {
 
 /// The same over a log in files whose journal stops. Tells how often it has.
 fn ten_in_files(rt: &impl Abort, alloc: Global, seed: u32) -> Result<u32, Fail> {
-    let files = stopping(alloc, &blank(alloc), Stops::Journal, 200)?;
     let mut ten = Ten { seed, stops: 0 };
-    if !over_files(rt, alloc, files, &mut ten)? {
+    if !over_stopping_files(rt, alloc, Stops::Journal, 200, &mut ten)? {
         return Err(Fail::from("the log stops before it is there"));
     }
     Ok(ten.stops)

@@ -1,6 +1,6 @@
 //! A log in the tables of a database, whose files are in memory.
 
-use crate::commands::{FIRST, run_each_call};
+use crate::commands::{FIRST, bump, contains, participants, rows, run_each_call};
 use crate::over_files::{Crashes, OverLog, over_files, over_new_log};
 use sqlite::Files;
 use sqlite_disk::{Fuse, Memory};
@@ -8,7 +8,7 @@ use std::alloc::Global;
 use std::process::Abort;
 use std::test::Fail;
 use tests_disks::{Change, EMPTY, blank, files_after, look_in, run_in};
-use xa_log::LogFault;
+use xa_log::{DecisionLog, LogFault};
 
 /// The files of a log that has made this change, if there is one, once this statement has run in its tables.
 fn files_with(
@@ -18,6 +18,17 @@ fn files_with(
 ) -> Result<Files<Fuse<Memory>>, LogFault> {
     let (_, files) = run_in(alloc, blank(alloc), change);
     files_after(alloc, files, sql)
+}
+
+/// Opens a log in such files, and hands it over. Tells whether there was a log.
+fn over_files_with<W: OverLog>(
+    rt: &impl Abort,
+    alloc: Global,
+    change: Option<Change>,
+    sql: &str,
+    work: &mut W,
+) -> Result<bool, Fail> {
+    over_files(rt, alloc, files_with(alloc, change, sql)?, work)
 }
 
 /// Each kind of call is made at an empty log.
@@ -40,6 +51,14 @@ fn answers_each_call(rt: HostRuntime) -> Result<(), Fail> {
     over_new_log(&rt, rt.alloc(), &mut EachCall)
 }
 
+/// A log of the last incarnation but one is raised to the last, and then no more.
+fn spends_the_last<L: DecisionLog>(rt: &impl Abort, log: &mut L) {
+    let refused = &mut 0;
+    assert!(rt; bump(log, refused) == Ok(9_223_372_036_854_775_807));
+    assert!(rt; bump(log, refused) == Err(LogFault::Spent));
+    assert!(rt; bump(log, refused) == Err(LogFault::Spent));
+}
+
 /// A log of the last incarnation but one answers three calls of `bump`.
 #[derive(Drop)]
 struct LastBumps;
@@ -51,9 +70,7 @@ impl OverLog for LastBumps {
         _alloc: Global,
         mut log: L,
     ) -> Result<(), Fail> {
-        assert_eq!(rt; log.bump(), Ok(9_223_372_036_854_775_807));
-        assert_eq!(rt; log.bump(), Err(LogFault::Spent));
-        assert_eq!(rt; log.bump(), Err(LogFault::Spent));
+        spends_the_last(rt, &mut log);
         Ok(())
     }
 }
@@ -61,12 +78,20 @@ impl OverLog for LastBumps {
 #[test]
 fn the_last_incarnation_is_spent(rt: HostRuntime) -> Result<(), Fail> {
     let last = "UPDATE tm_meta SET incarnation = 9223372036854775806";
-    let files = files_with(rt.alloc(), None, last)?;
-    assert!(rt; over_files(&rt, rt.alloc(), files, &mut LastBumps)?);
+    assert!(rt; over_files_with(&rt, rt.alloc(), None, last, &mut LastBumps)?);
     Ok(())
 }
 
 /// A log tells a thread that doesn't fit, wherever it reads the row, and nothing else.
+fn tells_thread<L: DecisionLog>(rt: &impl Abort, log: &mut L) -> Result<(), Fail> {
+    let refused = &mut 0;
+    assert!(rt; participants(log, refused, FIRST).err() == Some(LogFault::Version));
+    assert!(rt; rows(log, refused).err() == Some(LogFault::Version));
+    assert!(rt; contains(log, refused, FIRST)?);
+    Ok(())
+}
+
+/// A log with such a thread is asked.
 #[derive(Drop)]
 struct TellsThread;
 
@@ -77,18 +102,15 @@ impl OverLog for TellsThread {
         _alloc: Global,
         mut log: L,
     ) -> Result<(), Fail> {
-        assert!(rt; matches!(log.participants(FIRST), Err(LogFault::Version)));
-        assert!(rt; matches!(log.rows(), Err(LogFault::Version)));
-        assert!(rt; log.contains(FIRST)?);
-        Ok(())
+        tells_thread(rt, &mut log)
     }
 }
 
 #[test]
 fn a_number_that_does_not_fit_is_told(rt: HostRuntime) -> Result<(), Fail> {
     let sql = "UPDATE participant SET thread = 4294967296";
-    let files = files_with(rt.alloc(), Some(Change::Commit), sql)?;
-    assert!(rt; over_files(&rt, rt.alloc(), files, &mut TellsThread)?);
+    let commit = Some(Change::Commit);
+    assert!(rt; over_files_with(&rt, rt.alloc(), commit, sql, &mut TellsThread)?);
     Ok(())
 }
 

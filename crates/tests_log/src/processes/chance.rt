@@ -1,7 +1,7 @@
 //! Numbers that look like chance, the same in each run.
 
 /// A generator of numbers (xorshift, Marsaglia 2003), from a state other than 0.
-#[derive(Clone, Copy, Debug, PartialEq, Eq)]
+#[derive(Clone, Copy)]
 pub(crate) struct Chance {
     state: u64,
 }

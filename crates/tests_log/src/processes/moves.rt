@@ -14,6 +14,8 @@ pub(crate) struct Player<L: DecisionLog + Drop> {
     pub system: System<MemRm, L>,
     pub told: Told,
     pub chance: Chance,
+    /// How often the log of a process had stopped.
+    pub stops: u32,
 }
 
 impl<L: DecisionLog + Drop> Player<L> {
@@ -22,18 +24,19 @@ impl<L: DecisionLog + Drop> Player<L> {
         self.told.step(&mut self.system, step)
     }
 
-    /// Has a call issued, taken and heard, and tells the last reply.
-    fn call(&mut self, thread: u32, rm: u32, call: Call) -> Result<Reply, Fail> {
-        match self.step(Step::Issue { thread, rm, call })? {
-            Reply::Issued => self.answer(thread, rm),
-            refused => Ok(refused),
-        }
+    /// Has a call issued, taken and heard.
+    fn call(&mut self, thread: u32, rm: u32, call: Call) -> Result<(), Fail> {
+        let Reply::Issued = self.step(Step::Issue { thread, rm, call })? else {
+            return Ok(());
+        };
+        self.answer(thread, rm)
     }
 
     /// Has the oldest call on a line taken and heard.
-    fn answer(&mut self, thread: u32, rm: u32) -> Result<Reply, Fail> {
-        let _took = self.step(Step::Take { thread, rm })?;
-        self.step(Step::Hear { thread, rm })
+    fn answer(&mut self, thread: u32, rm: u32) -> Result<(), Fail> {
+        self.step(Step::Take { thread, rm })?;
+        self.step(Step::Hear { thread, rm })?;
+        Ok(())
     }
 
     /// A transaction: mostly one of the last four that were begun.
@@ -64,150 +67,174 @@ impl<L: DecisionLog + Drop> Player<L> {
         }
     }
 
-    /// A transaction is begun, and a thread works at both resource managers, up to their votes; now and then a call is left
-    /// out.
-    fn work(&mut self) -> Result<Reply, Fail> {
+    /// A transaction is begun, and a thread works at both resource managers.
+    fn work(&mut self) -> Result<(), Fail> {
         let thread = self.chance.below(THREADS);
-        let reply = self.step(Step::Begin { thread })?;
-        let Reply::Begun(gtrid) = reply else {
-            return Ok(reply);
+        let Reply::Begun(gtrid) = self.step(Step::Begin { thread })? else {
+            return Ok(());
         };
-        let mut last = reply;
         for rm in 0..RMS {
-            let xid = || Branch { gtrid, thread, rm }.xid();
-            last = self.call(thread, rm, Call::OpenRm)?;
-            let calls = [
-                Call::start(xid()),
-                Call::end(xid()),
-                Call::Prepare { xid: xid() },
-            ];
-            for call in calls {
-                if !self.chance.once_in(12) {
-                    last = self.call(thread, rm, call)?;
-                }
-            }
+            self.work_at(Branch { gtrid, thread, rm })?;
         }
-        Ok(last)
+        Ok(())
+    }
+
+    /// A thread works at a resource manager, up to its vote; now and then a call is left out.
+    fn work_at(&mut self, branch: Branch) -> Result<(), Fail> {
+        self.call(branch.thread, branch.rm, Call::OpenRm)?;
+        self.mostly_call(branch, Call::start(branch.xid()))?;
+        self.mostly_call(branch, Call::end(branch.xid()))?;
+        let xid = branch.xid();
+        self.mostly_call(branch, Call::Prepare { xid })
+    }
+
+    /// Has a call issued, taken and heard, but now and then not.
+    fn mostly_call(&mut self, branch: Branch, call: Call) -> Result<(), Fail> {
+        if self.chance.once_in(12) {
+            return Ok(());
+        }
+        self.call(branch.thread, branch.rm, call)
     }
 
     /// A transaction is decided or claimed, and some of its branches are told.
-    fn end(&mut self) -> Result<Reply, Fail> {
+    fn end(&mut self) -> Result<(), Fail> {
         let gtrid = self.some_gtrid();
         let thread = self.chance.below(THREADS);
         let is_commit = !self.chance.once_in(4);
-        let outcome = if is_commit {
-            Outcome::Commit
-        } else {
-            Outcome::Rollback
-        };
-        let mut last = if self.chance.once_in(4) {
-            let _claimed = self.step(Step::Claim { gtrid })?;
-            self.step(if is_commit {
-                Step::Settle { gtrid }
-            } else {
-                Step::Abandon { gtrid }
-            })?
-        } else {
-            self.step(Step::Decide { gtrid, outcome })?
-        };
+        self.decide(gtrid, is_commit)?;
         for rm in 0..RMS {
-            let xid = Branch { gtrid, thread, rm }.xid();
             if !self.chance.once_in(3) {
-                last = self.call(thread, rm, end_of(xid, is_commit))?;
+                let xid = Branch { gtrid, thread, rm }.xid();
+                self.call(thread, rm, end_of(xid, is_commit))?;
             }
         }
         if self.chance.once_in(2) {
-            last = self.step(Step::Done { gtrid })?;
+            self.step(Step::Done { gtrid })?;
         }
-        Ok(last)
+        Ok(())
     }
 
-    /// What is in doubt at a resource manager is listed, and ended. Tells how many calls that took.
-    pub(crate) fn recover(&mut self, rm: u32, is_open_too: bool) -> Result<usize, Fail> {
-        let thread = 0;
-        let _up = self.step(Step::Restart(Side::Rm { rm }))?;
-        let _opened = self.call(thread, rm, Call::OpenRm)?;
-        let _asked = self.step(Step::Recover {
+    /// A transaction is decided, or claimed and then settled or abandoned.
+    fn decide(&mut self, gtrid: Gtrid, is_commit: bool) -> Result<(), Fail> {
+        let step = if self.chance.once_in(4) {
+            self.step(Step::Claim { gtrid })?;
+            if is_commit {
+                Step::Settle { gtrid }
+            } else {
+                Step::Abandon { gtrid }
+            }
+        } else {
+            let outcome = if is_commit {
+                Outcome::Commit
+            } else {
+                Outcome::Rollback
+            };
+            Step::Decide { gtrid, outcome }
+        };
+        self.step(step)?;
+        Ok(())
+    }
+
+    /// What is in doubt at a resource manager is listed.
+    fn list(&mut self, thread: u32, rm: u32) -> Result<(), Fail> {
+        self.step(Step::Restart(Side::Rm { rm }))?;
+        self.call(thread, rm, Call::OpenRm)?;
+        self.step(Step::Recover {
             rm,
             count: 8,
             start_scan: true,
             end_scan: true,
         })?;
-        let _page = self.answer(thread, rm)?;
+        self.answer(thread, rm)
+    }
+
+    /// What is in doubt at a resource manager is listed, and ended.
+    pub(crate) fn recover(&mut self, rm: u32, is_open_too: bool) -> Result<(), Fail> {
+        let thread = 0;
+        self.list(thread, rm)?;
         let resolve = if is_open_too {
             Step::ResolveOpen { rm }
         } else {
             Step::Resolve { rm }
         };
         let Reply::Resolved(calls) = self.step(resolve)? else {
-            return Ok(0);
+            return Ok(());
         };
         for _ in 0..calls {
-            let _answer = self.answer(thread, rm)?;
+            self.answer(thread, rm)?;
         }
-        Ok(calls)
+        Ok(())
     }
 
     /// A call of a branch, and whatever waits on its line.
-    fn stray(&mut self) -> Result<Reply, Fail> {
+    fn stray(&mut self) -> Result<(), Fail> {
         let branch = self.some_branch();
         let Branch { thread, rm, .. } = branch;
-        let xid = branch.xid();
-        let call = match self.chance.below(7) {
-            0 => Call::OpenRm,
-            1 => Call::start(xid),
-            2 => Call::End { xid, fail: true },
-            3 => Call::Prepare { xid },
-            4 => Call::Rollback { xid },
-            5 => Call::Forget { xid },
-            _ => end_of(xid, true),
-        };
-        let _issued = self.step(Step::Issue { thread, rm, call })?;
+        let call = call_of(self.chance.below(7), branch);
+        self.step(Step::Issue { thread, rm, call })?;
         if self.chance.once_in(2) {
-            return Ok(Reply::Nothing);
+            return Ok(());
         }
         self.answer(thread, rm)
     }
 
     /// A resource manager votes, is busy, or ends a branch alone.
-    fn vote(&mut self) -> Result<Reply, Fail> {
+    fn vote(&mut self) -> Result<(), Fail> {
         let branch = self.some_branch();
         let script = self.chance.below(4);
-        self.step(script_of(script, branch))
+        self.step(script_of(script, branch))?;
+        Ok(())
     }
 
-    /// A part crashes, and is started again.
-    fn crash(&mut self) -> Result<Reply, Fail> {
+    /// A line crashes, or another part, which is started again.
+    fn crash(&mut self) -> Result<(), Fail> {
         let thread = self.chance.below(THREADS);
         let rm = self.chance.below(RMS);
         match self.chance.below(3) {
-            0 => self.step(Step::Crash(Part::Line { thread, rm })),
-            1 => {
-                let _down = self.step(Step::Crash(Part::Rm { rm }))?;
-                self.step(Step::Restart(Side::Rm { rm }))
+            0 => {
+                self.step(Step::Crash(Part::Line { thread, rm }))?;
+                Ok(())
             }
-            _ => {
-                let _down = self.step(Step::Crash(Part::Manager))?;
-                self.step(Step::Restart(Side::Manager))
-            }
+            1 => self.restart(Part::Rm { rm }, Side::Rm { rm }),
+            _ => self.restart(Part::Manager, Side::Manager),
         }
+    }
+
+    /// A part crashes, and is started again.
+    fn restart(&mut self, part: Part, side: Side) -> Result<(), Fail> {
+        self.step(Step::Crash(part))?;
+        self.step(Step::Restart(side))?;
+        Ok(())
     }
 
     /// Does something.
     pub(crate) fn play(&mut self) -> Result<(), Fail> {
-        let _last = match self.chance.below(12) {
-            0..4 => self.work()?,
-            4..8 => self.end()?,
+        match self.chance.below(12) {
+            0..4 => self.work(),
+            4..8 => self.end(),
             8 => {
                 let rm = self.chance.below(RMS);
                 let is_open_too = self.chance.once_in(2);
-                Reply::Resolved(self.recover(rm, is_open_too)?)
+                self.recover(rm, is_open_too)
             }
-            9 => self.stray()?,
-            10 => self.vote()?,
-            _ => self.crash()?,
-        };
-        Ok(())
+            9 => self.stray(),
+            10 => self.vote(),
+            _ => self.crash(),
+        }
+    }
+}
+
+/// A call of a branch, by a number.
+fn call_of(number: u32, branch: Branch) -> Call {
+    let xid = branch.xid();
+    match number {
+        0 => Call::OpenRm,
+        1 => Call::start(xid),
+        2 => Call::End { xid, fail: true },
+        3 => Call::Prepare { xid },
+        4 => Call::Rollback { xid },
+        5 => Call::Forget { xid },
+        _ => end_of(xid, true),
     }
 }
 

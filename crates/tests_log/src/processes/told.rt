@@ -1,5 +1,6 @@
 //! What the steps of all processes have told.
 
+use crate::systems::do_step;
 use std::alloc::Global;
 use std::process::Abort;
 use std::test::Fail;
@@ -21,11 +22,35 @@ pub(crate) struct Told {
 }
 
 /// How many branches ended so, and how many didn't end.
-#[derive(Clone, Copy, Debug, PartialEq, Eq)]
+#[derive(Clone, Copy, Debug)]
 pub(crate) struct Ends {
     pub committed: u32,
     pub rolled_back: u32,
     pub prepared: u32,
+}
+
+impl Ends {
+    /// Counts a branch that ended so.
+    fn count(&mut self, fate: Fate) {
+        match fate {
+            Fate::Committed => self.committed = self.committed.saturating_add(1),
+            Fate::RolledBack | Fate::Lost => {
+                self.rolled_back = self.rolled_back.saturating_add(1);
+            }
+            Fate::Prepared => self.prepared = self.prepared.saturating_add(1),
+            _ => {}
+        }
+    }
+}
+
+/// Whether a branch may end so: it is committed only where its transaction has had a row, and rolled back or lost only where it
+/// never had one.
+fn may_end(fate: Fate, has_row: bool) -> bool {
+    match fate {
+        Fate::Committed => has_row,
+        Fate::RolledBack | Fate::Lost => !has_row,
+        _ => true,
+    }
 }
 
 /// The transaction that a step commits, if it is done.
@@ -56,13 +81,19 @@ impl Told {
         step: Step,
     ) -> Result<Reply, Fail> {
         let commits = commits(&step);
-        let reply = system.step(step);
-        match (&reply, commits) {
+        let reply = do_step(system, step);
+        self.keep(&reply, commits)?;
+        Ok(reply)
+    }
+
+    /// Keeps what a reply tells.
+    fn keep(&mut self, reply: &Reply, commits: Option<Gtrid>) -> Result<(), Fail> {
+        match (reply, commits) {
             (Reply::Begun(gtrid), _) => self.begun.push(*gtrid)?,
             (Reply::Decided, Some(gtrid)) => self.logged.push(gtrid)?,
             _ => {}
         }
-        Ok(reply)
+        Ok(())
     }
 
     /// Keeps the rows of a log.
@@ -74,22 +105,14 @@ impl Told {
         Ok(())
     }
 
-    /// Looks at a branch: it is committed only where its transaction has had a row, and rolled back or lost only where it
-    /// never had one.
+    /// Looks at a branch, which has ended as it may, and counts it.
     fn look_at(&self, rt: &impl Abort, branch: Branch, fate: Fate, ends: &mut Ends) {
         let has_row = self.logged.contains(&branch.gtrid);
-        match fate {
-            Fate::Committed => {
-                assert!(rt; has_row, "{branch:?} is committed without a row");
-                ends.committed = ends.committed.saturating_add(1);
-            }
-            Fate::RolledBack | Fate::Lost => {
-                assert!(rt; !has_row, "{branch:?} is {fate:?} with a row");
-                ends.rolled_back = ends.rolled_back.saturating_add(1);
-            }
-            Fate::Prepared => ends.prepared = ends.prepared.saturating_add(1),
-            _ => {}
-        }
+        assert!(rt;
+            may_end(fate, has_row),
+            "{branch:?} is {fate:?}, with a row: {has_row}"
+        );
+        ends.count(fate);
     }
 
     /// Looks at all branches of all processes.

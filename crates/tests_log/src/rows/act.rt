@@ -1,5 +1,6 @@
 //! What a row does: each act is one step or more.
 
+use crate::systems::do_step;
 use xa_base::{Branch, Call, Gtrid, How, Outcome, Part, Refusal, Reply, Side, Step, Xid};
 use xa_log::DecisionLog;
 use xa_rm::MemRm;
@@ -22,7 +23,7 @@ pub(crate) fn branch(rm: u32) -> Xid {
 }
 
 /// What a row does. A number is that of a resource manager. A call is issued, taken and heard.
-#[derive(Clone, Copy, Debug)]
+#[derive(Clone, Copy)]
 pub(crate) enum Act {
     Begin,
     Open(u32),
@@ -106,8 +107,8 @@ fn step_of(act: Act) -> Step {
 /// Has the oldest call on a line taken and heard, and tells the last reply.
 fn answer<L: DecisionLog + Drop>(system: &mut System<MemRm, L>, rm: u32) -> Reply {
     let thread = 0;
-    let _taken = system.step(Step::Take { thread, rm });
-    system.step(Step::Hear { thread, rm })
+    do_step(system, Step::Take { thread, rm });
+    do_step(system, Step::Hear { thread, rm })
 }
 
 /// Does what is asked for, and tells the last reply.
@@ -116,10 +117,10 @@ pub(crate) fn perform<L: DecisionLog + Drop>(system: &mut System<MemRm, L>, act:
         return answer(system, rm);
     }
     let Some((rm, call)) = call_of(act) else {
-        return system.step(step_of(act));
+        return do_step(system, step_of(act));
     };
     let thread = 0;
-    match system.step(Step::Issue { thread, rm, call }) {
+    match do_step(system, Step::Issue { thread, rm, call }) {
         Reply::Issued => answer(system, rm),
         refused => refused,
     }

@@ -8,7 +8,7 @@ use xa_rm::MemRm;
 use xa_system::System;
 
 /// What a start of the manager found.
-#[derive(Clone, Copy, Debug, PartialEq, Eq)]
+#[derive(Clone, Copy, Debug)]
 pub(crate) struct Found {
     pub incarnation: u64,
     pub decisions: usize,
@@ -16,10 +16,7 @@ pub(crate) struct Found {
 }
 
 /// Starts the manager, which is down.
-pub(crate) fn restart<L: DecisionLog + Drop>(
-    rt: &impl Abort,
-    system: &mut System<MemRm, L>,
-) -> Found {
+fn restart<L: DecisionLog + Drop>(rt: &impl Abort, system: &mut System<MemRm, L>) -> Found {
     let reply = perform(system, Act::RestartManager);
     let Reply::Restarted {
         incarnation,
@@ -56,17 +53,26 @@ pub(crate) fn count_of<L: DecisionLog + Drop>(
     count
 }
 
+/// Does these acts, whatever they are told.
+fn perform_all<L: DecisionLog + Drop>(system: &mut System<MemRm, L>, acts: &[Act]) {
+    for act in acts {
+        perform(system, *act);
+    }
+}
+
 /// Opens the line to each resource manager, has what is in doubt there listed, and ends it: again and again, since a
 /// branch that ended heuristically is to be forgotten, and a resource manager may put its xa_commit off.
-pub(crate) fn recover<L: DecisionLog + Drop>(system: &mut System<MemRm, L>, rms: u32) {
+fn recover<L: DecisionLog + Drop>(system: &mut System<MemRm, L>, rms: u32) {
     for rm in 0..rms {
-        let _up = perform(system, Act::RestartRm(rm));
-        let _opened = perform(system, Act::Open(rm));
+        perform_all(system, &[Act::RestartRm(rm), Act::Open(rm)]);
+        let round = [
+            Act::Recover(rm),
+            Act::Answer(rm),
+            Act::Resolve(rm),
+            Act::Answer(rm),
+        ];
         for _ in 0..6u32 {
-            let _issued = perform(system, Act::Recover(rm));
-            let _page = perform(system, Act::Answer(rm));
-            let _resolved = perform(system, Act::Resolve(rm));
-            let _answer = perform(system, Act::Answer(rm));
+            perform_all(system, &round);
         }
     }
 }
@@ -75,12 +81,44 @@ pub(crate) fn recover<L: DecisionLog + Drop>(system: &mut System<MemRm, L>, rms:
 /// Answers how many rows left.
 fn settle<L: DecisionLog + Drop>(system: &mut System<MemRm, L>, rms: u32) -> usize {
     for rm in 0..rms {
-        let _acknowledged = perform(system, Act::Commit(rm));
+        perform(system, Act::Commit(rm));
     }
     match perform(system, Act::Done) {
         Reply::Noted => 1,
         _ => 0,
     }
+}
+
+/// What is in doubt is ended, and all branches have this end, but for those that ended heuristically. Answers how many those are.
+fn ends_alike<L: DecisionLog + Drop>(
+    rt: &impl Abort,
+    system: &mut System<MemRm, L>,
+    rms: u32,
+    end: Fate,
+) -> usize {
+    recover(system, rms);
+    let alone = count_of(system, rms, Fate::Heuristic(How::Rb));
+    let ended = count_of(system, rms, end).saturating_add(alone);
+    assert!(rt; ended == rms as usize, "{ended} of {rms} are {end:?}");
+    alone
+}
+
+/// The rows leave, and the next start is of a later incarnation: it finds no decision, and so many heuristic ends.
+fn rows_leave<L: DecisionLog + Drop>(
+    rt: &impl Abort,
+    system: &mut System<MemRm, L>,
+    rms: u32,
+    found: Found,
+    alone: usize,
+) {
+    assert!(rt; settle(system, rms) == found.decisions, "{found:?}");
+    assert!(rt; matches!(perform(system, Act::CrashManager), Reply::Crashed));
+    let after = restart(rt, system);
+    let is_later = after.incarnation > found.incarnation;
+    assert!(rt;
+        is_later && after.decisions == 0 && after.heuristics == alone,
+        "{found:?}, {after:?}"
+    );
 }
 
 /// The manager is started over the log that was given back, and all branches end alike, as the log says; but for those
@@ -92,29 +130,12 @@ pub(crate) fn end_as_the_log_says<L: DecisionLog + Drop>(
 ) -> Found {
     let were_committed = count_of(system, rms, Fate::Committed);
     let found = restart(rt, system);
-    recover(system, rms);
-    let alone = count_of(system, rms, Fate::Heuristic(How::Rb));
-    let is_committed = found.decisions == 1 || were_committed > 0;
-    let end = if is_committed {
+    let end = if found.decisions == 1 || were_committed > 0 {
         Fate::Committed
     } else {
         Fate::RolledBack
     };
-    let ended = count_of(system, rms, end).saturating_add(alone);
-    assert!(rt;
-        ended == rms as usize,
-        "{found:?}, {ended} of {rms} are {end:?}"
-    );
-    assert!(rt; settle(system, rms) == found.decisions, "{found:?}");
-    assert!(rt; matches!(perform(system, Act::CrashManager), Reply::Crashed));
-    let after = restart(rt, system);
-    assert!(rt;
-        after.incarnation > found.incarnation,
-        "{found:?}, {after:?}"
-    );
-    assert!(rt;
-        after.decisions == 0 && after.heuristics == alone,
-        "{after:?}"
-    );
+    let alone = ends_alike(rt, system, rms, end);
+    rows_leave(rt, system, rms, found, alone);
     found
 }

@@ -1,23 +1,24 @@
 //! Each row, with a stop at each call of either file.
 
-use crate::over_files::{Crashes, OverLog, over_files};
+use crate::over_files::{Crashes, OverLog, over_stopping_files};
 use crate::rows::act::{Act, meets_stop, perform};
 use crate::rows::recovery::{count_of, end_as_the_log_says};
 use crate::rows::table::{
     ABANDONED, ACKNOWLEDGED_LATER, CLAIM_ENDS_WITH_CRASH, CLAIMED_IS_KEPT, DECIDED_BEFORE_CRASH,
     HEURISTIC, OPEN_ROLLED_BACK, RESOURCE_MANAGER_CRASH, RETRIES, Row, TWO_PHASE_COMMIT,
 };
+use crate::systems::{new_system, taken_log, takes_log};
 use std::alloc::Global;
 use std::process::Abort;
 use std::test::Fail;
-use tests_disks::{Stops, blank, stopping};
+use tests_disks::Stops;
 use xa_base::{Fate, How, Refusal, Reply, Side, Step};
 use xa_log::DecisionLog;
 use xa_rm::MemRm;
 use xa_system::{NewFault, System};
 
 /// How a run ended.
-#[derive(Clone, Copy, Debug, PartialEq, Eq)]
+#[derive(Clone, Copy)]
 enum Ended {
     /// There was no system, and no step.
     NotBegun,
@@ -25,23 +26,6 @@ enum Ended {
     Stopped,
     /// None did.
     Whole,
-}
-
-/// A system on one thread over a log, or None where the log fails.
-fn system_over<L: DecisionLog + Drop>(
-    alloc: Global,
-    rms: u32,
-    log: L,
-) -> Result<Option<System<MemRm, L>>, Fail> {
-    let mut held = Vec::new(alloc);
-    for _ in 0..rms {
-        held.push(MemRm::new(alloc))?;
-    }
-    match System::new(alloc, 1, held, log) {
-        Ok(system) => Ok(Some(system)),
-        Err(NewFault::Log) => Ok(None),
-        Err(fault) => Err(Fail::from(fault)),
-    }
 }
 
 /// A row that met no stop ends as it says.
@@ -56,13 +40,20 @@ fn ends_whole<L: DecisionLog + Drop>(rt: &impl Abort, system: &System<MemRm, L>,
     assert!(rt; ended.saturating_add(alone) == row.rms as usize && ended > 0);
 }
 
-/// The log of a manager that has met a stop. While it is out no restart is accepted, and there is no other to take.
-fn log_of<L: DecisionLog + Drop>(rt: &impl Abort, system: &mut System<MemRm, L>) -> Option<L> {
-    let log = system.take_log();
-    assert!(rt; log.is_some(), "the manager is down, and holds its log");
-    assert!(rt; system.take_log().is_none());
+/// Whether a manager whose log is out stays down: there is no other log to take, and no restart is accepted.
+fn stays_down<L: DecisionLog + Drop>(system: &mut System<MemRm, L>) -> bool {
+    if taken_log(system).is_some() {
+        return false;
+    }
     let restarted = perform(system, Act::RestartManager);
-    assert!(rt; matches!(restarted, Reply::Refused(Refusal::LogFault)));
+    matches!(restarted, Reply::Refused(Refusal::LogFault))
+}
+
+/// The log of a manager that has met a stop, which stays down then.
+fn log_of<L: DecisionLog + Drop>(rt: &impl Abort, system: &mut System<MemRm, L>) -> Option<L> {
+    let log = taken_log(system);
+    assert!(rt; log.is_some(), "the manager is down, and holds its log");
+    assert!(rt; stays_down(system));
     log
 }
 
@@ -79,8 +70,15 @@ fn starts_of<L: DecisionLog + Drop>(system: &System<MemRm, L>) -> (u64, bool) {
     (incarnation, is_start)
 }
 
-/// A manager that is down takes its log again, and all ends as the log says. The incarnation is the next, and where the
-/// start of a manager met the stop, that or the one after it.
+/// A manager that is down takes its log again, which is no step.
+fn give_back<L: DecisionLog + Drop>(rt: &impl Abort, system: &mut System<MemRm, L>, log: L) {
+    let events = system.trace().len();
+    assert!(rt; takes_log(system, log), "the log isn't taken");
+    assert!(rt; system.trace().len() == events);
+}
+
+/// A manager takes its log again, and all ends as the log says. The incarnation is the next, and where the start of a
+/// manager met the stop, that or the one after it.
 fn goes_on<L: DecisionLog + Drop>(
     rt: &impl Abort,
     system: &mut System<MemRm, L>,
@@ -88,10 +86,7 @@ fn goes_on<L: DecisionLog + Drop>(
     rms: u32,
     starts: (u64, bool),
 ) {
-    let events = system.trace().len();
-    let given = system.give_log(log).is_ok();
-    assert!(rt; given, "the log isn't taken");
-    assert!(rt; system.trace().len() == events);
+    give_back(rt, system, log);
     let found = end_as_the_log_says(rt, system, rms);
     let (last, is_start) = starts;
     let passed = found.incarnation.saturating_sub(last);
@@ -101,23 +96,46 @@ fn goes_on<L: DecisionLog + Drop>(
     );
 }
 
-/// A row over a log.
-fn run_over<L: Crashes>(rt: &impl Abort, alloc: Global, log: L, row: &Row) -> Result<Ended, Fail> {
-    let Some(mut system) = system_over(alloc, row.rms, log)? else {
-        return Ok(Ended::NotBegun);
+/// A manager that has met a stop goes on over its log as a crash leaves it.
+fn outlives_stop<L: Crashes>(
+    rt: &impl Abort,
+    alloc: Global,
+    system: &mut System<MemRm, L>,
+    rms: u32,
+) -> Result<(), Fail> {
+    let starts = starts_of(system);
+    let Some(log) = log_of(rt, system) else {
+        return Ok(());
     };
-    if !meets_stop(&mut system, row.parts) {
-        ends_whole(rt, &system, row);
+    let Some(log) = log.reopened(alloc, u64::MAX) else {
+        return Err(Fail::from("the files don't open again"));
+    };
+    goes_on(rt, system, log, rms, starts);
+    Ok(())
+}
+
+/// A row in a system.
+fn run_in<L: Crashes>(
+    rt: &impl Abort,
+    alloc: Global,
+    system: &mut System<MemRm, L>,
+    row: &Row,
+) -> Result<Ended, Fail> {
+    if !meets_stop(system, row.parts) {
+        ends_whole(rt, system, row);
         return Ok(Ended::Whole);
     }
-    let starts = starts_of(&system);
-    if let Some(log) = log_of(rt, &mut system) {
-        let Some(log) = log.reopened(alloc, u64::MAX) else {
-            return Err(Fail::from("the files don't open again"));
-        };
-        goes_on(rt, &mut system, log, row.rms, starts);
-    }
+    outlives_stop(rt, alloc, system, row.rms)?;
     Ok(Ended::Stopped)
+}
+
+/// A row in a system on one thread over a log, if the log doesn't fail at its start.
+fn run_over<L: Crashes>(rt: &impl Abort, alloc: Global, log: L, row: &Row) -> Result<Ended, Fail> {
+    match new_system(alloc, 1, row.rms, log) {
+        Ok(mut system) => run_in(rt, alloc, &mut system, row),
+        Err(NewFault::Log) => Ok(Ended::NotBegun),
+        Err(fault) => Err(Fail::from(fault)),
+    }
 }
 
 /// A row, and how a run of it ended.
@@ -136,12 +154,11 @@ impl OverLog for Playing<'_> {
 
 /// A row over a log in files of which the one stops after so many calls.
 fn run(rt: &impl Abort, alloc: Global, which: Stops, calls: u64, row: &Row) -> Result<Ended, Fail> {
-    let files = stopping(alloc, &blank(alloc), which, calls)?;
     let mut playing = Playing {
         row,
         ended: Ended::NotBegun,
     };
-    let _is_open = over_files(rt, alloc, files, &mut playing)?;
+    let _is_open = over_stopping_files(rt, alloc, which, calls, &mut playing)?;
     Ok(playing.ended)
 }
 
@@ -167,15 +184,24 @@ fn stop_at_each_call(
     Err(Fail::from("each run met a stop"))
 }
 
-/// The same for both files. A step that changes the log meets stops of the journal, in which its changes are.
-fn stops(rt: &(impl Abort + Eprint), alloc: Global, row: &Row) -> Result<(), Fail> {
-    let (database, in_steps) = stop_at_each_call(rt, alloc, Stops::Database, row)?;
-    let (journal, stopped) = stop_at_each_call(rt, alloc, Stops::Journal, row)?;
+/// Tells on standard error how many runs met a stop, by the file that stopped.
+fn tell(
+    rt: &impl Eprint,
+    (database, in_steps): (usize, usize),
+    (journal, stopped): (usize, usize),
+) {
     let _ = eprintln!(rt;
         "{database} and {journal} before a step, {in_steps} and {stopped} in one"
     );
-    assert!(rt; database > 0 && journal > 0, "no stop at the start");
-    assert!(rt; (stopped > 0) == row.is_logged, "{stopped} stops");
+}
+
+/// The same for both files. A step that changes the log meets stops of the journal, in which its changes are.
+fn stops(rt: &(impl Abort + Eprint), alloc: Global, row: &Row) -> Result<(), Fail> {
+    let database = stop_at_each_call(rt, alloc, Stops::Database, row)?;
+    let journal = stop_at_each_call(rt, alloc, Stops::Journal, row)?;
+    tell(rt, database, journal);
+    assert!(rt; database.0 > 0 && journal.0 > 0, "no stop at the start");
+    assert!(rt; (journal.1 > 0) == row.is_logged, "{} stops", journal.1);
     Ok(())
 }
 

@@ -5,6 +5,7 @@ ghost use Rattle.std.specs.Prelude.{◌≡◌};
 use crate::rows::act::{FIRST, meets_stop};
 use crate::rows::recovery::end_as_the_log_says;
 use crate::rows::table::TWO_PHASE_COMMIT;
+use crate::systems::{new_system, taken_log};
 use std::alloc::Global;
 use std::process::Abort;
 use std::test::Fail;
@@ -44,15 +45,6 @@ fn log_with_more(alloc: Global, has_row: bool) -> Result<FailLog, Fail> {
     Ok(FailLog::new(log, FailPlan::Every { kind }))
 }
 
-/// A new system on one thread at two resource managers.
-fn system_over(alloc: Global, log: FailLog) -> Result<System<MemRm, FailLog>, Fail> {
-    let mut held = Vec::new(alloc);
-    for _ in 0..2u32 {
-        held.push(MemRm::new(alloc))?;
-    }
-    Ok(System::new(alloc, 1, held, log)?)
-}
-
 /// Why a log isn't taken, if it isn't.
 fn fault_of(system: &mut System<MemRm, FailLog>, log: FailLog) -> Option<SwapFault> {
     match system.give_log(log) {
@@ -61,28 +53,65 @@ fn fault_of(system: &mut System<MemRm, FailLog>, log: FailLog) -> Option<SwapFau
     }
 }
 
-/// The log fails at a change, made or not, is taken out, and given back once two others weren't taken.
-fn swaps(rt: &impl Abort, alloc: Global, kind: LogCall, made: bool) -> Result<(), Fail> {
-    let mut system = system_over(alloc, log_that_fails(alloc, kind, made))?;
-    assert!(rt; system.take_log().is_none());
+/// A manager that is up gives no log out, and takes none.
+fn keeps_its_log(rt: &impl Abort, alloc: Global, system: &mut System<MemRm, FailLog>) {
+    assert!(rt; taken_log(system).is_none());
     let other = log_that_fails(alloc, LogCall::Done, false);
-    assert_eq!(rt; fault_of(&mut system, other), Some(SwapFault::Up));
-    assert!(rt; meets_stop(&mut system, TWO_PHASE_COMMIT.parts));
-    let Some(log) = system.take_log() else {
+    assert!(rt; fault_of(system, other) == Some(SwapFault::Up));
+}
+
+/// A manager that is down takes neither a log with more rows nor one that can't be read.
+fn takes_no_other_log(
+    rt: &impl Abort,
+    alloc: Global,
+    system: &mut System<MemRm, FailLog>,
+    has_row: bool,
+) -> Result<(), Fail> {
+    let other = log_with_more(alloc, has_row)?;
+    assert!(rt; fault_of(system, other) == Some(SwapFault::OtherRows));
+    let blind = log_that_fails(alloc, LogCall::Rows, false);
+    assert!(rt; fault_of(system, blind) == Some(SwapFault::Log));
+    Ok(())
+}
+
+/// A manager that is down takes its own log again, and ends as that says.
+fn takes_its_log(
+    rt: &impl Abort,
+    system: &mut System<MemRm, FailLog>,
+    log: FailLog,
+    has_row: bool,
+) {
+    assert!(rt; fault_of(system, log).is_none());
+    let found = end_as_the_log_says(rt, system, 2);
+    assert!(rt;
+        found.incarnation == 2 && found.heuristics == 0,
+        "{found:?}"
+    );
+    assert!(rt; (found.decisions == 1) == has_row, "{found:?}");
+}
+
+/// The log fails at a change, is taken out, and given back once two others weren't taken.
+fn swaps_in(
+    rt: &impl Abort,
+    alloc: Global,
+    system: &mut System<MemRm, FailLog>,
+    has_row: bool,
+) -> Result<(), Fail> {
+    keeps_its_log(rt, alloc, system);
+    assert!(rt; meets_stop(system, TWO_PHASE_COMMIT.parts));
+    let Some(log) = taken_log(system) else {
         return Err(Fail::from("no log"));
     };
-    let has_row = made == (kind == LogCall::Commit);
-    assert_eq!(rt;
-        fault_of(&mut system, log_with_more(alloc, has_row)?),
-        Some(SwapFault::OtherRows)
-    );
-    let blind = log_that_fails(alloc, LogCall::Rows, false);
-    assert_eq!(rt; fault_of(&mut system, blind), Some(SwapFault::Log));
-    assert_eq!(rt; fault_of(&mut system, log), None);
-    let found = end_as_the_log_says(rt, &mut system, 2);
-    assert_eq!(rt; (found.incarnation, found.heuristics), (2, 0));
-    assert_eq!(rt; found.decisions == 1, has_row);
+    takes_no_other_log(rt, alloc, system, has_row)?;
+    takes_its_log(rt, system, log, has_row);
     Ok(())
+}
+
+/// The same in a system whose log fails at a change of this kind, made or not.
+fn swaps(rt: &impl Abort, alloc: Global, kind: LogCall, made: bool) -> Result<(), Fail> {
+    let has_row = made == (kind == LogCall::Commit);
+    let mut system = new_system(alloc, 1, 2, log_that_fails(alloc, kind, made))?;
+    swaps_in(rt, alloc, &mut system, has_row)
 }
 
 #[test]

@@ -8,7 +8,7 @@ use crate::rows::act::Act::{
 };
 
 /// A row, in parts, on one thread.
-#[derive(Clone, Copy, Debug)]
+#[derive(Clone, Copy)]
 pub(crate) struct Row {
     pub rms: u32,
     pub parts: &'static [&'static [Act]],
