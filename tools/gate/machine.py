@@ -8,7 +8,7 @@ import subprocess
 import sys
 import time
 
-# What a check with an edit takes, and a proof by rt ci: at most, but for those of xatm with an edit, which take up to twice that.
+# What a check with an edit takes, and a proof by rt ci: at most, but for those of xa_commands with an edit, which take up to 4 GB.
 BYTES_A_JOB, BYTES_A_PROOF = 3 << 30, 5_000_000_000
 
 
