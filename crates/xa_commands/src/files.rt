@@ -113,14 +113,6 @@ impl<'a> Source<'a> {
             Err(error) => Failure::from(error),
         }
     }
-
-    /// The same of a failure that tells only of its fault.
-    pub fn told(&self, alloc: Global, failure: Failure) -> Failure {
-        match failure {
-            Failure::Run(fault) => self.failure(alloc, fault),
-            other => other,
-        }
-    }
 }
 
 /// Writes a text into the file at a path, or else prints it.
