@@ -1,13 +1,11 @@
 """Edits that are tried while rt ci still proves other crates."""
 
-import contextlib
-import os
 import re
 import subprocess
 import threading
 from collections import deque
 
-from .machine import BYTES_A_JOB, BYTES_A_PROOF, free_bytes, processors
+from .machine import BYTES_A_JOB, BYTES_A_PROOF, Busy, free_bytes, processors, put_last
 
 # What rt ci prints of a crate that it has proved in this run.
 PROVED = re.compile(r"rt: (\w+) proved$")
@@ -17,15 +15,15 @@ class Ahead:
     """The last crates rest on one another, and rt ci leaves processors idle while it proves them. Meanwhile the edits of the crates
     before them are tried, at the lowest priority. tools/edits keeps what is refused, and counts it when it is run over all.
 
-    So often, in seconds (looks), it asks whether there is room for one more: load says how many processors are busy, free how many
-    bytes are left."""
+    So often, in seconds (looks), it asks whether there is room for one more: busy says how many processors were busy since it was last
+    asked, free how many bytes are left."""
 
     # One is begun where there is room for it and for one proof more; all are ended where less than this is left.
     LEAST = 2_000_000_000
 
-    def __init__(self, tool, running, looks=5, load=lambda: os.getloadavg()[0], free=free_bytes):
+    def __init__(self, tool, running, looks=5, busy=None, free=free_bytes):
         self.tool, self.running, self.crates, self.runs = tool, running, deque(), {}
-        self.looks, self.load, self.free = looks, load, free
+        self.looks, self.busy, self.free = looks, busy or Busy(), free
         self.ends = threading.Event()
         self.thread = threading.Thread(target=self.work, daemon=True)
         self.thread.start()
@@ -49,7 +47,7 @@ class Ahead:
             self.begin(self.crates.popleft())
 
     def has_room(self):
-        is_idle = self.load() < processors() - 0.5
+        is_idle = self.busy() < processors() - 0.5
         return is_idle and self.free() > BYTES_A_PROOF + BYTES_A_JOB
 
     def begin(self, crate):
@@ -61,9 +59,7 @@ class Ahead:
             # All is to end (InterruptedError), or a process can't be made.
             self.ends.set()
             return
-        # Linux may divide the processors among sessions first: then nice counts only within one.
-        with contextlib.suppress(OSError), open(f"/proc/{run.pid}/autogroup", "w", encoding="utf-8") as it:
-            it.write("19")
+        put_last(run.pid)
 
     def end_runs(self):
         for it in self.runs.values():

@@ -21,6 +21,38 @@ def free_bytes():
         return next(int(line.split()[1]) << 10 for line in it if line.startswith("MemAvailable:"))
 
 
+class Busy:
+    """How many processors were busy since this was asked last."""
+
+    def __init__(self):
+        self.last = self.times()
+
+    @staticmethod
+    def times():
+        """How long the processors were idle so far, and how long in all."""
+        ours, idle, all_times = {f"cpu{it}" for it in os.sched_getaffinity(0)}, 0, 0
+        with open("/proc/stat", encoding="utf-8") as it:
+            for name, *times in filter(None, map(str.split, it)):
+                if name in ours:
+                    idle += int(times[3]) + int(times[4])
+                    all_times += sum(map(int, times[:8]))
+        return idle, all_times
+
+    def __call__(self):
+        was_idle, was_all = self.last
+        self.last = idle, all_times = self.times()
+        return processors() * (1 - (idle - was_idle) / max(1, all_times - was_all))
+
+
+def put_last(pid):
+    """Gives a process that leads a session the lowest priority, and so what it starts from now on."""
+    with contextlib.suppress(OSError):
+        os.setpriority(os.PRIO_PROCESS, pid, 19)
+    # Linux may divide the processors among sessions first: then nice counts only within one.
+    with contextlib.suppress(OSError), open(f"/proc/{pid}/autogroup", "w", encoding="utf-8") as it:
+        it.write("19")
+
+
 def jobs_for(bytes_a_job):
     """How many jobs there are processors and memory for, where each takes so much."""
     return max(1, min(processors(), free_bytes() // bytes_a_job))

@@ -9,6 +9,7 @@ import subprocess
 import tempfile
 import threading
 
+from .answers import names_in, rewrite
 from .crates import PARTS, text_of
 from .functions import Names
 from .holes import Holes
@@ -74,7 +75,7 @@ class Prover:
 
     def __init__(self, kit, crate, room, is_known):
         self.kit, self.crate, self.room, self.work, self.is_known = kit, crate, room, room.new(crate.name), is_known
-        self.seed, self.files, self.symbols = f"{self.work}/seed", {}, []
+        self.seed, self.files, self.symbols, self.answers = f"{self.work}/seed", {}, [], {}
         self.names = Names(kit, crate) if is_known else None
         self.holes, self.has_holes = Holes(crate, self.names) if is_known else None, is_known
         self.seconds, self.bytes, self.checks = 0.0, 0, 0
@@ -94,7 +95,7 @@ class Prover:
             return None
         paths = {it.path() for it in edits}
         whole = whole or is_begun or None in paths
-        said = self.check([], [] if whole else asking(paths), self.seed)
+        said = self.check([], [] if whole else only(paths), self.seed)
         if said.status:
             return said
         self.symbols = [it.name for it in reports(said.text) if it.is_function]
@@ -105,16 +106,23 @@ class Prover:
         """The whole name of the edit's function, or None if that isn't sure."""
         return self.names.symbol(edit.function) if self.is_known else edit.function.symbol(self.symbols)
 
-    def over_seed(self, edits, paths, left_out=(), with_holes=False):
+    def answered(self, file):
+        """The goals that have an answer written by hand in a file of them."""
+        if file not in self.answers:
+            path = f"{self.crate.folder}/{file}"
+            self.answers[file] = names_in(text_of(path)) if os.path.isfile(path) else set()
+        return self.answers[file]
+
+    def over_seed(self, edits, paths, readings, with_holes=False):
         """A check of these paths, all if there are none, with the edits made, over a copy of the seed, which no check may change.
-        Of left_out, pairs of a file and an answer in it, nothing is read."""
+        Of some files of answers it reads what they become (readings)."""
         if self.is_known:
-            return self.check(edits, asking(paths), self.seed, left_out, with_holes)
+            return self.check(edits, only(paths), self.seed, readings, with_holes)
         over = tempfile.mkdtemp(prefix="over-", dir=self.work)
         os.rmdir(over)
         linked(self.seed, over)
         try:
-            return self.check(edits, asking(paths), over, left_out)
+            return self.check(edits, only(paths), over, readings)
         finally:
             shutil.rmtree(over, ignore_errors=True)
             if listing(self.seed) != self.files and not self.room.stops.is_set():
@@ -123,7 +131,7 @@ class Prover:
     def clean(self):
         shutil.rmtree(self.work, ignore_errors=True)
 
-    def check(self, edits, flags, over, left_out=(), with_holes=False):
+    def check(self, edits, flags, over, readings=(), with_holes=False):
         with tempfile.TemporaryDirectory(prefix="try-", dir=self.work) as folder:
             for part in PARTS:
                 if os.path.isdir(f"{self.crate.folder}/{part}"):
@@ -131,8 +139,8 @@ class Prover:
             if with_holes:
                 self.holes.make(folder, edits)
             make(edits, folder)
-            for file, answer in left_out:
-                leave_out(f"{folder}/{file}", answer)
+            for file in readings:
+                rewrite(f"{folder}/{file}", readings[file])
             words = [f"{self.kit}/bin/rattle", "check", *self.crate.words(self.kit), "--jobs", "1", *flags]
             said = self.room.run([*words, "--incremental", over], folder)
             if said.status == -signal.SIGKILL:
@@ -154,23 +162,7 @@ def make(edits, folder):
             it.write("\n".join(lines))
 
 
-def leave_out(file, answer):
-    """Takes an answer out of a file of them: from its type to the next line that begins something else. A file with no answer goes."""
-    kept, is_left_out = [], False
-    for line in text_of(file).split("\n"):
-        # A bracket at its beginning ends what is above it.
-        if line[:1].strip(" }])"):
-            words = line.removeprefix("abbrev ").removeprefix("pub ").split()
-            is_left_out = words[:1] == [answer]
-        if not is_left_out:
-            kept.append(line)
-    os.remove(file)
-    if any(it.startswith(("pub ", "abbrev pub ")) for it in kept):
-        with open(file, "w", encoding="utf-8") as it:
-            it.write("\n".join(kept))
-
-
-def asking(paths):
+def only(paths):
     return [word for it in sorted(paths) for word in ("--only", it)]
 
 

@@ -1,55 +1,84 @@
 """Whether an edit is refused: by which goal of which function."""
 
+from collections import deque
+from functools import partial
+
+from .answers import answers_of, with_holes, without
 from .edits import rounds
 from .reports import LIMIT, errors, first_words, reports
 
 REFUSED, THROUGH, BAD = "refused", "NOT REFUSED", "BAD EDIT"
 # A proof names what the edit took away, and nothing else refuses it; nothing is known.
 GONE, UNSURE = "NOT SHOWN", "NOT TRIED"
-# How often answers that don't fit are left out, each time those that the time before found.
+NO_LONGER = " (its answer no longer fits)"
+# How many answers that don't fit are asked of, one by one, and how often they are left out, each time those just found.
 TIMES = 4
 
 
 class Trial:
-    """A check with some edits made, of what each of them names (paths; None is the whole crate). Made again, it reads none of the answers
-    written by hand that didn't fit, so that their goals stand by themselves."""
+    """A check with some edits made, of what each of them names (paths; None is the whole crate). Of some files of answers written by
+    hand it reads what they become (readings)."""
 
-    def __init__(self, prover, paths, with_holes=False):
-        self.prover, self.paths, self.with_holes = prover, paths, with_holes
-        # Answers, each with its file, and those of them that are false; errors of anything else.
-        self.left_out, self.false, self.others = set(), set(), []
-        self.check()
-
-    def check(self):
-        paths = [it for it in self.paths.values() if it]
-        self.said = self.prover.over_seed(list(self.paths), paths, sorted(self.left_out), self.with_holes)
-        self.found, wrong = reports(self.said.text), errors(self.said.text)
-        self.misfits = [it for it in wrong if it.is_of_answer()]
-        self.others += [it for it in wrong if not it.is_of_answer()]
-
-    def again(self, edits):
-        """Makes it again with these of its edits."""
-        self.left_out |= {(it.file, it.answer) for it in self.misfits}
-        self.false |= {(it.file, it.answer) for it in self.misfits if not it.names_what_is_gone()}
-        self.paths = {it: self.paths[it] for it in edits}
-        self.check()
+    def __init__(self, prover, paths, readings, with_holes=False):
+        self.with_holes = with_holes
+        self.said = prover.over_seed(list(paths), [it for it in paths.values() if it], readings, with_holes)
+        self.found, self.wrong = reports(self.said.text), errors(self.said.text)
+        self.others = [it for it in self.wrong if not it.is_of_answer()]
+        # Answers that don't fit, each with its file, and whether it is false, or only names what is gone.
+        self.misfits = {}
+        for it in self.wrong:
+            if it.is_of_answer():
+                known = self.misfits.get((it.file, it.answer), False)
+                self.misfits[it.file, it.answer] = known or not it.names_what_is_gone()
 
     def is_unread(self):
         """Whether it didn't get to the prover."""
         return not self.found and not self.misfits
 
+    def is_told(self, file):
+        """Whether it tells of each answer of a file if it fits."""
+        return all(it.file != file for it in self.others)
+
+
+class Inquiry:
+    """What is asked of an edit, one thing in each check, until one refuses it: whether a goal of its function is open that has no answer
+    written by hand; then, of one after the other whose answer is false, whether it is open without. That check leaves the answer out,
+    and each other one of the function is a hole."""
+
+    def __init__(self, edit, symbol, prover):
+        self.edit, self.symbol, self.prover, self.file = edit, symbol, prover, answers_of(symbol)
+        # None is any goal without an answer.
+        self.goals = deque([None])
+
+    def reading(self):
+        """What its check reads of the function's answers."""
+        return {self.file: partial(with_holes, left_out=self.goals[0])} if self.goals[0] else {}
+
+    def is_settled(self):
+        return bool(self.edit.kind) or not self.goals
+
+    def hear(self, trial):
+        """Judges the edit by the open goals of its own function."""
+        asked = self.goals.popleft()
+        for report, goals in own_goals(self.edit, self.symbol, trial.found):
+            file = answers_of(report.name)
+            new = [it.name for it in goals if it.name not in self.prover.answered(file) and trial.is_told(file)]
+            false = [it.name for it in goals if it.name == asked and file == self.file]
+            if new or false:
+                give(self.edit, REFUSED, told(report, new or false) + NO_LONGER * (not new))
+                return
+        if asked is None:
+            note(self.edit, self.symbol, trial)
+            false = [it for (file, it), is_false in trial.misfits.items() if file == self.file and is_false]
+            self.goals += false[:TIMES]
+
 
 def told(report, goals):
-    return f"{report.path()}: {', '.join(it.name for it in goals)}"
+    return f"{report.path()}: {', '.join(goals)}"
 
 
 def give(edit, kind, why):
     edit.kind, edit.why = kind, why[:400]
-
-
-def answers_of(symbol):
-    """The file of the answers written by hand for a function of this whole name."""
-    return f"proofs/{symbol.partition('::')[2].replace('::', '/')}/Answers.antt"
 
 
 def own_goals(edit, symbol, found):
@@ -64,19 +93,12 @@ def own_goals(edit, symbol, found):
     return own
 
 
-def is_refused(edit, opened, trial):
-    """Whether one of these open goals refuses the edit. One whose answer names what is gone does not."""
-    for report, goals in opened:
-        file = answers_of(report.name)
-        new = [it for it in goals if (file, it.name) not in trial.left_out]
-        false = [it for it in goals if (file, it.name) in trial.false]
-        if new:
-            give(edit, REFUSED, told(report, new))
-        elif false:
-            give(edit, REFUSED, f"{told(report, false)} (its answer no longer fits)")
-        if new or false:
-            return True
-    return False
+def note(edit, symbol, trial):
+    """Notes what a check of several says of an edit that none of its goals refuses."""
+    own = [it for it in trial.found if it.name == symbol]
+    # What a function's line says so is true whatever the bodies of the others are.
+    edit.seems_proved = bool(own) and (own[0].is_proved or own[0].is_held_up)
+    edit.was_over_holes = trial.with_holes
 
 
 def try_all(edits, prover, whole):
@@ -92,45 +114,31 @@ def try_all(edits, prover, whole):
 
 
 def try_together(edits, prover):
-    """Tries edits of different functions in one check of these, and returns those that are to be tried alone."""
+    """Tries edits of different functions in one check of these, and in others as long as there is something to ask. Returns those that
+    are to be tried alone."""
     symbols = {it: prover.symbol(it) for it in edits}
-    unknown = [it for it in edits if symbols[it] is None]
-    edits = [it for it in edits if symbols[it]]
-    if not edits:
-        return unknown
-    trial = Trial(prover, {it: symbols[it] for it in edits}, prover.has_holes)
-    if trial.is_unread() and prover.has_holes:
-        # It may be for what is left out that the crate doesn't compile.
-        trial = Trial(prover, trial.paths)
-        prover.has_holes = trial.is_unread()
-    if trial.is_unread() and len(edits) > 1:
-        return [*unknown, *try_parts(edits, prover, trial)]
-    return [*unknown, *judge_together(trial, symbols)]
-
-
-def judge_together(trial, symbols):
-    """Judges edits by the open goals of their own functions, each once all answers of its function fit or are left out, and returns
-    those that none refuses."""
-    left = []
-    for times in range(TIMES + 1):
-        misfits = {it.file for it in trial.misfits} if times < TIMES else ()
-        waiting = [it for it in trial.paths if answers_of(symbols[it]) in misfits]
-        for it in trial.paths:
-            if it not in waiting and not is_refused(it, own_goals(it, symbols[it], trial.found), trial):
-                note(it, symbols[it], trial)
-                left.append(it)
-        if not waiting:
-            break
-        trial.again(waiting)
+    left = [it for it in edits if symbols[it] is None]
+    asked = [Inquiry(it, symbols[it], prover) for it in edits if symbols[it]]
+    while asked:
+        trial = trial_of(asked, prover)
+        if trial.is_unread():
+            return left + try_parts([it.edit for it in asked], prover, trial)
+        for it in asked:
+            it.hear(trial)
+        left += [it.edit for it in asked if it.is_settled() and not it.edit.kind]
+        asked = [it for it in asked if not it.is_settled()]
     return left
 
 
-def note(edit, symbol, trial):
-    """Notes what a check of several says of an edit that is to be tried alone."""
-    own = [it for it in trial.found if it.name == symbol]
-    # What a function's line says so is true whatever the bodies of the others are.
-    edit.seems_proved = bool(own) and (own[0].is_proved or own[0].is_held_up)
-    edit.was_over_holes = trial.with_holes
+def trial_of(asked, prover):
+    paths = {it.edit: it.symbol for it in asked}
+    readings = {file: it for one in asked for file, it in one.reading().items()}
+    trial = Trial(prover, paths, readings, prover.has_holes)
+    if trial.is_unread() and prover.has_holes:
+        # It may be for what is left out that the crate doesn't compile.
+        trial = Trial(prover, paths, readings)
+        prover.has_holes = trial.is_unread()
+    return trial
 
 
 def try_parts(edits, prover, trial):
@@ -139,7 +147,7 @@ def try_parts(edits, prover, trial):
     wrong = [it for it in edits if any(file == it.function.file and line in it.function.lines for file, line in places)]
     if wrong and len(wrong) < len(edits):
         return [*wrong, *try_together([it for it in edits if it not in wrong], prover)]
-    if len(edits) == 2:
+    if len(edits) <= 2:
         return edits
     return [it for half in (edits[::2], edits[1::2]) for it in try_together(half, prover)]
 
@@ -148,48 +156,75 @@ def try_alone(edit, prover, whole=False):
     """Tries an edit alone: by a check of what it changes, with holes and without, and, if that doesn't refuse it, by one of the whole
     crate."""
     path = None if whole or edit.seems_proved else edit.path()
-    if path and edit.function and prover.has_holes and not edit.was_over_holes:
-        if not judge_together(Trial(prover, {edit: path}, True), {edit: prover.symbol(edit)}):
-            return
+    if path and edit.function and prover.has_holes and not edit.was_over_holes and not try_together([edit], prover):
+        return
     for it in [path, None] if path else [None]:
-        trial = Trial(prover, {edit: it})
-        if judge(edit, trial):
+        alone = Alone(edit, prover, it)
+        if alone.judges():
             return
-    said = trial.said
+    said = alone.trial.said
     if said.status == 0:
-        give(edit, THROUGH, "the crate is still proved with it" + ", without the answers that no longer fit" * bool(trial.left_out))
+        give(edit, THROUGH, "the crate is still proved with it" + ", without the answers that no longer fit" * bool(alone.left_out))
     elif said.status == 3 and LIMIT.search(said.text):
         give(edit, REFUSED, f"only by a limit of the prover, which says less of a contract: {LIMIT.search(said.text)[0]}")
     else:
         give(edit, UNSURE, f"its check ended with status {said.status}: {first_words(said.text)}")
 
 
-def judge(edit, trial):
-    """Whether a check with this edit alone settles it: the crate is proved without it, so any open goal is for its sake."""
-    unreadable = [it for it in trial.others if it.of_front_end or it.is_unreadable()]
-    if trial.said.status == 1 and unreadable:
-        give(edit, BAD, f"it doesn't reach the prover: {unreadable[0].text}")
-        return True
-    for _ in range(TIMES):
-        if not trial.misfits:
-            break
-        trial.again([edit])
-    opened = [(it, it.goals) for it in trial.found if it.goals]
-    if trial.said.status != 1:
-        return False
-    if is_refused(edit, opened, trial):
-        return True
-    if opened:
-        give(edit, GONE, f"only an answer names what it took away, which says nothing of a contract: {told(*opened[0])}")
-        return True
-    return judge_errors(edit, [*trial.others, *trial.misfits])
+class Alone:
+    """Checks with one edit alone, of a path. The crate is proved without it, so any open goal is for its sake. Made again, a check reads
+    none of the answers that didn't fit, so that their goals stand by themselves."""
 
+    def __init__(self, edit, prover, path):
+        self.edit, self.prover, self.path = edit, prover, path
+        # Answers that are left out, each with its file, and whether it is false; errors of anything else.
+        self.left_out, self.others = {}, []
+        self.check()
 
-def judge_errors(edit, wrong):
-    """The verdict where only proofs written by hand don't fit any more."""
-    false = [it for it in wrong if not it.names_what_is_gone()]
-    if false:
-        give(edit, REFUSED, f"a proof no longer fits: {false[0].text}")
-    elif wrong:
-        give(edit, GONE, f"only a proof names what it took away, which says nothing of a contract: {wrong[0].text}")
-    return bool(wrong)
+    def check(self):
+        names = {}
+        for file, it in self.left_out:
+            names.setdefault(file, set()).add(it)
+        readings = {file: partial(without, names=some) for file, some in names.items()}
+        self.trial = Trial(self.prover, {self.edit: self.path}, readings)
+        self.others += self.trial.others
+
+    def judges(self):
+        """Whether the edit is settled by them."""
+        unreadable = [it for it in self.others if it.of_front_end or it.is_unreadable()]
+        if self.trial.said.status == 1 and unreadable:
+            give(self.edit, BAD, f"it doesn't reach the prover: {unreadable[0].text}")
+            return True
+        for _ in range(TIMES):
+            if not self.trial.misfits:
+                break
+            self.left_out.update(self.trial.misfits)
+            self.check()
+        if self.trial.said.status != 1:
+            return False
+        return self.judge_goals() or self.judge_errors()
+
+    def judge_goals(self):
+        """The verdict where goals are open."""
+        opened = [it for it in self.trial.found if it.goals]
+        for it in opened:
+            goals, file = [goal.name for goal in it.goals], answers_of(it.name)
+            new = [goal for goal in goals if (file, goal) not in self.left_out and self.trial.is_told(file)]
+            false = [goal for goal in goals if self.left_out.get((file, goal))]
+            if new or false:
+                give(self.edit, REFUSED, told(it, new or false) + NO_LONGER * (not new))
+                return True
+        if opened:
+            goals = [goal.name for goal in opened[0].goals]
+            give(self.edit, GONE, f"only an answer names what it took away, which says nothing of a contract: {told(opened[0], goals)}")
+        return bool(opened)
+
+    def judge_errors(self):
+        """The verdict where only proofs written by hand don't fit any more."""
+        wrong = [*self.others, *(it for it in self.trial.wrong if it.is_of_answer())]
+        false = [it for it in wrong if not it.names_what_is_gone()]
+        if false:
+            give(self.edit, REFUSED, f"a proof no longer fits: {false[0].text}")
+        elif wrong:
+            give(self.edit, GONE, f"only a proof names what it took away, which says nothing of a contract: {wrong[0].text}")
+        return bool(wrong)
