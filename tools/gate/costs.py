@@ -6,10 +6,28 @@ from .crates import CACHE, crates_of
 from .edits import edits_of
 from .machine import BYTES_A_JOB, jobs_for, processors
 
-# Minutes of one processor, from nothing: of the quick part, of all proofs of rt ci with the tests, and of an edit.
-QUICK, PROOFS, EDIT = 15, 220, 18 / 60
+# Minutes of one processor, from nothing: of the quick part, and of all proofs of rt ci with the tests.
+QUICK, PROOFS = 15, 190
+# Processor seconds of an edit, and of all edits of the crates in which one takes much longer.
+EDIT = 12
+EDITS = {
+    "xa_session": 745,
+    "xa_sql_log": 525,
+    "xa_server": 440,
+    "xa_scenario": 410,
+    "xa_scenario_file": 405,
+    "xa_system": 370,
+    "xa_display": 345,
+    "xa_commands": 300,
+    "xa_log": 350,
+}
 # Minutes that building, the tests and the programs take, whatever is kept.
 PROGRAMS = 5
+
+
+def seconds_of_edits(crate, count):
+    """Of so many of its edits."""
+    return EDITS.get(crate.name, EDIT * count)
 
 
 class Costs:
@@ -24,8 +42,8 @@ class Costs:
         """By the lines of the crates that haven't passed here as they are."""
         self.sums = {it: it.sum() for it in self.crates}
         left = [it for it in self.crates if not os.path.isfile(f"{CACHE}/passed/{self.sums[it]}")]
-        edits = {it: len(edits_of(it)[0]) for it in left}
-        parts = [self.part(left, self.crates) * PROOFS, sum(edits.values()) * EDIT]
+        edits = sum(seconds_of_edits(it, len(edits_of(it)[0])) for it in left)
+        parts = [self.part(left, self.crates) * PROOFS, edits / 60]
         minutes = (QUICK + sum(parts)) / jobs_for(BYTES_A_JOB) + PROGRAMS
         kept = f"of {len(self.crates)} crates {len(self.crates) - len(left)} have passed here as they are"
         return f"the quick part is done, and the whole gate: about {self.rounded(minutes)}, {self.on()}; {kept}"
