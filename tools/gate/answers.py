@@ -4,6 +4,7 @@ import os
 
 from .crates import text_of
 
+
 def answers_of(symbol):
     """The file of the answers for a function of this whole name."""
     return f"proofs/{symbol.partition('::')[2].replace('::', '/')}/Answers.antt"

@@ -6,8 +6,8 @@ from .crates import CACHE, crates_of
 from .edits import edits_of
 from .machine import BYTES_A_JOB, jobs_for, processors
 
-# Minutes of one processor, from nothing: of the quick part, and of all proofs of rt ci with the tests.
-QUICK, PROOFS = 15, 190
+# Minutes of one processor, from nothing: of --quick, of what the whole gate does of it, and of all proofs of rt ci with the tests.
+QUICK, QUICK_PART, PROOFS = 15, 5, 190
 # Processor seconds of an edit, and of all edits of the crates in which one takes much longer.
 EDIT = 12
 EDITS = {
@@ -15,11 +15,11 @@ EDITS = {
     "xa_sql_log": 525,
     "xa_server": 440,
     "xa_scenario": 410,
-    "xa_scenario_file": 405,
+    "xa_scenario_file": 225,
     "xa_system": 370,
     "xa_display": 345,
     "xa_commands": 300,
-    "xa_log": 350,
+    "xa_log": 170,
 }
 # Minutes that building, the tests and the programs take, whatever is kept.
 PROGRAMS = 5
@@ -44,7 +44,7 @@ class Costs:
         left = [it for it in self.crates if not os.path.isfile(f"{CACHE}/passed/{self.sums[it]}")]
         edits = sum(seconds_of_edits(it, len(edits_of(it)[0])) for it in left)
         parts = [self.part(left, self.crates) * PROOFS, edits / 60]
-        minutes = (QUICK + sum(parts)) / jobs_for(BYTES_A_JOB) + PROGRAMS
+        minutes = (QUICK_PART + sum(parts)) / jobs_for(BYTES_A_JOB) + PROGRAMS
         kept = f"of {len(self.crates)} crates {len(self.crates) - len(left)} have passed here as they are"
         return f"the quick part is done, and the whole gate: about {self.rounded(minutes)}, {self.on()}; {kept}"
 

@@ -95,17 +95,7 @@ def edits_of(crate):
     return [Edit(f"{folder}/{it}") for it in good], [it for it in names if it not in good and not it.endswith(".md")]
 
 
-def rounds(edits):
-    """The edits that one check may try together, of different functions each, and those that are tried alone."""
-    together, alone = [], []
-    for it in edits:
-        if it.function is None or it.function.is_read_by_others:
-            alone.append(it)
-            continue
-        for one in together:
-            if it.function.key() not in {other.function.key() for other in one}:
-                one.append(it)
-                break
-        else:
-            together.append([it])
-    return together, alone
+def parted(edits):
+    """The edits that checks may try together, and those that are tried alone."""
+    alone = [it for it in edits if it.function is None or it.function.is_read_by_others]
+    return [it for it in edits if it not in alone], alone

@@ -21,10 +21,9 @@ class Function:
         self.begins, self.opens, self.ends = rows[at][1], rows[opens][2], rows[close - 1][1]
         self.lines = range(rows[start][0], rows[close - 1][0] + 1)
         before = words[start:at]
-        # Others may rest on the body of a const fn, of a function in a cycle of calls, and of a method of a trait's impl, by the
-        # impl's laws.
+        # Others may rest on the body of a const fn, and of a function in a cycle of calls.
+        self.is_read_by_others = "const" in before or "cycle" in before
         self.of_trait = owner[:1] == ["impl"] and "for" in owner
-        self.is_read_by_others = "const" in before or "cycle" in before or self.of_trait
 
     def key(self):
         return self.file, self.begins

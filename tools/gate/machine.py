@@ -53,6 +53,28 @@ def put_last(pid):
         it.write("19")
 
 
+def seconds_of(session):
+    """How many processor seconds the processes of a session have taken so far, with those that have ended."""
+    ticks = 0
+    for it in filter(str.isdigit, os.listdir("/proc")):
+        with contextlib.suppress(OSError), open(f"/proc/{it}/stat", encoding="utf-8", errors="replace") as stat:
+            fields = stat.read().rpartition(")")[2].split()
+            if int(fields[3]) == session:
+                ticks += sum(map(int, fields[11:15]))
+    return ticks / os.sysconf("SC_CLK_TCK")
+
+
+def seconds_of(session):
+    """How many processor seconds the processes of a session have taken so far, with those that have ended."""
+    ticks = 0
+    for it in filter(str.isdigit, os.listdir("/proc")):
+        with contextlib.suppress(OSError), open(f"/proc/{it}/stat", encoding="utf-8", errors="replace") as stat:
+            fields = stat.read().rpartition(")")[2].split()
+            if int(fields[3]) == session:
+                ticks += sum(map(int, fields[11:15]))
+    return ticks / os.sysconf("SC_CLK_TCK")
+
+
 def jobs_for(bytes_a_job):
     """How many jobs there are processors and memory for, where each takes so much."""
     return max(1, min(processors(), free_bytes() // bytes_a_job))

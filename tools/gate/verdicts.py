@@ -4,7 +4,7 @@ from collections import deque
 from functools import partial
 
 from .answers import answers_of, with_holes, without
-from .edits import rounds
+from .edits import parted
 from .reports import LIMIT, errors, first_words, reports
 
 REFUSED, THROUGH, BAD = "refused", "NOT REFUSED", "BAD EDIT"
@@ -103,31 +103,50 @@ def note(edit, symbol, trial):
 
 def try_all(edits, prover, whole):
     """Tries edits, and yields those that a check has just settled."""
-    together, alone = ([], edits) if whole else rounds(edits)
-    for one in together:
-        left = try_together(one, prover)
-        alone = alone + left
-        yield [it for it in one if it not in left]
+    together, alone = ([], edits) if whole else parted(edits)
+    alone += yield from try_together(together, prover)
     for it in alone:
         try_alone(it, prover, whole)
         yield [it]
 
 
 def try_together(edits, prover):
-    """Tries edits of different functions in one check of these, and in others as long as there is something to ask. Returns those that
-    are to be tried alone."""
-    symbols = {it: prover.symbol(it) for it in edits}
-    left = [it for it in edits if symbols[it] is None]
-    asked = [Inquiry(it, symbols[it], prover) for it in edits if symbols[it]]
-    while asked:
-        trial = trial_of(asked, prover)
-        if trial.is_unread():
-            return left + try_parts([it.edit for it in asked], prover, trial)
+    """Tries edits, of each function one in a check, as long as there is something to ask. Yields those that a check has just settled,
+    and returns those that are to be tried alone."""
+    waiting, asked, left = [], {}, []
+    for it in edits:
+        symbol = prover.symbol(it)
+        if symbol:
+            waiting.append(Inquiry(it, symbol, prover))
+        else:
+            left.append(it)
+    while waiting or asked:
+        for it in list(waiting):
+            if asked.setdefault(it.edit.function.key(), it) is it:
+                waiting.remove(it)
+        lost = ask(list(asked.values()), prover)
+        settled = [it for it in asked.values() if it in lost or it.is_settled()]
+        asked = {key: it for key, it in asked.items() if it not in settled}
+        left += [it.edit for it in settled if not it.edit.kind]
+        yield [it.edit for it in settled if it.edit.kind]
+    return left
+
+
+def ask(asked, prover):
+    """Asks of edits of different functions by one check, and returns those of which that is in vain. Where it doesn't get to the prover,
+    those that an error points at are left out, or else it is done by halves."""
+    trial = trial_of(asked, prover)
+    if not trial.is_unread():
         for it in asked:
             it.hear(trial)
-        left += [it.edit for it in asked if it.is_settled() and not it.edit.kind]
-        asked = [it for it in asked if not it.is_settled()]
-    return left
+        return []
+    places = [(it.file, it.line) for it in trial.others]
+    wrong = [it for it in asked if any(file == it.edit.function.file and line in it.edit.function.lines for file, line in places)]
+    if wrong and len(wrong) < len(asked):
+        return [*wrong, *ask([it for it in asked if it not in wrong], prover)]
+    if len(asked) <= 2:
+        return asked
+    return [it for half in (asked[::2], asked[1::2]) for it in ask(half, prover)]
 
 
 def trial_of(asked, prover):
@@ -141,23 +160,15 @@ def trial_of(asked, prover):
     return trial
 
 
-def try_parts(edits, prover, trial):
-    """The same where a check of all didn't get to the prover: those that an error points at are taken out, or else halves are tried."""
-    places = [(it.file, it.line) for it in trial.others]
-    wrong = [it for it in edits if any(file == it.function.file and line in it.function.lines for file, line in places)]
-    if wrong and len(wrong) < len(edits):
-        return [*wrong, *try_together([it for it in edits if it not in wrong], prover)]
-    if len(edits) <= 2:
-        return edits
-    return [it for half in (edits[::2], edits[1::2]) for it in try_together(half, prover)]
-
-
 def try_alone(edit, prover, whole=False):
     """Tries an edit alone: by a check of what it changes, with holes and without, and, if that doesn't refuse it, by one of the whole
     crate."""
     path = None if whole or edit.seems_proved else edit.path()
-    if path and edit.function and prover.has_holes and not edit.was_over_holes and not try_together([edit], prover):
-        return
+    if path and edit.function and prover.has_holes and not edit.was_over_holes:
+        for _ in try_together([edit], prover):
+            pass
+        if edit.kind:
+            return
     for it in [path, None] if path else [None]:
         alone = Alone(edit, prover, it)
         if alone.judges():
