@@ -24,23 +24,32 @@ class Function:
         # Others may rest on the body of a const fn, and of a function in a cycle of calls.
         self.is_read_by_others = "const" in before or "cycle" in before
         self.of_trait = owner[:1] == ["impl"] and "for" in owner
+        # A check has a name of its own for a trait of what is named by a path.
+        self.has_sure_name = ":" not in arguments(self.trait())
 
     def key(self):
         return self.file, self.begins
 
+    def parameters(self):
+        """What the impl that it stands in declares in angle brackets."""
+        head = self.owner[1:]
+        return head[: past_angles(head)] if head[:1] == ["<"] else []
+
+    def trait(self):
+        head = self.owner[1 + len(self.parameters()) :]
+        return head[: head.index("for")] if self.of_trait else []
+
     def of(self):
         """The type that it is a method of, as the name that a check prints has it, and whether that is for any of its parameters."""
-        head, rest, parameters = self.owner[1:], [], []
-        if head[:1] == ["<"]:
-            parameters, head = head[: past_angles(head)], head[past_angles(head) :]
+        parameters, rest = self.parameters(), self.trait()
+        head = self.owner[1 + len(parameters) + len(rest) + self.of_trait :]
         if "where" in head:
             head = head[: head.index("where")]
-        if self.of_trait:
-            rest, head = head[: head.index("for")], head[head.index("for") + 1 :]
         words = [it for it in head if re.match(r"[A-Za-z_]", it)]
         if not rest and any(it not in parameters for it in words[1:]):
             return "+".join(words), False
-        return "".join(words[:1] + [it for it in rest if re.match(r"[A-Z]", it)]), True
+        rest = [it for it in rest if re.match(r"[A-Z]", it) and it not in declared(parameters)]
+        return "".join(words[:1] + rest), True
 
     def guess(self):
         """The end of the name that a check prints for it."""
@@ -94,6 +103,21 @@ def homes_of(texts):
         for it in DECLARED.findall(text):
             homes[it] = None if it in homes else modules_of(file)
     return {it: modules for it, modules in homes.items() if modules is not None}
+
+
+def arguments(path):
+    """What stands in the angle brackets of a path."""
+    return path[path.index("<") + 1 :] if "<" in path else []
+
+
+def declared(parameters):
+    """The names that parameters in angle brackets have, without what they are bound by."""
+    found, depth = set(), 0
+    for before, it in zip(["", *parameters], parameters):
+        if depth == 1 and before in ("<", ","):
+            found.add(it)
+        depth += (it == "<") - (it == ">")
+    return found
 
 
 def past_angles(words):

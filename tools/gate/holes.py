@@ -32,7 +32,8 @@ class Holes:
 
     def can_be_left_out(self, function, cited):
         module = self.names.module(function)
-        return not function.is_read_by_others and not any(f"proofs.{module}.{it}" in cited for it in WRITTEN)
+        is_cited = any(f"proofs.{module}.{it}" in cited for it in WRITTEN)
+        return function.has_sure_name and not function.is_read_by_others and not is_cited
 
     def make(self, folder, edits):
         """Leaves out all functions but those of the edits, in a copy of the crate as it stands. Each line keeps its number."""

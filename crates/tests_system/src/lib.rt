@@ -1,4 +1,4 @@
-//! Worked rows through a whole system: each line of a row is a step, with the reply that it is to have.
+//! Worked rows through a whole system: each line of a row is a step, with the reply that it is to have. And examples of its parts.
 #![tactic(auto)]
 
 #[cfg(test)]
@@ -17,6 +17,8 @@ mod growth;
 mod limits;
 #[cfg(test)]
 mod logs;
+#[cfg(test)]
+mod parts;
 #[cfg(test)]
 mod play;
 #[cfg(test)]

@@ -1,5 +1,5 @@
 use Rattle.xa_line.specs.Ends.{SameIssuer}
-use Rattle.tests_base.proofs.lines.ask.Given as goal
+use Rattle.tests_system.proofs.parts.lines.issue_opens.Given as goal
 
 abbrev pub invariant-loop-number : goal.invariant-loop-number
 invariant-loop-number l = SameIssuer l.initial.issuer l.issuer

@@ -1,5 +1,5 @@
 use Rattle.xa_line.specs.Ends.{SameTaker}
-use Rattle.tests_base.proofs.lines.reply.Given as goal
+use Rattle.tests_system.proofs.parts.lines.take_opens.Given as goal
 
 abbrev pub invariant-loop-number : goal.invariant-loop-number
 invariant-loop-number l = SameTaker l.initial.taker l.taker

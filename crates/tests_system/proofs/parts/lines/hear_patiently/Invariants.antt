@@ -1,5 +1,5 @@
 use Rattle.xa_line.specs.Ends.{SameIssuer}
-use Rattle.tests_base.proofs.lines.hear_patiently.Given as goal
+use Rattle.tests_system.proofs.parts.lines.hear_patiently.Given as goal
 
 abbrev pub invariant-loop : goal.invariant-loop
 invariant-loop l = SameIssuer l.initial.issuer l.issuer
