@@ -53,25 +53,16 @@ def put_last(pid):
         it.write("19")
 
 
-def seconds_of(session):
-    """How many processor seconds the processes of a session have taken so far, with those that have ended."""
-    ticks = 0
+def processes():
+    """Each process, and what the system tells of it, from its state on."""
     for it in filter(str.isdigit, os.listdir("/proc")):
         with contextlib.suppress(OSError), open(f"/proc/{it}/stat", encoding="utf-8", errors="replace") as stat:
-            fields = stat.read().rpartition(")")[2].split()
-            if int(fields[3]) == session:
-                ticks += sum(map(int, fields[11:15]))
-    return ticks / os.sysconf("SC_CLK_TCK")
+            yield int(it), stat.read().rpartition(")")[2].split()
 
 
 def seconds_of(session):
     """How many processor seconds the processes of a session have taken so far, with those that have ended."""
-    ticks = 0
-    for it in filter(str.isdigit, os.listdir("/proc")):
-        with contextlib.suppress(OSError), open(f"/proc/{it}/stat", encoding="utf-8", errors="replace") as stat:
-            fields = stat.read().rpartition(")")[2].split()
-            if int(fields[3]) == session:
-                ticks += sum(map(int, fields[11:15]))
+    ticks = sum(sum(map(int, fields[11:15])) for _, fields in processes() if int(fields[3]) == session)
     return ticks / os.sysconf("SC_CLK_TCK")
 
 
@@ -94,12 +85,10 @@ def on_signals(ends):
 def descendants():
     """All processes that run because this one has started them, or one of them."""
     parents, ended = {}, set()
-    for it in filter(str.isdigit, os.listdir("/proc")):
-        with contextlib.suppress(OSError), open(f"/proc/{it}/stat", encoding="utf-8", errors="replace") as stat:
-            state, parent = stat.read().rpartition(")")[2].split()[:2]
-            parents[int(it)] = int(parent)
-            if state == "Z":
-                ended.add(int(it))
+    for pid, (state, parent, *_) in processes():
+        parents[pid] = int(parent)
+        if state == "Z":
+            ended.add(pid)
     found, last = set(), {os.getpid()}
     while last:
         last = {it for it, parent in parents.items() if parent in last}
