@@ -1,5 +1,5 @@
-//! Tests of whole scenario files, each with all that a run or a check of it prints; and of logs, with the lists of
-//! them.
+//! Tests of whole files of scenarios and of jobs, each with all that a run or a check of it prints; and of logs, with the
+//! lists of them.
 #![tactic(auto)]
 
 #[cfg(test)]
@@ -8,6 +8,8 @@ mod early;
 mod explained;
 #[cfg(test)]
 mod failing;
+#[cfg(test)]
+mod job_files;
 #[cfg(test)]
 mod logs;
 #[cfg(test)]

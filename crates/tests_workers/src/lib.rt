@@ -1,6 +1,5 @@
 //! Tests of the worker threads, on real threads: what no clause says of a run of jobs and of the decision board. That
-//! runs come to their end, that workers run side by side, and in which order rows, commits and sweeps come; and whole
-//! jobs files.
+//! runs come to their end, that workers run side by side, and in which order rows, commits and sweeps come.
 #![tactic(auto)]
 
 #[cfg(test)]
@@ -9,8 +8,6 @@ mod board;
 mod ends;
 #[cfg(test)]
 mod gates;
-#[cfg(test)]
-mod job_files;
 #[cfg(test)]
 mod logs;
 #[cfg(test)]

@@ -1,5 +1,4 @@
 //! Jobs files: whole files with all that is printed of them, files that are refused, and writers and logs that fail.
 
-mod failing;
 mod faults;
 mod runs;
