@@ -1,4 +1,5 @@
-//! Worked rows through a whole system: each line of a row is a step, with the reply that it is to have. And examples of its parts.
+//! Worked rows through a whole system: each line of a row is a step, with the reply that it is to have; examples of its parts; the
+//! coordinator of a driver; and whole files of scenarios and of jobs. All of them over logs in memory.
 #![tactic(auto)]
 
 #[cfg(test)]
@@ -29,6 +30,10 @@ mod refused_memory;
 mod reply_words;
 #[cfg(test)]
 mod scans;
+#[cfg(test)]
+mod scenario;
+#[cfg(test)]
+mod server;
 #[cfg(test)]
 mod systems;
 #[cfg(test)]

@@ -21,10 +21,14 @@ const MOST_READINGS: usize = 100;
 
 /// What a file holds: nothing where there is none.
 fn bytes_at(rt: &HostRuntime, path: &str) -> io::Result<Vec<u8>> {
-    match fs::read(rt, path) {
-        Err(error) if is_missing(&error) => Ok(Vec::new(rt.alloc())),
-        read => read,
+    let error = match fs::read(rt, path) {
+        Ok(bytes) => return Ok(bytes),
+        Err(error) => error,
+    };
+    if is_missing(&error) {
+        return Ok(Vec::new(rt.alloc()));
     }
+    Err(error)
 }
 
 /// The header of a journal.

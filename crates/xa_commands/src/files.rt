@@ -134,5 +134,5 @@ pub fn output_to<W: Write>(
 
 /// Whether the system says that there is no such file.
 pub(crate) fn is_missing(error: &io::Error) -> bool {
-    error.kind() == ErrorKind::NotFound
+    matches!(error.kind(), ErrorKind::NotFound)
 }

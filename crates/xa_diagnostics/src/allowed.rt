@@ -40,7 +40,11 @@ const FLAGS: &[&str] = &[
 
 /// The names of calls.
 pub fn call_names() -> [&'static str; 9] {
-    CALL_KINDS.map(|kind| kind.name())
+    let mut names = [""; 9];
+    for (name, kind) in names.iter_mut().zip(CALL_KINDS) {
+        *name = kind.name();
+    }
+    names
 }
 
 /// The words that a key may hold, where it holds a word other than the name of a call.
@@ -85,13 +89,12 @@ pub fn write_list<W: fmt::Write>(
 ) -> fmt::Result {
     let last = words.len().saturating_sub(1);
     for (i, word) in words.iter().enumerate() {
-        if i == 0 {
-            write!(f, "{word}")?;
-        } else if i == last {
-            write!(f, " {joint} {word}")?;
-        } else {
-            write!(f, ", {word}")?;
+        if i > 0 && i == last {
+            write!(f, " {joint} ")?;
+        } else if i > 0 {
+            f.write_str(", ")?;
         }
+        f.write_str(word)?;
     }
     Ok(())
 }

@@ -15,11 +15,11 @@ fn write_value<W: fmt::Write>(f: &mut fmt::Formatter<W>, value: &Value) -> fmt::
     match value {
         Value::String(text) => write!(f, "{text:?}"),
         Value::Integer(number) => write!(f, "{number}"),
-        Value::Float(_) => write!(f, "a float"),
+        Value::Float(_) => f.write_str("a float"),
         Value::Boolean(truth) => write!(f, "{truth}"),
-        Value::Datetime(_) => write!(f, "a date or time"),
-        Value::Array(_) => write!(f, "an array"),
-        Value::Table(_) => write!(f, "a table"),
+        Value::Datetime(_) => f.write_str("a date or time"),
+        Value::Array(_) => f.write_str("an array"),
+        Value::Table(_) => f.write_str("a table"),
     }
 }
 

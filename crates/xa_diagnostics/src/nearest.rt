@@ -4,6 +4,9 @@ use std::alloc::Global;
 use strsim::osa_distance;
 use xa_base::Memory;
 
+/// A longer word is near no other.
+const MOST_LETTERS: usize = 40;
+
 /// The nearest of some words to one that is none of them, if a third of its letters or fewer are wrong.
 pub fn nearest<'a>(
     alloc: Global,
@@ -11,24 +14,24 @@ pub fn nearest<'a>(
     words: &[&'a str],
 ) -> Result<Option<&'a str>, Memory> {
     let mut best = None;
-    // Of a long text none is near.
-    let mut least = if word.len() > 40 {
-        0
-    } else {
-        word.len() / 3 + 1
-    };
+    let mut least = word.len() / 3 + 1;
     for other in words {
-        let distance = if word.eq_ignore_ascii_case(other) {
-            0
-        } else if word.len() > 40 {
-            least
-        } else {
-            osa_distance(alloc, word, other)?
-        };
+        let distance = distance(alloc, word, other)?;
         if distance < least {
             least = distance;
             best = Some(*other);
         }
     }
     Ok(best)
+}
+
+/// How many letters of a word are wrong, if another was meant. That a letter is a capital is no fault where no other is wrong.
+fn distance(alloc: Global, word: &str, meant: &str) -> Result<usize, Memory> {
+    if word.eq_ignore_ascii_case(meant) {
+        return Ok(0);
+    }
+    if word.len() > MOST_LETTERS {
+        return Ok(usize::MAX);
+    }
+    Ok(osa_distance(alloc, word, meant)?)
 }

@@ -2,7 +2,7 @@
 
 ghost use Rattle.std.specs.Prelude.{◌≡◌};
 
-use crate::failing::Failing;
+use crate::scenario::failing::Failing;
 use std::alloc::Global;
 use std::test::Fail;
 use xa_base::{Branch, Gtrid, How};

@@ -1,6 +1,6 @@
 //! Runs that end early: a log that can't be started, and a writer that fails.
 
-use crate::failing::Failing;
+use crate::scenario::failing::Failing;
 use std::test::Fail;
 use xa_files::RunFault;
 use xa_log::{FailLog, FailPlan, LogCall, MemLog};

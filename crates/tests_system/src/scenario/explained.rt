@@ -1,6 +1,6 @@
 //! What the rows of a log ask of an operator, as text.
 
-use crate::logs::{FIRST, LATER, OF_LATER_START, branch, full_log};
+use crate::scenario::logs::{FIRST, LATER, OF_LATER_START, branch, full_log};
 use std::alloc::Global;
 use std::test::Fail;
 use xa_base::How;

@@ -1,6 +1,6 @@
 //! Files that are refused, with their faults, and files without jobs.
 
-use crate::job_files::runs::{FOUR_JOBS, NO_FAULT, run_of};
+use crate::scenario::job_files::runs::{FOUR_JOBS, NO_FAULT, run_of};
 use std::test::Fail;
 use xa_files::RunFault;
 use xa_jobs::read_jobs;

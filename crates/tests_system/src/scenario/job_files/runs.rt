@@ -1,6 +1,6 @@
 //! Whole files, with what is printed of them.
 
-use crate::failing::Failing;
+use crate::scenario::failing::Failing;
 use std::alloc::Global;
 use std::sync::Wait;
 use std::test::Fail;

@@ -1,6 +1,6 @@
 //! Lines of several requests.
 
-use crate::sessions::written;
+use crate::server::sessions::written;
 use std::alloc::Global;
 use xa_log::MemLog;
 
