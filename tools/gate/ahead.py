@@ -13,7 +13,8 @@ PROVED = re.compile(r"rt: (\w+) proved$")
 
 class Ahead:
     """The last crates rest on one another, and rt ci leaves processors idle while it proves them. Meanwhile the edits of the crates
-    before them are tried, at the lowest priority. tools/edits keeps what is refused, and counts it when it is run over all.
+    before them are tried, at the lowest priority. tools/edits keeps what is refused, and counts it when it is run over all. Those that are
+    under way when rt ci ends go on: it waits for them, crate by crate.
 
     So often, in seconds (looks), it asks whether there is room for one more: busy says how many processors were busy since it was last
     asked, free how many bytes are left."""
@@ -36,7 +37,6 @@ class Ahead:
     def work(self):
         while not self.ends.wait(self.looks):
             self.look()
-        self.end_runs()
 
     def look(self):
         self.runs = {crate: it for crate, it in self.runs.items() if it.poll() is None}
@@ -69,5 +69,6 @@ class Ahead:
         self.runs = {}
 
     def end(self):
+        """Begins no more."""
         self.ends.set()
         self.thread.join()

@@ -1,6 +1,7 @@
 """All edits of a crate, tried, and what is kept of that."""
 
 import contextlib
+import fcntl
 import hashlib
 import json
 import os
@@ -9,7 +10,7 @@ import time
 
 from .crates import CACHE, text_of
 from .edits import edits_of
-from .prover import Prover
+from .prover import Prover, Stopped
 from .reports import first_words
 from .verdicts import BAD, REFUSED, UNSURE, give, try_all
 
@@ -25,6 +26,20 @@ class Kept:
 
     def file(self, edit):
         return f"{REFUSALS}/{hashlib.sha256(repr((self.sum, edit.name, edit.text)).encode()).hexdigest()}"
+
+    @contextlib.contextmanager
+    def alone(self, stops):
+        """Waits until no other run tries edits over the same sum, and keeps others waiting."""
+        os.makedirs(REFUSALS, exist_ok=True)
+        with open(f"{REFUSALS}/{hashlib.sha256(repr(self.sum).encode()).hexdigest()}.lock", "w", encoding="utf-8") as lock:
+            while True:
+                try:
+                    fcntl.flock(lock, fcntl.LOCK_EX | fcntl.LOCK_NB)
+                    break
+                except BlockingIOError:
+                    if stops.wait(0.5):
+                        raise Stopped from None
+            yield
 
     def take(self, edits):
         for it in edits:
@@ -58,15 +73,17 @@ class CrateRun:
         return [it for it in self.edits if not it.kind]
 
     def take_kept(self, anew):
-        self.kept = Kept(self.kit, self.crate)
+        self.kept, self.anew = Kept(self.kit, self.crate), anew
         if not anew:
             self.kept.take(self.left())
 
     def run(self, room, whole, is_known):
-        """Tries those that are left, and says what each came to."""
-        left = self.left()
-        if left:
-            self.try_left(left, room, whole, is_known)
+        """Tries those that are left, and says what each came to. What another run tries now it waits for."""
+        if self.left():
+            with self.kept.alone(room.stops):
+                self.take_kept(self.anew)
+                if self.left():
+                    self.try_left(self.left(), room, whole, is_known)
         for it in self.edits:
             self.say(f"{self.crate.name}/{it.name}: {it.kind}: {it.why}")
 

@@ -13,6 +13,7 @@ from .answers import names_in, rewrite
 from .crates import PARTS, text_of
 from .functions import Names
 from .holes import Holes
+from .places import Copies, told_by_origins
 from .reports import reports
 
 # What a check printed, its status, its processor seconds and the most memory that it took.
@@ -78,6 +79,7 @@ class Prover:
         self.seed, self.files, self.symbols, self.answers = f"{self.work}/seed", {}, [], {}
         self.names = Names(kit, crate) if is_known else None
         self.holes, self.has_holes = Holes(crate, self.names) if is_known else None, is_known
+        self.copies = Copies(crate, self.names, self.holes) if is_known else None
         self.seconds, self.bytes, self.checks = 0.0, 0, 0
 
     def prove(self, edits, whole):
@@ -113,16 +115,21 @@ class Prover:
             self.answers[file] = names_in(text_of(path)) if os.path.isfile(path) else set()
         return self.answers[file]
 
-    def over_seed(self, edits, paths, readings, with_holes=False):
-        """A check of these paths, all if there are none, with the edits made, over a copy of the seed, which no check may change.
+    def can_copy(self, function):
+        """Whether a check can ask of copies of the function too."""
+        return self.is_known and self.copies.can_be_made(function)
+
+    def over_seed(self, seats, readings, with_holes=False):
+        """A check of the seats' paths, all if there are none, with their edits made, over a copy of the seed, which no check may change.
         Of some files of answers it reads what they become (readings)."""
+        flags = only({it.path for it in seats if it.path})
         if self.is_known:
-            return self.check(edits, only(paths), self.seed, readings, with_holes)
+            return self.check(seats, flags, self.seed, readings, with_holes)
         over = tempfile.mkdtemp(prefix="over-", dir=self.work)
         os.rmdir(over)
         linked(self.seed, over)
         try:
-            return self.check(edits, only(paths), over, readings)
+            return self.check(seats, flags, over, readings)
         finally:
             shutil.rmtree(over, ignore_errors=True)
             if listing(self.seed) != self.files and not self.room.stops.is_set():
@@ -131,7 +138,9 @@ class Prover:
     def clean(self):
         shutil.rmtree(self.work, ignore_errors=True)
 
-    def check(self, edits, flags, over, readings=(), with_holes=False):
+    def check(self, seats, flags, over, readings=(), with_holes=False):
+        copied = [it for it in seats if it.is_copy()]
+        edits = [it.edit for it in seats if not it.is_copy()]
         with tempfile.TemporaryDirectory(prefix="try-", dir=self.work) as folder:
             for part in PARTS:
                 if os.path.isdir(f"{self.crate.folder}/{part}"):
@@ -139,6 +148,7 @@ class Prover:
             if with_holes:
                 self.holes.make(folder, edits)
             make(edits, folder)
+            origins = self.copies.make(folder, copied) if copied else {}
             for file in readings:
                 rewrite(f"{folder}/{file}", readings[file])
             words = [f"{self.kit}/bin/rattle", "check", *self.crate.words(self.kit), "--jobs", "1", *flags]
@@ -147,7 +157,7 @@ class Prover:
                 # most likely for memory
                 said = self.room.run([*words, "--incremental", over], folder)
         self.seconds, self.bytes, self.checks = self.seconds + said.seconds, max(self.bytes, said.bytes), self.checks + 1
-        return said
+        return said._replace(text=told_by_origins(said.text, origins))
 
 
 def make(edits, folder):

@@ -1,10 +1,11 @@
 """Whether an edit is refused: by which goal of which function."""
 
-from collections import deque
+from collections import Counter
 from functools import partial
 
 from .answers import answers_of, with_holes, without
 from .edits import parted
+from .places import Place
 from .reports import LIMIT, errors, first_words, reports
 
 REFUSED, THROUGH, BAD = "refused", "NOT REFUSED", "BAD EDIT"
@@ -15,13 +16,23 @@ NO_LONGER = " (its answer no longer fits)"
 TIMES = 4
 
 
-class Trial:
-    """A check with some edits made, of what each of them names (paths; None is the whole crate). Of some files of answers written by
-    hand it reads what they become (readings)."""
+class Seat:
+    """An edit in a check: what the check is to look at for its sake (path; None is the whole crate), and where it is made, if it is one of
+    several of its function (place)."""
 
-    def __init__(self, prover, paths, readings, with_holes=False):
+    def __init__(self, edit, path, place=None):
+        self.edit, self.path, self.place = edit, path, place
+
+    def is_copy(self):
+        return bool(self.place and self.place.number)
+
+
+class Trial:
+    """A check with some edits made. Of some files of answers written by hand it reads what they become (readings)."""
+
+    def __init__(self, prover, seats, readings, with_holes=False):
         self.with_holes = with_holes
-        self.said = prover.over_seed(list(paths), [it for it in paths.values() if it], readings, with_holes)
+        self.said = prover.over_seed(seats, readings, with_holes)
         self.found, self.wrong = reports(self.said.text), errors(self.said.text)
         self.others = [it for it in self.wrong if not it.is_of_answer()]
         # Answers that don't fit, each with its file, and whether it is false, or only names what is gone.
@@ -40,37 +51,59 @@ class Trial:
         return all(it.file != file for it in self.others)
 
 
-class Inquiry:
-    """What is asked of an edit, one thing in each check, until one refuses it: whether a goal of its function is open that has no answer
-    written by hand; then, of one after the other whose answer is false, whether it is open without. That check leaves the answer out,
-    and each other one of the function is a hole."""
+class Question(Seat):
+    """What a check asks of an edit: whether any goal of its function is open that has no answer written by hand (goal is None); or
+    whether a goal is open without its answer. Then each other answer of the function is a hole."""
 
-    def __init__(self, edit, symbol, prover):
-        self.edit, self.symbol, self.prover, self.file = edit, symbol, prover, answers_of(symbol)
-        # None is any goal without an answer.
-        self.goals = deque([None])
+    def __init__(self, inquiry, goal, place):
+        super().__init__(inquiry.edit, place.symbol, place)
+        self.inquiry, self.goal = inquiry, goal
 
     def reading(self):
-        """What its check reads of the function's answers."""
-        return {self.file: partial(with_holes, left_out=self.goals[0])} if self.goals[0] else {}
+        """What the check reads of the function's answers."""
+        return {self.place.answers: partial(with_holes, left_out=self.goal)} if self.goal else {}
+
+
+class Inquiry:
+    """What is asked of an edit until something refuses it: an open goal without an answer; or a goal whose answer is false, and which
+    is open without that too. Which one that is the edit may say (its goal): then both is asked by the first check."""
+
+    def __init__(self, edit, symbol, prover):
+        self.edit, self.symbol, self.prover = edit, symbol, prover
+        # What is still to be asked; the answers that are false; and what refuses it, by the goals that are open without their answers.
+        self.goals, self.false, self.opened = [None, edit.goal] if edit.goal else [None], [], {}
+        # Whether it is to be asked of the function itself.
+        self.is_own = False
 
     def is_settled(self):
         return bool(self.edit.kind) or not self.goals
 
-    def hear(self, trial):
+    def hear(self, question, trial):
         """Judges the edit by the open goals of its own function."""
-        asked = self.goals.popleft()
-        for report, goals in own_goals(self.edit, self.symbol, trial.found):
+        if self.is_settled():
+            return
+        place, asked = question.place, question.goal
+        if asked is None and place.number and any(place.has_proof(it.file) for it in trial.wrong):
+            # What is written of the proof doesn't fit. That may be for the copy's sake.
+            self.is_own = True
+            return
+        self.goals = [it for it in self.goals if it != asked]
+        for report, goals in own_goals(place, trial.found):
             file = answers_of(report.name)
-            new = [it.name for it in goals if it.name not in self.prover.answered(file) and trial.is_told(file)]
-            false = [it.name for it in goals if it.name == asked and file == self.file]
-            if new or false:
-                give(self.edit, REFUSED, told(report, new or false) + NO_LONGER * (not new))
+            answered = self.prover.answered(place.original(file))
+            new = [it.name for it in goals if it.name not in answered and trial.is_told(file)]
+            if new:
+                give(self.edit, REFUSED, place.original(told(report, new)))
                 return
+            if asked and file == place.answers and any(it.name == asked for it in goals):
+                self.opened[asked] = place.original(told(report, [asked]))
         if asked is None:
-            note(self.edit, self.symbol, trial)
-            false = [it for (file, it), is_false in trial.misfits.items() if file == self.file and is_false]
-            self.goals += false[:TIMES]
+            note(self.edit, place.symbol, trial)
+            self.false = [it for (file, it), is_false in trial.misfits.items() if file == place.answers and is_false][:TIMES]
+            self.goals = self.false.copy()
+        found = [self.opened[it] for it in self.false if it in self.opened]
+        if found:
+            give(self.edit, REFUSED, found[0] + NO_LONGER)
 
 
 def told(report, goals):
@@ -81,14 +114,13 @@ def give(edit, kind, why):
     edit.kind, edit.why = kind, why[:400]
 
 
-def own_goals(edit, symbol, found):
+def own_goals(place, found):
     """The open goals of the edit's own function, by report. A goal is its function's by the place of what it is about, or by the
     function's line."""
     own = []
     for it in found:
-        function = edit.function
-        here = [goal for goal in it.noted if goal.file == function.file and goal.line in function.lines]
-        if here or it.name == symbol and it.named:
+        here = [goal for goal in it.noted if place.has(goal.file, goal.line)]
+        if here or it.name == place.symbol and it.named:
             own.append((it, here or it.named))
     return own
 
@@ -111,37 +143,49 @@ def try_all(edits, prover, whole):
 
 
 def try_together(edits, prover):
-    """Tries edits, of each function one in a check, as long as there is something to ask. Yields those that a check has just settled,
-    and returns those that are to be tried alone."""
-    waiting, asked, left = [], {}, []
+    """Tries edits by checks of many, as long as there is something to ask. Yields those that a check has just settled, and returns those
+    that are to be tried alone."""
+    inquiries, left = [], []
     for it in edits:
         symbol = prover.symbol(it)
         if symbol:
-            waiting.append(Inquiry(it, symbol, prover))
+            inquiries.append(Inquiry(it, symbol, prover))
         else:
             left.append(it)
-    while waiting or asked:
-        for it in list(waiting):
-            if asked.setdefault(it.edit.function.key(), it) is it:
-                waiting.remove(it)
-        lost = ask(list(asked.values()), prover)
-        settled = [it for it in asked.values() if it in lost or it.is_settled()]
-        asked = {key: it for key, it in asked.items() if it not in settled}
+    while inquiries:
+        lost = [it.inquiry for it in ask(seated(inquiries, prover), prover)]
+        settled = [it for it in inquiries if it in lost or it.is_settled()]
+        inquiries = [it for it in inquiries if it not in settled]
         left += [it.edit for it in settled if not it.edit.kind]
         yield [it.edit for it in settled if it.edit.kind]
     return left
 
 
+def seated(inquiries, prover):
+    """What a check can ask, each in its place: of a function the first question in itself, and further ones in copies of it. What isn't
+    to be asked of a copy, or if there can't be one, waits for another check."""
+    asked, counts = [], Counter()
+    for it in sorted(inquiries, key=lambda it: not it.is_own):
+        function = it.edit.function
+        for goal in it.goals:
+            number = counts[function.key()]
+            is_bound = it.is_own and goal is None
+            if number == 0 or not is_bound and prover.has_holes and prover.can_copy(function):
+                counts[function.key()] += 1
+                asked.append(Question(it, goal, Place(function, it.symbol, number)))
+    return asked
+
+
 def ask(asked, prover):
-    """Asks of edits of different functions by one check, and returns those of which that is in vain. Where it doesn't get to the prover,
-    those that an error points at are left out, or else it is done by halves."""
+    """Asks by one check, and returns what is asked in vain. Where it doesn't get to the prover, what an error points at is left out, or
+    else it is done by halves."""
     trial = trial_of(asked, prover)
     if not trial.is_unread():
         for it in asked:
-            it.hear(trial)
+            it.inquiry.hear(it, trial)
         return []
     places = [(it.file, it.line) for it in trial.others]
-    wrong = [it for it in asked if any(file == it.edit.function.file and line in it.edit.function.lines for file, line in places)]
+    wrong = [it for it in asked if any(it.place.has(file, line) for file, line in places)]
     if wrong and len(wrong) < len(asked):
         return [*wrong, *ask([it for it in asked if it not in wrong], prover)]
     if len(asked) <= 2:
@@ -150,12 +194,11 @@ def ask(asked, prover):
 
 
 def trial_of(asked, prover):
-    paths = {it.edit: it.symbol for it in asked}
     readings = {file: it for one in asked for file, it in one.reading().items()}
-    trial = Trial(prover, paths, readings, prover.has_holes)
+    trial = Trial(prover, asked, readings, prover.has_holes)
     if trial.is_unread() and prover.has_holes:
         # It may be for what is left out that the crate doesn't compile.
-        trial = Trial(prover, paths, readings)
+        trial = Trial(prover, asked, readings)
         prover.has_holes = trial.is_unread()
     return trial
 
@@ -197,7 +240,7 @@ class Alone:
         for file, it in self.left_out:
             names.setdefault(file, set()).add(it)
         readings = {file: partial(without, names=some) for file, some in names.items()}
-        self.trial = Trial(self.prover, {self.edit: self.path}, readings)
+        self.trial = Trial(self.prover, [Seat(self.edit, self.path)], readings)
         self.others += self.trial.others
 
     def judges(self):
