@@ -72,8 +72,8 @@ class Inquiry:
         self.edit, self.symbol, self.prover = edit, symbol, prover
         # What is still to be asked; the answers that are false; and what refuses it, by the goals that are open without their answers.
         self.goals, self.false, self.opened = [None, edit.goal] if edit.goal else [None], [], {}
-        # Whether it is to be asked of the function itself.
-        self.is_own = False
+        # What is to be asked of the function itself.
+        self.bound = set()
 
     def is_settled(self):
         return bool(self.edit.kind) or not self.goals
@@ -83,9 +83,9 @@ class Inquiry:
         if self.is_settled():
             return
         place, asked = question.place, question.goal
-        if asked is None and place.number and any(place.has_proof(it.file) for it in trial.wrong):
+        if place.number and any(place.has_proof(it.file) for it in trial.wrong):
             # What is written of the proof doesn't fit. That may be for the copy's sake.
-            self.is_own = True
+            self.bound.add(asked)
             return
         self.goals = [it for it in self.goals if it != asked]
         for report, goals in own_goals(place, trial.found):
@@ -165,12 +165,11 @@ def seated(inquiries, prover):
     """What a check can ask, each in its place: of a function the first question in itself, and further ones in copies of it. What isn't
     to be asked of a copy, or if there can't be one, waits for another check."""
     asked, counts = [], Counter()
-    for it in sorted(inquiries, key=lambda it: not it.is_own):
+    for it in sorted(inquiries, key=lambda it: not it.bound):
         function = it.edit.function
         for goal in it.goals:
             number = counts[function.key()]
-            is_bound = it.is_own and goal is None
-            if number == 0 or not is_bound and prover.has_holes and prover.can_copy(function):
+            if number == 0 or goal not in it.bound and prover.has_holes and prover.can_copy(function):
                 counts[function.key()] += 1
                 asked.append(Question(it, goal, Place(function, it.symbol, number)))
     return asked
