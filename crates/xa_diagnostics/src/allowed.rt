@@ -41,8 +41,8 @@ const FLAGS: &[&str] = &[
 /// The names of calls.
 pub fn call_names() -> [&'static str; 9] {
     let mut names = [""; 9];
-    for (name, kind) in names.iter_mut().zip(CALL_KINDS) {
-        *name = kind.name();
+    for (i, kind) in CALL_KINDS.iter().enumerate() {
+        names[i] = kind.name();
     }
     names
 }
