@@ -31,7 +31,7 @@ class Kept:
     def alone(self, stops):
         """Waits until no other run tries edits over the same sum, and keeps others waiting."""
         os.makedirs(REFUSALS, exist_ok=True)
-        with open(f"{REFUSALS}/{hashlib.sha256(repr(self.sum).encode()).hexdigest()}.lock", "w", encoding="utf-8") as lock:
+        with open(f"{REFUSALS}/{self.sum}.lock", "w", encoding="utf-8") as lock:
             while True:
                 try:
                     fcntl.flock(lock, fcntl.LOCK_EX | fcntl.LOCK_NB)
@@ -74,14 +74,17 @@ class CrateRun:
 
     def take_kept(self, anew):
         self.kept, self.anew = Kept(self.kit, self.crate), anew
-        if not anew:
+        self.take()
+
+    def take(self):
+        if not self.anew:
             self.kept.take(self.left())
 
     def run(self, room, whole, is_known):
         """Tries those that are left, and says what each came to. What another run tries now it waits for."""
         if self.left():
             with self.kept.alone(room.stops):
-                self.take_kept(self.anew)
+                self.take()
                 if self.left():
                     self.try_left(self.left(), room, whole, is_known)
         for it in self.edits:

@@ -90,6 +90,10 @@ class Names:
         """The module of its proof, below the crate's proofs."""
         return function.path(self.homes).replace("::", ".")
 
+    def proof(self, function):
+        """The folder of what is written of its proof, below the crate."""
+        return f"proofs/{self.module(function).replace('.', '/')}"
+
 
 def modules_of(file):
     modules = os.path.splitext(file)[0].split("/")[1:]

@@ -56,7 +56,7 @@ class Holes:
 
     def write_hole(self, folder, function):
         module = self.names.module(function)
-        at = f"{folder}/proofs/{module.replace('.', '/')}"
+        at = f"{folder}/{self.names.proof(function)}"
         os.makedirs(at, exist_ok=True)
         with open(f"{at}/Proof.antt", "w", encoding="utf-8") as it:
             it.write(PROOF.format(crate=self.crate, module=module, name=function.name))

@@ -5,8 +5,8 @@ import re
 
 from .answers import answers_of
 from .crates import text_of
-
-PLACE = re.compile(r"(?P<dots>\./)?(?P<file>[^\s:]+):(?P<line>\d+)(?P<rest>:\d+: )")
+from .holes import WRITTEN
+from .reports import PLACE
 
 
 class Place:
@@ -47,12 +47,9 @@ class Copies:
         is_own = not function.owner or function.owner[0] == "impl" and not function.of_trait
         if not is_own or function.key() not in self.keys or any(function.name in it for it in self.closures):
             return False
-        folder = self.proofs(self.crate.folder, function)
+        folder = f"{self.crate.folder}/{self.names.proof(function)}"
         files = os.listdir(folder) if os.path.isdir(folder) else []
-        return all(it in ("Answers.antt", "Invariants.antt") for it in files)
-
-    def proofs(self, folder, function):
-        return f"{folder}/proofs/{self.names.module(function).replace('.', '/')}"
+        return all(os.path.splitext(it)[0] in WRITTEN for it in files)
 
     def make(self, folder, seats):
         """Makes these copies, each with its edit, in a copy of the crate, and returns where each line of their files is from."""
@@ -81,9 +78,9 @@ class Copies:
         return re.sub(rf"\bfn\s+{function.name}\b", f"fn {function.name}{seat.place.ending}", text, count=1).split("\n")
 
     def write_proofs(self, folder, place):
-        own, module = self.proofs(self.crate.folder, place.function), self.names.module(place.function)
+        proof, module = self.names.proof(place.function), self.names.module(place.function)
+        own, to = f"{self.crate.folder}/{proof}", f"{folder}/{proof}{place.ending}"
         for name in os.listdir(own) if os.path.isdir(own) else []:
-            to = self.proofs(folder, place.function) + place.ending
             os.makedirs(to, exist_ok=True)
             with open(f"{to}/{name}", "w", encoding="utf-8") as it:
                 it.write(re.sub(rf"(?<=\.){re.escape(module)}(?=[.\s])", module + place.ending, text_of(f"{own}/{name}")))
@@ -97,6 +94,6 @@ def told_by_origins(text, origins):
         if not 1 <= number <= len(lines):
             return found[0]
         file, line = lines[number - 1]
-        return f"{found['dots'] or ''}{file}:{line}{found['rest']}"
+        return f"{file}:{line}{found[0][found.end('line') - found.start() :]}"
 
-    return PLACE.sub(told, text) if origins else text
+    return re.sub(PLACE, told, text) if origins else text

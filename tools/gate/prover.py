@@ -117,7 +117,7 @@ class Prover:
 
     def can_copy(self, function):
         """Whether a check can ask of copies of the function too."""
-        return self.is_known and self.copies.can_be_made(function)
+        return self.has_holes and self.copies.can_be_made(function)
 
     def over_seed(self, seats, readings, with_holes=False):
         """A check of the seats' paths, all if there are none, with their edits made, over a copy of the seed, which no check may change.

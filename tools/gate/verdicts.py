@@ -12,7 +12,7 @@ REFUSED, THROUGH, BAD = "refused", "NOT REFUSED", "BAD EDIT"
 # A proof names what the edit took away, and nothing else refuses it; nothing is known.
 GONE, UNSURE = "NOT SHOWN", "NOT TRIED"
 NO_LONGER = " (its answer no longer fits)"
-# How many answers that don't fit are asked of, one by one, and how often they are left out, each time those just found.
+# How many answers that don't fit are asked of, and how often they are left out, each time those just found.
 TIMES = 4
 
 
@@ -169,7 +169,7 @@ def seated(inquiries, prover):
         function = it.edit.function
         for goal in it.goals:
             number = counts[function.key()]
-            if number == 0 or goal not in it.bound and prover.has_holes and prover.can_copy(function):
+            if number == 0 or goal not in it.bound and prover.can_copy(function):
                 counts[function.key()] += 1
                 asked.append(Question(it, goal, Place(function, it.symbol, number)))
     return asked
