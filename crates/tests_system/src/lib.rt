@@ -1,5 +1,5 @@
 //! Worked rows through a whole system: each line of a row is a step, with the reply that it is to have; examples of its parts; the
-//! coordinator of a driver; and whole files of scenarios and of jobs. All of them over logs in memory.
+//! coordinator of a driver; and whole files of scenarios and of jobs. Where one of them needs a log, it is in memory.
 #![tactic(auto)]
 
 #[cfg(test)]
