@@ -7,18 +7,20 @@ from .edits import edits_of
 from .machine import BYTES_A_JOB, jobs_for, processors
 
 # Minutes of one processor, from nothing: of --quick, of what the whole gate does of it, and of all proofs of rt ci with the tests.
-QUICK, QUICK_PART, PROOFS = 15, 5, 190
+QUICK, QUICK_PART, PROOFS = 15, 5, 170
 # Processor seconds of an edit, and of all edits of the crates in which one takes much longer.
-EDIT = 12
+EDIT = 10
 EDITS = {
-    "xa_session": 745,
-    "xa_sql_log": 525,
-    "xa_server": 440,
-    "xa_scenario": 410,
-    "xa_scenario_file": 225,
+    "xa_session": 1045,
+    "xa_sql_log": 530,
+    "xa_display": 510,
+    "xa_server": 505,
+    "xa_scenario": 505,
+    "xa_tm": 465,
     "xa_system": 370,
-    "xa_display": 345,
-    "xa_commands": 300,
+    "xa_workers": 265,
+    "xa_commands": 240,
+    "xa_scenario_file": 225,
     "xa_log": 170,
 }
 # Minutes that building, the tests and the programs take, whatever is kept.
