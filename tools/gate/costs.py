@@ -16,12 +16,9 @@ EDITS = {
     "xa_display": 510,
     "xa_server": 505,
     "xa_scenario": 505,
-    "xa_tm": 465,
     "xa_system": 370,
-    "xa_workers": 265,
     "xa_commands": 240,
     "xa_scenario_file": 225,
-    "xa_log": 170,
 }
 # Minutes that building, the tests and the programs take, whatever is kept.
 PROGRAMS = 5
