@@ -32,24 +32,36 @@ def without(text, names):
     return "\n".join(it for name, lines in parts(text) if name not in names for it in lines)
 
 
-def with_holes(text, left_out):
-    """The file where one answer is left out, so that its goal stands by itself, and each other one is a hole."""
+# Beside this hole rattle offers no text for a goal that is open: that takes a run of antt of its own, some ten seconds of a check.
+UNOFFERED = "unoffered : Unit {0}\nunoffered = ?\n"
+
+
+def unoffered(text):
+    return f"{text}\n{UNOFFERED}"
+
+
+def with_holes(text, but, leaves_out):
+    """The file where each answer is a hole but one, which stands as it is, or is left out, so that its goal stands by itself."""
     answers, kept, holes = names_in(text), [], set()
     for name, lines in parts(text):
-        if name not in answers or lines[0].startswith("pub ") and name != left_out:
+        if name == but:
+            kept += [] if leaves_out else lines
+        elif name not in answers or lines[0].startswith("pub "):
             kept += lines
-        elif name not in {left_out, *holes}:
+        elif name not in holes:
             holes.add(name)
             kept.append(f"{name} = ?")
     return "\n".join(kept)
 
 
 def rewrite(file, becomes):
-    """Changes the text of a file of answers, if it is there. One with no answer goes."""
-    if not os.path.isfile(file):
-        return
-    text = becomes(text_of(file))
-    os.remove(file)
-    if names_in(text):
+    """Changes the text of a file of answers, which is empty where there is none. One with nothing to read goes."""
+    text = ""
+    if os.path.isfile(file):
+        text = text_of(file)
+        os.remove(file)
+    text = becomes(text)
+    if names_in(text) or UNOFFERED in text:
+        os.makedirs(os.path.dirname(file), exist_ok=True)
         with open(file, "w", encoding="utf-8") as it:
             it.write(text)

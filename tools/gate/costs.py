@@ -40,12 +40,16 @@ class Costs:
     def whole(self):
         """By the lines of the crates that haven't passed here as they are."""
         self.sums = {it: it.sum() for it in self.crates}
-        left = [it for it in self.crates if not os.path.isfile(f"{CACHE}/passed/{self.sums[it]}")]
-        edits = sum(seconds_of_edits(it, len(edits_of(it)[0])) for it in left)
-        parts = [self.part(left, self.crates) * PROOFS, edits / 60]
+        self.left = [it for it in self.crates if not os.path.isfile(f"{CACHE}/passed/{self.sums[it]}")]
+        edits = sum(seconds_of_edits(it, len(edits_of(it)[0])) for it in self.left)
+        parts = [self.part(self.left, self.crates) * PROOFS, edits / 60]
         minutes = (QUICK_PART + sum(parts)) / jobs_for(BYTES_A_JOB) + PROGRAMS
-        kept = f"of {len(self.crates)} crates {len(self.crates) - len(left)} have passed here as they are"
+        kept = f"of {len(self.crates)} crates {len(self.crates) - len(self.left)} have passed here as they are"
         return f"the quick part is done, and the whole gate: about {self.rounded(minutes)}, {self.on()}; {kept}"
+
+    def first(self):
+        """The crate that all others rest on that are left, if there is one."""
+        return next((it for it in self.left if all(it is one or it in one.below() for one in self.left)), None)
 
     @staticmethod
     def part(some, every):

@@ -45,6 +45,11 @@ def one(status, _):
     return Count(1, 0) if status == 0 else Count(0, 1)
 
 
+def uncounted(_, __):
+    """Another part counts what it comes to."""
+    return Count(0, 0)
+
+
 def by_last_line(status, text):
     """What the last line that says so counts."""
     found = COUNTS.findall(text)

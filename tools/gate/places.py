@@ -23,10 +23,6 @@ class Place:
     def has(self, file, line):
         return file == self.file and (self.number > 0 or line in self.function.lines)
 
-    def has_proof(self, file):
-        """Whether the file has a part of its proof that is written by hand."""
-        return os.path.dirname(file) == os.path.dirname(self.answers)
-
     def original(self, text):
         """The text, where the copy is called as the function is."""
         return text.replace(f"{self.function.name}{self.ending}", self.function.name)
@@ -34,8 +30,9 @@ class Place:
 
 class Copies:
     """What copies of a crate's functions are made from. A function is copied with its clauses and with what is written of its proof by
-    hand, so it is proved as the function is. Not copied is a method of a trait, nor a function whose proof is written whole, or is cited
-    by others, or one with a closure that has such proofs."""
+    hand, so it is proved as the function is, and what doesn't fit in a copy doesn't fit for its edit's sake: nothing else names a
+    function's goals, since rattle keeps them private, and one that calls itself is tried alone. Not copied is a method of a trait, nor a
+    function whose proof is written whole or cited by others, nor one with a closure that has written proofs."""
 
     def __init__(self, crate, names, holes):
         self.crate, self.names = crate, names

@@ -3,7 +3,7 @@
 from collections import Counter
 from functools import partial
 
-from .answers import answers_of, with_holes, without
+from .answers import answers_of, unoffered, with_holes, without
 from .edits import parted
 from .places import Place
 from .reports import LIMIT, errors, first_words, reports
@@ -52,42 +52,45 @@ class Trial:
 
 
 class Question(Seat):
-    """What a check asks of an edit: whether any goal of its function is open that has no answer written by hand (goal is None); or
-    whether a goal is open without its answer. Then each other answer of the function is a hole."""
+    """What a check asks of an edit: which goals of its function are open that have no answer written by hand, and which answers are
+    false (goal is None). Or, of one goal, whether its answer is false (has_answer), or whether it is open without that: then each other
+    answer of the function is a hole."""
 
-    def __init__(self, inquiry, goal, place):
+    def __init__(self, inquiry, goal, has_answer, place):
         super().__init__(inquiry.edit, place.symbol, place)
-        self.inquiry, self.goal = inquiry, goal
+        self.inquiry, self.goal, self.has_answer = inquiry, goal, has_answer
 
-    def reading(self):
+    def reads(self, text):
         """What the check reads of the function's answers."""
-        return {self.place.answers: partial(with_holes, left_out=self.goal)} if self.goal else {}
+        if self.goal is not None:
+            text = with_holes(text, self.goal, leaves_out=not self.has_answer)
+        return unoffered(text) if self.inquiry.can_be_copied else text
 
 
 class Inquiry:
     """What is asked of an edit until something refuses it: an open goal without an answer; or a goal whose answer is false, and which
-    is open without that too. Which one that is the edit may say (its goal): then both is asked by the first check."""
+    is open without that too. Which one that is the edit may say (its goal): then both is asked first, and all else only where that doesn't
+    refuse it."""
+
+    ALL = (None, True)
 
     def __init__(self, edit, symbol, prover):
         self.edit, self.symbol, self.prover = edit, symbol, prover
-        # What is still to be asked; the answers that are false; and what refuses it, by the goals that are open without their answers.
-        self.goals, self.false, self.opened = [None, edit.goal] if edit.goal else [None], [], {}
-        # What is to be asked of the function itself.
-        self.bound = set()
+        self.can_be_copied = prover.can_copy(edit.function)
+        # What is still to be asked, by goal and whether it has its answer; whether all goals were asked of; the answers that are
+        # false; and what refuses it, by the goals that are open without their answers.
+        self.left = [(edit.goal, True), (edit.goal, False)] if edit.goal else [self.ALL]
+        self.is_of_all, self.false, self.opened = not edit.goal, [], {}
 
     def is_settled(self):
-        return bool(self.edit.kind) or not self.goals
+        return bool(self.edit.kind) or not self.left
 
     def hear(self, question, trial):
         """Judges the edit by the open goals of its own function."""
         if self.is_settled():
             return
         place, asked = question.place, question.goal
-        if place.number and any(place.has_proof(it.file) for it in trial.wrong):
-            # What is written of the proof doesn't fit. That may be for the copy's sake.
-            self.bound.add(asked)
-            return
-        self.goals = [it for it in self.goals if it != asked]
+        self.left.remove((asked, question.has_answer))
         for report, goals in own_goals(place, trial.found):
             file = answers_of(report.name)
             answered = self.prover.answered(place.original(file))
@@ -95,15 +98,19 @@ class Inquiry:
             if new:
                 give(self.edit, REFUSED, place.original(told(report, new)))
                 return
-            if asked and file == place.answers and any(it.name == asked for it in goals):
+            if not question.has_answer and file == place.answers and any(it.name == asked for it in goals):
                 self.opened[asked] = place.original(told(report, [asked]))
+        if question.has_answer:
+            false = [it for (file, it), is_false in trial.misfits.items() if file == place.answers and is_false]
+            self.false = [it for it in false if asked in (None, it)][:TIMES]
         if asked is None:
             note(self.edit, place.symbol, trial)
-            self.false = [it for (file, it), is_false in trial.misfits.items() if file == place.answers and is_false][:TIMES]
-            self.goals = self.false.copy()
+            self.left = [(it, False) for it in self.false]
         found = [self.opened[it] for it in self.false if it in self.opened]
         if found:
             give(self.edit, REFUSED, found[0] + NO_LONGER)
+        elif not self.left and not self.is_of_all:
+            self.left, self.is_of_all = [self.ALL], True
 
 
 def told(report, goals):
@@ -153,7 +160,7 @@ def try_together(edits, prover):
         else:
             left.append(it)
     while inquiries:
-        lost = [it.inquiry for it in ask(seated(inquiries, prover), prover)]
+        lost = [it.inquiry for it in ask(seated(inquiries), prover)]
         settled = [it for it in inquiries if it in lost or it.is_settled()]
         inquiries = [it for it in inquiries if it not in settled]
         left += [it.edit for it in settled if not it.edit.kind]
@@ -161,17 +168,17 @@ def try_together(edits, prover):
     return left
 
 
-def seated(inquiries, prover):
-    """What a check can ask, each in its place: of a function the first question in itself, and further ones in copies of it. What isn't
-    to be asked of a copy, or if there can't be one, waits for another check."""
+def seated(inquiries):
+    """What a check can ask, each in its place: of a function the first question in itself, and further ones in copies of it. What there
+    can be no copy for waits for another check."""
     asked, counts = [], Counter()
-    for it in sorted(inquiries, key=lambda it: not it.bound):
+    for it in inquiries:
         function = it.edit.function
-        for goal in it.goals:
+        for goal, has_answer in it.left:
             number = counts[function.key()]
-            if number == 0 or goal not in it.bound and prover.can_copy(function):
+            if number == 0 or it.can_be_copied:
                 counts[function.key()] += 1
-                asked.append(Question(it, goal, Place(function, it.symbol, number)))
+                asked.append(Question(it, goal, has_answer, Place(function, it.symbol, number)))
     return asked
 
 
@@ -193,7 +200,7 @@ def ask(asked, prover):
 
 
 def trial_of(asked, prover):
-    readings = {file: it for one in asked for file, it in one.reading().items()}
+    readings = {it.place.answers: it.reads for it in asked}
     trial = Trial(prover, asked, readings, prover.has_holes)
     if trial.is_unread() and prover.has_holes:
         # It may be for what is left out that the crate doesn't compile.

@@ -4,7 +4,7 @@ use crate::copies::copied_log;
 use crate::failure::Failure;
 use crate::log_names::{manager_in, print_named, refuse_half};
 use crate::log_reasons::{no_log, opening_failure, running_failure};
-use crate::stores::{list_copy, list_in_files};
+use crate::stores::{Listing, work_in_files};
 use std::io::Write;
 use xa_diagnostics::log_json;
 use xa_files::write_text;
@@ -43,14 +43,23 @@ fn text_about(
     path: &str,
     explained_for: Option<&[u8]>,
 ) -> Result<Vec<u8>, Failure> {
-    let mut text = Vec::new(rt.alloc());
+    let mut listing = Listing {
+        explained_for,
+        text: Vec::new(rt.alloc()),
+        listed: Ok(()),
+    };
     match SqlLog::look(rt, path) {
-        Ok(log) => match list_in_files(log, explained_for, &mut text) {
-            Ok(()) => Ok(text),
-            Err(failure) => Err(running_failure(rt, path, failure)),
-        },
+        Ok(log) => {
+            let closed = work_in_files(log, &mut listing);
+            match listed_text(listing, closed) {
+                Ok(text) => Ok(text),
+                Err(failure) => Err(running_failure(rt, path, failure)),
+            }
+        }
         Err(LogFault::Store) => {
-            list_copy(copied_log(rt, path)?, explained_for, &mut text)?;
+            // A copy is let go: whether it could be closed says nothing of the log.
+            let _closed = work_in_files(copied_log(rt, path)?, &mut listing);
+            let text = listed_text(listing, Ok(()))?;
             // A note that can't be written changes no status.
             let _unwritten = eprintln!(rt;
                 "xatm: {path}: another process runs over it, or it can't be written: \
@@ -60,6 +69,13 @@ fn text_about(
         }
         Err(fault) => Err(opening_failure(rt, path, fault)),
     }
+}
+
+/// What was listed of a log that was closed then, if neither failed.
+fn listed_text(listing: Listing<'_>, closed: Result<(), LogFault>) -> Result<Vec<u8>, Failure> {
+    listing.listed?;
+    closed?;
+    Ok(listing.text)
 }
 
 /// Lists the log at a path, and prints JSON.

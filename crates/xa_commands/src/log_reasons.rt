@@ -3,7 +3,7 @@
 use crate::copies::copied_log;
 use crate::failure::Failure;
 use crate::files::{is_missing, system_failure};
-use crate::stores::is_spent_copy;
+use crate::stores::{Spent, work_in_files};
 use sqlite::{Connection, Error, ErrorCode, Unknown};
 use std::alloc::Global;
 use std::fs;
@@ -156,11 +156,12 @@ pub(crate) fn running_failure(rt: &HostRuntime, path: &str, failure: Failure) ->
 
 /// Why a log that was opened fails.
 fn late_reason(rt: &HostRuntime, path: &str) -> Result<Failure, Failure> {
-    let is_spent = match copied_log(rt, path) {
-        Ok(copy) => is_spent_copy(copy),
-        Err(_) => false,
-    };
-    if is_spent {
+    let mut spent = Spent(false);
+    if let Ok(copy) = copied_log(rt, path) {
+        // A copy is let go: whether it could be closed says nothing of the log.
+        let _closed = work_in_files(copy, &mut spent);
+    }
+    if spent.0 {
         return reason_of(rt, path, LogFault::Spent);
     }
     store_reason(rt, path)

@@ -5,7 +5,6 @@ ghost use Rattle.std.specs.List.{AllByRecursion};
 ghost use Rattle.xa_log.specs.Contract.{FitsRow};
 ghost use Rattle.xa_restore.specs.LogLines.{OwnsBranches};
 
-use crate::failure::Failure;
 use sqlite::{Alter, FileStore};
 use sqlite_disk::Disk;
 use std::alloc::Global;
@@ -35,51 +34,48 @@ pub(crate) fn run_jobs_in_files<D: Disk + Drop, T: Threads + Wait + Clock + Sync
     }
 }
 
-/// Lists a log, or tells what it asks of an operator, where the name of its manager is given.
-fn list_over<L: DecisionLog, W: Write>(
-    log: &mut L,
-    explained_for: Option<&[u8]>,
-    out: &mut W,
-) -> Result<(), RunFault> {
-    match explained_for {
-        Some(manager) => explain_log(log, manager, out),
-        None => list_log(log, out),
+/// What is done over a log, whatever it is kept in. As it names no store, it is proved once for all logs.
+pub(crate) trait OverLog {
+    /// Does it, keeps what that comes to, and gives the log back.
+    fn over<L: DecisionLog + Drop>(&mut self, log: L) -> L;
+}
+
+/// A list of a log, or what it asks of an operator, where the name of its manager is given.
+#[derive(Drop)]
+pub(crate) struct Listing<'a> {
+    pub explained_for: Option<&'a [u8]>,
+    /// What there is to say, as far as that was listed.
+    pub text: Vec<u8>,
+    pub listed: Result<(), RunFault>,
+}
+
+impl OverLog for Listing<'_> {
+    fn over<L: DecisionLog + Drop>(&mut self, mut log: L) -> L {
+        self.listed = match self.explained_for {
+            Some(manager) => explain_log(&mut log, manager, &mut self.text),
+            None => list_log(&mut log, &mut self.text),
+        };
+        log
     }
-}
-
-/// Does so over a log in files, and closes it.
-pub(crate) fn list_in_files<D: Disk + Drop, W: Write>(
-    mut log: SqlLog<FileStore<D>>,
-    explained_for: Option<&[u8]>,
-    out: &mut W,
-) -> Result<(), Failure> {
-    let listed = list_over(&mut log, explained_for, out);
-    let closed = close_in_files(log);
-    listed?;
-    closed?;
-    Ok(())
-}
-
-/// Does so over a copy of a log, which is let go then.
-pub(crate) fn list_copy<D: Disk + Drop, W: Write>(
-    mut copy: SqlLog<FileStore<D>>,
-    explained_for: Option<&[u8]>,
-    out: &mut W,
-) -> Result<(), RunFault> {
-    list_over(&mut copy, explained_for, out)
 }
 
 /// Whether no manager can start over a log, for want of an incarnation.
-fn is_spent_over<L: DecisionLog>(log: &mut L) -> bool {
-    match log.bump() {
-        Err(LogFault::Spent) => true,
-        Ok(_) | Err(_) => false,
+#[derive(Drop)]
+pub(crate) struct Spent(pub bool);
+
+impl OverLog for Spent {
+    fn over<L: DecisionLog + Drop>(&mut self, mut log: L) -> L {
+        self.0 = matches!(log.bump(), Err(LogFault::Spent));
+        log
     }
 }
 
-/// The same of a copy of a log, which is let go then.
-pub(crate) fn is_spent_copy<D: Disk + Drop>(mut copy: SqlLog<FileStore<D>>) -> bool {
-    is_spent_over(&mut copy)
+/// Does it over a log in files, and closes that.
+pub(crate) fn work_in_files<D: Disk + Drop, W: OverLog>(
+    log: SqlLog<FileStore<D>>,
+    work: &mut W,
+) -> Result<(), LogFault> {
+    close_in_files(work.over(log))
 }
 
 /// Copies the journal of a log into its file, and closes both.

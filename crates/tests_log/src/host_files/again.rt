@@ -1,6 +1,6 @@
 //! Two runs over one log in a file: the second is of the next incarnation.
 
-use crate::texts::text_of;
+use crate::host_files::texts::text_of;
 use std::alloc::Global;
 use std::fs;
 use std::test::Fail;

@@ -1,6 +1,6 @@
 //! Several scenarios as processes, over one log in a file.
 
-use crate::texts::{text_of, texts_of};
+use crate::host_files::texts::{text_of, texts_of};
 use std::alloc::Global;
 use std::fs;
 use std::test::Fail;

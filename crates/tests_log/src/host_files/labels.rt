@@ -1,7 +1,7 @@
 //! Logs that keep names, in files of the host, and half of one. That a text with a label makes the table of a log is no clause,
 //! so a log that was made by it is opened, written and read here.
 
-use crate::paths::{Act, empty_in, play};
+use crate::host_files::paths::{Act, empty_in, play};
 use std::fs;
 use std::test::Fail;
 use tests_disks::{EMPTY, bump_at, look_at, make_folder};
