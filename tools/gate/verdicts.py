@@ -194,9 +194,11 @@ def ask(asked, prover):
     wrong = [it for it in asked if any(it.place.has(file, line) for file, line in places)]
     if wrong and len(wrong) < len(asked):
         return [*wrong, *ask([it for it in asked if it not in wrong], prover)]
-    if len(asked) <= 2:
+    inquiries = list(dict.fromkeys(it.inquiry for it in asked))
+    if len(inquiries) <= 2:
         return asked
-    return [it for half in (asked[::2], asked[1::2]) for it in ask(half, prover)]
+    halves = (inquiries[::2], inquiries[1::2])
+    return [it for half in halves for it in ask([one for one in asked if one.inquiry in half], prover)]
 
 
 def trial_of(asked, prover):

@@ -28,8 +28,16 @@ struct Back {
 
 /// Two empty rings, with as many places as a line has.
 fn rings(alloc: Global) -> Result<(Front, Back), AllocError> {
-    let (calls_in, calls_out) = RingBuffer::new(alloc, LINE_LIMIT)?;
-    let (answers_in, answers_out) = RingBuffer::new(alloc, LINE_LIMIT)?;
+    let calls = RingBuffer::new(alloc, LINE_LIMIT)?;
+    let answers = RingBuffer::new(alloc, LINE_LIMIT)?;
+    Ok(ends_of(calls, answers))
+}
+
+/// The ends of two rings, by side.
+fn ends_of(
+    (calls_in, calls_out): (Producer<Call>, Consumer<Call>),
+    (answers_in, answers_out): (Producer<(Call, Answer)>, Consumer<(Call, Answer)>),
+) -> (Front, Back) {
     let front = Front {
         calls: calls_in,
         answers: answers_out,
@@ -38,7 +46,7 @@ fn rings(alloc: Global) -> Result<(Front, Back), AllocError> {
         calls: calls_out,
         answers: answers_in,
     };
-    Ok((front, back))
+    (front, back)
 }
 
 /// Makes hops in one thread, and between two.
