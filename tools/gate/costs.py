@@ -11,12 +11,12 @@ QUICK, QUICK_PART, PROOFS = 15, 5, 170
 # Processor seconds of an edit, and of all edits of the crates in which one takes much longer.
 EDIT = 10
 EDITS = {
-    "xa_session": 1045,
+    "xa_session": 655,
     "xa_sql_log": 530,
-    "xa_display": 510,
     "xa_server": 505,
-    "xa_scenario": 505,
     "xa_system": 370,
+    "xa_scenario": 355,
+    "xa_display": 280,
     "xa_commands": 240,
     "xa_scenario_file": 225,
 }
