@@ -7,18 +7,18 @@ from .edits import edits_of
 from .machine import BYTES_A_JOB, jobs_for, processors
 
 # Minutes of one processor, from nothing: of --quick, of what the whole gate does of it, and of all proofs of rt ci with the tests.
-QUICK, QUICK_PART, PROOFS = 15, 5, 170
+QUICK, QUICK_PART, PROOFS = 15, 5, 130
 # Processor seconds of an edit, and of all edits of the crates in which one takes much longer.
-EDIT = 10
+EDIT = 8
 EDITS = {
-    "xa_session": 655,
-    "xa_sql_log": 530,
-    "xa_server": 505,
-    "xa_system": 370,
-    "xa_scenario": 355,
-    "xa_display": 280,
-    "xa_commands": 240,
-    "xa_scenario_file": 225,
+    "xa_session": 610,
+    "xa_sql_log": 405,
+    "xa_scenario": 285,
+    "xa_server": 280,
+    "xa_display": 255,
+    "xa_system": 240,
+    "xa_scenario_file": 180,
+    "xa_commands": 135,
 }
 # Minutes that building, the tests and the programs take, whatever is kept.
 PROGRAMS = 5
