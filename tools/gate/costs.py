@@ -20,8 +20,8 @@ EDITS = {
     "xa_scenario_file": 180,
     "xa_commands": 135,
 }
-# Minutes that building, the tests and the programs take, whatever is kept.
-PROGRAMS = 5
+# Minutes at the end, in which processors are idle: where the program is built anew, and where all is kept.
+LAST, LAST_KEPT = 5, 1
 
 
 def seconds_of_edits(crate, count):
@@ -43,7 +43,7 @@ class Costs:
         self.left = [it for it in self.crates if not os.path.isfile(f"{CACHE}/passed/{self.sums[it]}")]
         edits = sum(seconds_of_edits(it, len(edits_of(it)[0])) for it in self.left)
         parts = [self.part(self.left, self.crates) * PROOFS, edits / 60]
-        minutes = (QUICK_PART + sum(parts)) / jobs_for(BYTES_A_JOB) + PROGRAMS
+        minutes = (QUICK_PART + sum(parts)) / jobs_for(BYTES_A_JOB) + (LAST if self.left else LAST_KEPT)
         kept = f"of {len(self.crates)} crates {len(self.crates) - len(self.left)} have passed here as they are"
         return f"the quick part is done, and the whole gate: about {self.rounded(minutes)}, {self.on()}; {kept}"
 
