@@ -7,14 +7,15 @@ from collections import deque
 
 from .machine import BYTES_A_JOB, BYTES_A_PROOF, Busy, free_bytes, processors, put_last
 
-# What rt ci prints of a crate that it has proved in this run.
-PROVED = re.compile(r"rt: (\w+) proved$")
+# What rt ci prints of a crate that it has proved in this run, and of one that an earlier run has.
+PROVED, KEPT = re.compile(r"rt: (\w+) proved$"), re.compile(r"rt: (\w+) is kept: ")
 
 
 class Ahead:
     """The last crates rest on one another, and rt ci leaves processors idle while it proves them. Meanwhile the edits of the crates
-    before them are tried, at the lowest priority. tools/edits keeps what is refused, and counts it when it is run over all. Those that are
-    under way when rt ci ends go on: it waits for them, crate by crate.
+    before them are tried, at the lowest priority: of those that this run proves, and of those that are left though rt ci has kept them.
+    tools/edits keeps what is refused, and counts it when it is run over all. Those that are under way when rt ci ends go on: it waits for
+    them, crate by crate.
 
     So often, in seconds (looks), it asks whether there is room for one more: busy says how many processors were busy since it was last
     asked, free how many bytes are left."""
@@ -22,17 +23,19 @@ class Ahead:
     # One is begun where there is room for it and for one proof more; all are ended where less than this is left.
     LEAST = 2_000_000_000
 
-    def __init__(self, tool, running, looks=5, busy=None, free=free_bytes):
-        self.tool, self.running, self.crates, self.runs = tool, running, deque(), {}
+    def __init__(self, tool, running, left, looks=5, busy=None, free=free_bytes):
+        self.tool, self.running, self.left, self.crates, self.runs = tool, running, left, deque(), {}
         self.looks, self.busy, self.free = looks, busy or Busy(), free
         self.ends = threading.Event()
         self.thread = threading.Thread(target=self.work, daemon=True)
         self.thread.start()
 
     def hear(self, line):
-        found = PROVED.match(line.strip())
-        if found:
-            self.crates.append(found[1])
+        proved, kept = PROVED.match(line.strip()), KEPT.match(line)
+        if proved:
+            self.crates.append(proved[1])
+        elif kept and kept[1] in self.left:
+            self.crates.append(kept[1])
 
     def work(self):
         while not self.ends.wait(self.looks):

@@ -106,8 +106,7 @@ class Runner:
         return self.run(part, shows=True, heard=heard)
 
     def run(self, part, shows=False, heard=None):
-        """Runs a part, and shows what it printed once it has failed, or as it comes; heard is given each line as it comes. Returns whether
-        all of it passed."""
+        """Runs a part, and shows what it printed once it has failed, or as it comes. Returns whether all of it passed."""
         known = part.known()
         if known is not None:
             self.add(part, Count(known, 0), "as earlier")
@@ -115,12 +114,11 @@ class Runner:
         begun, lines = time.time(), []
         environment = dict(os.environ, TMPDIR=self.folder) if part.words[0] != "rt" or "ci" not in part.words else None
         with tempfile.TemporaryFile("w+", dir=self.folder, errors="replace", encoding="utf-8") as out:
-            to = {"stdout": -1 if shows or heard else out, "stderr": -2}
+            to = {"stdout": -1 if shows else out, "stderr": -2}
             started = self.running.start(part.words, cwd=part.folder, env=environment, errors="replace", encoding="utf-8", **to)
             for it in started.stdout or ():
-                if shows:
-                    sys.stdout.write(it)
-                    sys.stdout.flush()
+                sys.stdout.write(it)
+                sys.stdout.flush()
                 lines.append(it)
                 if heard:
                     heard(it)
