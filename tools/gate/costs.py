@@ -14,7 +14,6 @@ EDITS = {
     "xa_session": 610,
     "xa_sql_log": 405,
     "xa_scenario": 285,
-    "xa_server": 280,
     "xa_display": 255,
     "xa_system": 240,
     "xa_scenario_file": 180,
