@@ -1,6 +1,7 @@
 """Files of answers written by hand (Answers.antt), of which a check with edits reads only some."""
 
 import os
+import re
 
 from .crates import text_of
 
@@ -40,18 +41,39 @@ def unoffered(text):
     return f"{text}\n{UNOFFERED}"
 
 
-def with_holes(text, but, leaves_out):
-    """The file where each answer is a hole but one, which stands as it is, or is left out, so that its goal stands by itself."""
-    answers, kept, holes = names_in(text), [], set()
-    for name, lines in parts(text):
-        if name == but:
-            kept += [] if leaves_out else lines
-        elif name not in answers or lines[0].startswith("pub "):
+# In the place of an answer that a check isn't asked of: a name that nothing has. Like a hole it isn't admitted, and nothing searches for its
+# goal; but of a hole rattle prints the goal, which can take seconds.
+LEFT_OUT = "left_out_of_this_check"
+# Names of the cases of a goal, which there are only where its answer tells them apart.
+CASES = re.compile(r"use \S+\.Goals\.\{")
+
+
+def with_one(text, but, leaves_out):
+    """The file where each answer is left out but one, which stands as it is, or goes, so that its goal stands by itself. What the rest
+    cites is a hole, which rattle takes by its signature."""
+    answers, kept, seen = names_in(text), [], set()
+    found = [it for it in parts(text) if not (leaves_out and (it[0] == but or CASES.match("\n".join(it[1]))))]
+    rest = [lines for name, lines in found if name == but or name not in answers]
+    cited = {it for lines in rest for line in lines for it in re.findall(r"[\w-]+", line)}
+    for name, lines in found:
+        if name == but or name not in answers or lines[0].startswith("pub "):
             kept += lines
-        elif name not in holes:
-            holes.add(name)
-            kept.append(f"{name} = ?")
+        elif name not in seen:
+            seen.add(name)
+            kept.append(f"{name} = {'?' if name in cited else LEFT_OUT}")
     return "\n".join(kept)
+
+
+def unasked(text, names, symbol):
+    """The file of the function of this whole name, where nothing is asked of these goals."""
+    if not names:
+        return text
+    crate, _, path = symbol.partition("::")
+    goals = f"use Rattle.{crate}.proofs.{path.replace('::', '.')}.Goals as "
+    # Rattle takes one name of a module in a file.
+    found = re.search(re.escape(goals) + r"(\S+)", text)
+    head, goal = ([], found[1]) if found else ([f"{goals}goal"], "goal")
+    return "\n".join([*head, without(text, names), *(f"pub {it} : {goal}.{it}\n{it} = {LEFT_OUT}" for it in names)])
 
 
 def rewrite(file, becomes):

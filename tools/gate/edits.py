@@ -16,8 +16,13 @@ class Edit:
         self.name = os.path.basename(path).removesuffix(".edit")
         self.text, self.lines, self.function, self.bad = text_of(path), {}, None, None
         self.kind, self.why, self.seems_proved, self.was_over_holes = None, "", False, False
-        # The goal that refuses it, where it says so, if that has an answer written by hand.
-        self.goal = next((it.removeprefix("goal: ").strip() for it in self.text.split("\n") if it.startswith("goal: ")), None)
+        # The goal that refuses it, where it says so, if that has an answer written by hand; and goals that are open too.
+        self.goal = next(iter(self.named("goal")), None)
+        self.beside = self.named("beside")
+
+    def named(self, word):
+        """The names that its lines of this word have."""
+        return [it.removeprefix(f"{word}: ").strip() for it in self.text.split("\n") if it.startswith(f"{word}: ")]
 
     def read(self, kit, crate, found):
         """Finds which lines it changes, and the one function in whose body they are, if there is one. found keeps the functions of

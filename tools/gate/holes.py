@@ -1,11 +1,12 @@
 """What a check with edits leaves out of a crate that is known to be proved.
 
 A function is proved by the contracts of those that it calls, whatever their bodies are and however these are proved. So in the copy
-that the check of some functions reads, each other function has a body that does nothing and a hole for its proof. Then no function that
+that the check of some functions reads, each other function has a body that does nothing and a proof that isn't one. Then no function that
 calls one reads as proved; but each goal of its own is judged as ever."""
 
 import os
 
+from .answers import LEFT_OUT
 from .crates import text_of
 
 # What stands in the place of a body, and in that of a proof.
@@ -14,9 +15,9 @@ PROOF = """\
 use Rattle.{crate}.proofs.{module}.Statement.{{statement}}
 
 pub {name}_spec : {{M : Type 1}} → statement M
-{name}_spec = ?
+{name}_spec = {left_out}
 """
-# What is written of a proof by hand: beside a hole nobody can use it.
+# What is written of a proof by hand: beside such a whole proof nobody can use it.
 WRITTEN = ("Invariants", "Answers")
 
 
@@ -59,4 +60,4 @@ class Holes:
         at = f"{folder}/{self.names.proof(function)}"
         os.makedirs(at, exist_ok=True)
         with open(f"{at}/Proof.antt", "w", encoding="utf-8") as it:
-            it.write(PROOF.format(crate=self.crate, module=module, name=function.name))
+            it.write(PROOF.format(crate=self.crate, module=module, name=function.name, left_out=LEFT_OUT))

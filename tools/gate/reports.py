@@ -10,6 +10,8 @@ ERROR = re.compile(rf"{PLACE}error\b(?P<code>\[[\w-]+\])?: (?:`(?P<answer>[^`\s]
 OPEN = re.compile(r"did not prove ((?:`[^`]*`(?:, | and )?)+)")
 # A proof that names what is no longer there.
 TAKEN = re.compile(r"has no field|is not in scope|is no name|has no `|was not admitted")
+# Answers that weren't checked, since they cite one that doesn't fit.
+UNCHECKED = re.compile(r"\d+ declarations? that depends? on `(?P<answer>[^`\s]+)`, which was rejected")
 # A text that the prover can't read, beside one that it finds false.
 UNREADABLE = re.compile(r"is not in scope|has no field|is no name|operand is missing|expected the end|cannot continue")
 LIMIT = re.compile(
@@ -43,14 +45,15 @@ class Error:
     """An error, with all the lines that it is printed on."""
 
     def __init__(self, found):
-        self.file, self.line, self.answer = found["file"], int(found["line"]), found["answer"]
+        self.file, self.line, self.unchecked = found["file"], int(found["line"]), UNCHECKED.match(found["words"])
+        self.answer = self.unchecked["answer"] if self.unchecked else found["answer"]
         self.of_front_end, self.text = bool(found["code"]), found[0]
 
     def is_of_answer(self):
         return bool(self.answer) and self.file.endswith("/Answers.antt")
 
     def names_what_is_gone(self):
-        return self.file.startswith("proofs/") and bool(TAKEN.search(self.text))
+        return self.file.startswith("proofs/") and bool(self.unchecked or TAKEN.search(self.text))
 
     def is_unreadable(self):
         """Whether it is about a text of src/ or specs/ that can't be read, where a false one reads well."""

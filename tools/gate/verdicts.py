@@ -3,7 +3,7 @@
 from collections import Counter
 from functools import partial
 
-from .answers import answers_of, unoffered, with_holes, without
+from .answers import answers_of, unasked, unoffered, with_one, without
 from .edits import parted
 from .places import Place
 from .reports import LIMIT, errors, first_words, reports
@@ -53,8 +53,8 @@ class Trial:
 
 class Question(Seat):
     """What a check asks of an edit: which goals of its function are open that have no answer written by hand, and which answers are
-    false (goal is None). Or, of one goal, whether its answer is false (has_answer), or whether it is open without that: then each other
-    answer of the function is a hole."""
+    false (goal is None). Or, of one goal, whether its answer is false (has_answer), or whether it is open without that: then the function's
+    other answers are left out."""
 
     def __init__(self, inquiry, goal, has_answer, place):
         super().__init__(inquiry.edit, place.symbol, place)
@@ -63,7 +63,8 @@ class Question(Seat):
     def reads(self, text):
         """What the check reads of the function's answers."""
         if self.goal is not None:
-            text = with_holes(text, self.goal, leaves_out=not self.has_answer)
+            text = with_one(text, self.goal, leaves_out=not self.has_answer)
+        text = unasked(text, self.edit.beside, self.place.symbol)
         return unoffered(text) if self.inquiry.can_be_copied else text
 
 
@@ -94,7 +95,8 @@ class Inquiry:
         for report, goals in own_goals(place, trial.found):
             file = answers_of(report.name)
             answered = self.prover.answered(place.original(file))
-            new = [it.name for it in goals if it.name not in answered and trial.is_told(file)]
+            known = [*answered, *self.edit.beside]
+            new = [it.name for it in goals if it.name not in known and trial.is_told(file)]
             if new:
                 give(self.edit, REFUSED, place.original(told(report, new)))
                 return
