@@ -31,11 +31,10 @@ class Ahead:
         self.thread.start()
 
     def hear(self, line):
-        proved, kept = PROVED.match(line.strip()), KEPT.match(line)
-        if proved:
-            self.crates.append(proved[1])
-        elif kept and kept[1] in self.left:
-            self.crates.append(kept[1])
+        line = line.strip()
+        proved, kept = PROVED.match(line), KEPT.match(line)
+        if proved or kept and kept[1] in self.left:
+            self.crates.append((proved or kept)[1])
 
     def work(self):
         while not self.ends.wait(self.looks):
