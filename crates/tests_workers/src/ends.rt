@@ -1,46 +1,69 @@
 //! How jobs end, and what the resource managers and the log then have.
+ghost use Rattle.std.specs.Prelude.{◌<◌};
 
 use crate::gates::Counting;
 use crate::plans::{NO, READ_ONLY, YES, are_fates, branch, four_jobs, gtrid, jobs, run, swept};
+use std::alloc::{AllocError, Global};
+use std::process::Abort;
+use std::sync::Wait;
 use std::sync::atomic::Ordering;
 use std::test::Fail;
-use xa_base::{Fate, Outcome};
+use std::thread::Threads;
+use std::time::Clock;
+use xa_base::{Branch, Fate, Outcome};
 use xa_log::{DecisionLog, MemLog};
 use xa_workers::{Jobs, Outcomes, WorkFault};
 
+/// What becomes of the branches of four jobs.
+fn fates_of_four(threads: u32) -> [(Branch, Fate); 7]
+    requires { 0 < threads }
+{
+    [
+        (branch(1, 0, 0), Fate::Committed),
+        (branch(1, 0, 1), Fate::Committed),
+        (branch(2, 1 % threads, 0), Fate::RolledBack),
+        (branch(2, 1 % threads, 1), Fate::RolledBack),
+        (branch(3, 2 % threads, 0), Fate::ReadOnly),
+        (branch(3, 2 % threads, 1), Fate::ReadOnly),
+        (branch(4, 3 % threads, 1), Fate::Committed),
+    ]
+}
+
+/// The log has the two jobs that were decided by it, and is of the first incarnation.
+fn has_rows_of_four(rt: &impl Abort, mut log: MemLog, last: Branch) -> Result<(), Fail> {
+    let rows = log.rows()?;
+    let participants = [branch(1, 0, 0), branch(1, 0, 1), last];
+    let has_rows = rows.decisions.as_slice() == [gtrid(1), gtrid(4)].as_slice()
+        && rows.participants.as_slice() == participants.as_slice();
+    assert!(rt; has_rows);
+    assert!(rt; log.bump()? == 2);
+    Ok(())
+}
+
+fn four_jobs_end<R: Threads + Wait + Clock + Sync + Abort>(
+    rt: &R,
+    alloc: Global,
+    threads: u32,
+) -> Result<(), Fail>
+    requires { 0 < threads }
+{
+    let jobs = four_jobs(alloc, threads)?;
+    let done = run(rt, alloc, &jobs, MemLog::new(alloc), &Counting::new())?;
+    let ends = [
+        Outcome::Commit,
+        Outcome::Rollback,
+        Outcome::Commit,
+        Outcome::Commit,
+    ];
+    assert!(rt; done.ends.as_slice() == ends.as_slice());
+    assert!(rt; are_fates(&done, &fates_of_four(threads)));
+    has_rows_of_four(rt, done.log, branch(4, 3 % threads, 1))
+}
+
 #[test]
 fn four_jobs_end_alike_for_each_number_of_threads(rt: HostRuntime) -> Result<(), Fail> {
-    let alloc = rt.alloc();
     for threads in 1..9u32 {
-        let jobs = four_jobs(alloc, threads)?;
-        let done = run(&rt, alloc, &jobs, MemLog::new(alloc), &Counting::new())?;
-        let ends = [
-            Outcome::Commit,
-            Outcome::Rollback,
-            Outcome::Commit,
-            Outcome::Commit,
-        ];
-        assert_eq!(rt; done.ends.as_slice(), ends.as_slice());
-        assert!(rt;
-            are_fates(
-                &done,
-                &[
-                    (branch(1, 0, 0), Fate::Committed),
-                    (branch(1, 0, 1), Fate::Committed),
-                    (branch(2, 1 % threads, 0), Fate::RolledBack),
-                    (branch(2, 1 % threads, 1), Fate::RolledBack),
-                    (branch(3, 2 % threads, 0), Fate::ReadOnly),
-                    (branch(3, 2 % threads, 1), Fate::ReadOnly),
-                    (branch(4, 3 % threads, 1), Fate::Committed),
-                ]
-            )
-        );
-        let Outcomes { mut log, .. } = done;
-        let rows = log.rows()?;
-        assert_eq!(rt; rows.decisions.as_slice(), [gtrid(1), gtrid(4)].as_slice());
-        let participants = [branch(1, 0, 0), branch(1, 0, 1), branch(4, 3 % threads, 1)];
-        assert_eq!(rt; rows.participants.as_slice(), participants.as_slice());
-        assert_eq!(rt; log.bump()?, 2);
+        four_jobs_end(&rt, rt.alloc(), threads)?;
     }
     Ok(())
 }
@@ -50,7 +73,7 @@ fn a_no_leaves_read_only_as_it_is(rt: HostRuntime) -> Result<(), Fail> {
     let alloc = rt.alloc();
     let one = jobs(alloc, 1, 2, &[&[READ_ONLY, NO]])?;
     let done = run(&rt, alloc, &one, MemLog::new(alloc), &Counting::new())?;
-    assert_eq!(rt; done.ends.as_slice(), [Outcome::Rollback].as_slice());
+    assert!(rt; done.ends.as_slice() == [Outcome::Rollback].as_slice());
     let fates = [
         (branch(1, 0, 0), Fate::ReadOnly),
         (branch(1, 0, 1), Fate::RolledBack),
@@ -73,7 +96,7 @@ fn the_last_phase_goes_to_who_voted_yes(rt: HostRuntime) -> Result<(), Fail> {
         let one = jobs(alloc, 1, 2, &[&votes])?;
         let _done = run(&rt, alloc, &one, MemLog::new(alloc), &gate)?;
         // xa_open, xa_start, xa_end and xa_prepare at both, and the last phase
-        assert_eq!(rt; gate.answered.load(Ordering::SeqCst), 8 + last);
+        assert!(rt; gate.answered.load(Ordering::SeqCst) == 8 + last);
     }
     Ok(())
 }
@@ -99,8 +122,8 @@ fn runs_again_after_want_of_memory(rt: HostRuntime) -> Result<(), Fail> {
         }
     }
     let done = ran?;
-    assert_eq!(rt; done.ends.len(), 4);
-    assert_eq!(rt; done.ends.get(1), Some(&Outcome::Rollback));
+    assert!(rt; done.ends.len() == 4);
+    assert!(rt; done.ends.get(1) == Some(&Outcome::Rollback));
     Ok(())
 }
 
@@ -110,7 +133,7 @@ fn no_jobs_give_no_fate(rt: HostRuntime) -> Result<(), Fail> {
     let none = swept(jobs(alloc, 8, 8, &[])?);
     let done = run(&rt, alloc, &none, MemLog::new(alloc), &Counting::new())?;
     assert!(rt; done.fates.is_empty());
-    assert_eq!(rt; done.rms.len(), 8);
+    assert!(rt; done.rms.len() == 8);
     Ok(())
 }
 
@@ -127,29 +150,47 @@ fn jobs_of_another_shape_cannot_be_run(rt: HostRuntime) -> Result<(), Fail> {
 /// Fifteen jobs for each of eight threads.
 const MANY: usize = 120;
 
-#[test]
-fn many_jobs_on_all_threads(rt: HostRuntime) -> Result<(), Fail> {
-    let alloc = rt.alloc();
+/// Each seventh is rolled back, and without a recovery each other one is committed.
+fn many_jobs(alloc: Global, sweep: bool) -> Result<Jobs, AllocError> {
     let mut votes = Vec::new(alloc);
     for job in 0..MANY {
         let last = if job % 7 == 0 { NO } else { YES };
         let row = [YES, READ_ONLY, None, last, YES, YES, None, YES];
         votes.push(row.as_slice().to_vec(alloc)?)?;
     }
-    for sweep in [false, true] {
-        let many = Jobs {
-            threads: 8,
-            rms: 8,
-            sweep,
-            votes: votes.clone()?,
-        };
-        let done = run(&rt, alloc, &many, MemLog::new(alloc), &Counting::new())?;
-        assert_eq!(rt; done.ends.len(), MANY);
-        assert_eq!(rt; done.fates.len(), 6 * MANY);
-        for (job, end) in done.ends.iter().enumerate() {
-            assert!(rt; job % 7 != 0 || *end == Outcome::Rollback);
-            assert!(rt; sweep || job % 7 == 0 || *end == Outcome::Commit);
-        }
+    Ok(Jobs {
+        threads: 8,
+        rms: 8,
+        sweep,
+        votes,
+    })
+}
+
+fn ends_as_planned(job: usize, end: Outcome, sweep: bool) -> bool {
+    if job % 7 == 0 {
+        end == Outcome::Rollback
+    } else {
+        sweep || end == Outcome::Commit
+    }
+}
+
+fn many_jobs_end<R: Threads + Wait + Clock + Sync + Abort>(
+    rt: &R,
+    alloc: Global,
+    sweep: bool,
+) -> Result<(), Fail> {
+    let many = many_jobs(alloc, sweep)?;
+    let done = run(rt, alloc, &many, MemLog::new(alloc), &Counting::new())?;
+    assert!(rt; done.ends.len() == MANY);
+    assert!(rt; done.fates.len() == 6 * MANY);
+    for (job, end) in done.ends.iter().enumerate() {
+        assert!(rt; ends_as_planned(job, *end, sweep));
     }
     Ok(())
+}
+
+#[test]
+fn many_jobs_on_all_threads(rt: HostRuntime) -> Result<(), Fail> {
+    many_jobs_end(&rt, rt.alloc(), false)?;
+    many_jobs_end(&rt, rt.alloc(), true)
 }

@@ -30,13 +30,13 @@ fn no_commit_is_issued_without_its_row(rt: HostRuntime) -> Result<(), Fail> {
         let log = FailLog::new(MemLog::new(alloc), plan);
         let one = jobs(alloc, 1, rms, &[&[YES; 8][..rms as usize]])?;
         let fault = run(&rt, alloc, &one, log, &gate).err();
-        assert_eq!(rt; fault, Some(WorkFault::Log));
+        assert!(rt; fault == Some(WorkFault::Log));
         // xa_open, xa_start, xa_end and xa_prepare at each
-        assert_eq!(rt; gate.answered.load(Ordering::SeqCst), 4 * u64::from(rms));
+        assert!(rt; gate.answered.load(Ordering::SeqCst) == 4 * u64::from(rms));
     }
     let log = FailLog::new(MemLog::new(alloc), plan);
     let fault = run(&rt, alloc, &four_jobs(alloc, 2)?, log, &Counting::new()).err();
-    assert_eq!(rt; fault, Some(WorkFault::Log));
+    assert!(rt; fault == Some(WorkFault::Log));
     Ok(())
 }
 
@@ -53,9 +53,9 @@ fn a_failed_row_ends_the_run_also_where_it_was_made(rt: HostRuntime) -> Result<(
         let log = FailLog::new(MemLog::new(alloc), plan);
         let two = jobs(alloc, 1, 1, &[&[YES], &[YES]])?;
         let fault = run(&rt, alloc, &two, log, &gate).err();
-        assert_eq!(rt; fault, Some(WorkFault::Log));
+        assert!(rt; fault == Some(WorkFault::Log));
         // xa_open, four calls of the first job and three of the second
-        assert_eq!(rt; gate.answered.load(Ordering::SeqCst), 8);
+        assert!(rt; gate.answered.load(Ordering::SeqCst) == 8);
     }
     Ok(())
 }
@@ -66,7 +66,7 @@ fn a_log_that_fails_at_the_start_is_told(rt: HostRuntime) -> Result<(), Fail> {
     for kind in [LogCall::Bump, LogCall::Rows] {
         let log = FailLog::new(MemLog::new(alloc), FailPlan::Every { kind });
         let fault = run(&rt, alloc, &four_jobs(alloc, 2)?, log, &Counting::new()).err();
-        assert_eq!(rt; fault, Some(WorkFault::Log));
+        assert!(rt; fault == Some(WorkFault::Log));
     }
     Ok(())
 }
@@ -80,7 +80,7 @@ fn a_log_with_rows_of_the_incarnation_is_refused(rt: HostRuntime) -> Result<(), 
     recorded.note_heuristic(SEVENTH, How::Mix)?;
     for log in [decided, recorded] {
         let fault = run(&rt, alloc, &four_jobs(alloc, 2)?, log, &Counting::new()).err();
-        assert_eq!(rt; fault, Some(WorkFault::Log));
+        assert!(rt; fault == Some(WorkFault::Log));
     }
     Ok(())
 }
@@ -98,7 +98,7 @@ fn rows_that_a_log_came_with_stay(rt: HostRuntime) -> Result<(), Fail> {
         incarnation: 2,
         sequence: 1,
     };
-    assert_eq!(rt; rows.decisions.as_slice(), [SEVENTH.gtrid, new].as_slice());
-    assert_eq!(rt; rows.participants.first(), Some(&SEVENTH));
+    assert!(rt; rows.decisions.as_slice() == [SEVENTH.gtrid, new].as_slice());
+    assert!(rt; rows.participants.first() == Some(&SEVENTH));
     Ok(())
 }

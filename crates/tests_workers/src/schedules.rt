@@ -14,7 +14,7 @@ fn two_resource_managers_work_side_by_side(rt: HostRuntime) -> Result<(), Fail> 
     let one = jobs(alloc, 1, 2, &[&[YES, YES]])?;
     let gate = Meeting::new([Point::Answering(0), Point::Answering(1)]);
     let done = run(&rt, alloc, &one, MemLog::new(alloc), &gate)?;
-    assert_eq!(rt; done.ends.as_slice(), [Outcome::Commit].as_slice());
+    assert!(rt; done.ends.as_slice() == [Outcome::Commit].as_slice());
     assert!(rt; !gate.failed.load(Ordering::SeqCst));
     Ok(())
 }
@@ -26,7 +26,7 @@ fn two_threads_decide_side_by_side(rt: HostRuntime) -> Result<(), Fail> {
     let gate = Meeting::new([Point::Deciding(0), Point::Deciding(1)]);
     let done = run(&rt, alloc, &two, MemLog::new(alloc), &gate)?;
     let ends = [Outcome::Commit, Outcome::Commit];
-    assert_eq!(rt; done.ends.as_slice(), ends.as_slice());
+    assert!(rt; done.ends.as_slice() == ends.as_slice());
     assert!(rt; !gate.failed.load(Ordering::SeqCst));
     Ok(())
 }
@@ -42,11 +42,11 @@ fn a_closed_gate_is_stuck(rt: HostRuntime) -> Result<(), Fail> {
         &Closed,
     )
     .err();
-    assert_eq!(rt; fault, Some(WorkFault::Stuck));
+    assert!(rt; fault == Some(WorkFault::Stuck));
     let one = swept(jobs(alloc, 1, 1, &[&[YES]])?);
     let never = After::new(Point::Sweeping(0), Point::Sweeping(1), 1);
     let fault = run(&rt, alloc, &one, MemLog::new(alloc), &never).err();
-    assert_eq!(rt; fault, Some(WorkFault::Stuck));
+    assert!(rt; fault == Some(WorkFault::Stuck));
     Ok(())
 }
 
@@ -56,11 +56,11 @@ fn the_first_to_reach_a_job_decides_it(rt: HostRuntime) -> Result<(), Fail> {
     let one = swept(jobs(alloc, 1, 2, &[&[YES, YES]])?);
     let swept_first = After::new(Point::Answering(0), Point::Swept(0), 1);
     let done = run(&rt, alloc, &one, MemLog::new(alloc), &swept_first)?;
-    assert_eq!(rt; done.ends.as_slice(), [Outcome::Rollback].as_slice());
+    assert!(rt; done.ends.as_slice() == [Outcome::Rollback].as_slice());
     assert!(rt; done.fates.iter().all(|fate| fate.1 == Fate::RolledBack));
     let decided_first = After::new(Point::Sweeping(0), Point::Answered(0), 5);
     let done = run(&rt, alloc, &one, MemLog::new(alloc), &decided_first)?;
-    assert_eq!(rt; done.ends.as_slice(), [Outcome::Commit].as_slice());
+    assert!(rt; done.ends.as_slice() == [Outcome::Commit].as_slice());
     assert!(rt; done.fates.iter().all(|fate| fate.1 == Fate::Committed));
     Ok(())
 }
@@ -73,7 +73,7 @@ fn a_job_begins_before_the_last_answers_of_the_one_before(rt: HostRuntime) -> Re
     let two = jobs(alloc, 1, 2, &[&[YES, YES], &[YES, YES]])?;
     let done = run(&rt, alloc, &two, MemLog::new(alloc), &Lagging::new())?;
     let ends = [Outcome::Commit, Outcome::Commit];
-    assert_eq!(rt; done.ends.as_slice(), ends.as_slice());
+    assert!(rt; done.ends.as_slice() == ends.as_slice());
     assert!(rt; done.fates.iter().all(|fate| fate.1 == Fate::Committed));
     Ok(())
 }

@@ -1,29 +1,11 @@
 //! Sessions of a manager that has a name.
 
+use crate::server::sessions::written_under;
 use std::alloc::Global;
-use std::io::BufReader;
+use std::test::Fail;
 use xa_base::{Branch, Gtrid};
 use xa_log::{DecisionLog, LogFault, MemLog};
 use xa_names::ManagerName;
-use xa_server::{ServeFault, Server};
-use xa_tm::StartFault;
-
-/// What a session of the manager `s1` over a log writes to these lines, of two threads and two resource managers; none,
-/// where memory was refused.
-fn written(alloc: Global, log: MemLog, lines: &str) -> Option<Vec<u8>> {
-    let mut output = Vec::new(alloc);
-    let mut input = BufReader::new(alloc, lines.as_bytes()).ok()?;
-    let name = ManagerName::of_text("s1")?;
-    match Server::new(alloc, 2, 2, log) {
-        Ok(mut server) => match server.serve_under(&name, &mut input, &mut output) {
-            Ok(()) => Some(output),
-            Err(ServeFault::Input) | Err(ServeFault::Output) => Some(Vec::new(alloc)),
-            Err(ServeFault::Memory) => None,
-        },
-        Err(StartFault::Log) => Some(Vec::new(alloc)),
-        Err(StartFault::Memory) => None,
-    }
-}
 
 /// A log of one incarnation before, which decided to commit a transaction of one branch.
 fn log_with_row(alloc: Global) -> Result<MemLog, LogFault> {
@@ -43,7 +25,7 @@ fn log_with_row(alloc: Global) -> Result<MemLog, LogFault> {
 }
 
 #[test]
-fn leaves_branches_of_other_names(rt: HostRuntime) {
+fn leaves_branches_of_other_names(rt: HostRuntime) -> Result<(), Fail> {
     let alloc: Global = rt.alloc();
     let lines = "owed 0\nissue 0 0 xa_open\nanswer 0 0 xa_open 0\n\
         issue 0 0 xa_recover 32 TMSTARTRSCAN\n\
@@ -68,11 +50,12 @@ fn leaves_branches_of_other_names(rt: HostRuntime) {
         noted\nbegun 00000000000000020000000000000001\n\
         issued xa_start 7:733100000000000000020000000000000001:0000000000000000\n\
         heard xa_start 0\n";
-    if let Ok(log) = log_with_row(alloc) {
-        if let Some(output) = written(alloc, log, lines) {
-            assert_eq!(rt; output.as_slice(), replies.as_bytes());
-        }
-    }
+    let Some(name) = ManagerName::of_text("s1") else {
+        return Err(Fail::from("s1 is a name"));
+    };
+    let output = written_under(alloc, &name, log_with_row(alloc)?, lines);
+    assert!(rt; output.is_none_or(|it| it.as_slice() == replies.as_bytes()));
+    Ok(())
 }
 
 #[test]

@@ -4,16 +4,22 @@ use std::alloc::Global;
 use std::io::BufReader;
 use xa_base::{Branch, Gtrid};
 use xa_log::{DecisionLog, LogFault, MemLog};
+use xa_names::ManagerName;
 use xa_server::{ServeFault, Server};
 use xa_tm::StartFault;
 
-/// What a session over a log writes to these lines, of two threads and two resource managers; none, where memory was
+/// What a session over a log writes to these lines, of two threads and two resource managers, under a name; none, where memory was
 /// refused.
-pub(crate) fn written(alloc: Global, log: MemLog, lines: &str) -> Option<Vec<u8>> {
+pub(crate) fn written_under(
+    alloc: Global,
+    name: &ManagerName,
+    log: MemLog,
+    lines: &str,
+) -> Option<Vec<u8>> {
     let mut output = Vec::new(alloc);
     let mut input = BufReader::new(alloc, lines.as_bytes()).ok()?;
     match Server::new(alloc, 2, 2, log) {
-        Ok(mut server) => match server.serve(&mut input, &mut output) {
+        Ok(mut server) => match server.serve_under(name, &mut input, &mut output) {
             Ok(()) => Some(output),
             Err(ServeFault::Input) | Err(ServeFault::Output) => Some(Vec::new(alloc)),
             Err(ServeFault::Memory) => None,
@@ -21,6 +27,11 @@ pub(crate) fn written(alloc: Global, log: MemLog, lines: &str) -> Option<Vec<u8>
         Err(StartFault::Log) => Some(Vec::new(alloc)),
         Err(StartFault::Memory) => None,
     }
+}
+
+/// The same without a name.
+pub(crate) fn written(alloc: Global, log: MemLog, lines: &str) -> Option<Vec<u8>> {
+    written_under(alloc, &ManagerName::none(), log, lines)
 }
 
 /// One transaction over two resource managers, in two phases.
@@ -71,7 +82,7 @@ const TRANSFERRED: &str = "restarted 1 0 0\nissued xa_open\nheard xa_open 0\n\
 fn commits_in_two_phases(rt: HostRuntime) {
     let alloc: Global = rt.alloc();
     if let Some(output) = written(alloc, MemLog::new(alloc), TRANSFER) {
-        assert_eq!(rt; output.as_slice(), TRANSFERRED.as_bytes());
+        assert!(rt; output.as_slice() == TRANSFERRED.as_bytes());
     }
 }
 
@@ -125,7 +136,7 @@ const TOGETHER_REPLIED: &str = "restarted 1 0 0\nissued xa_open\nheard xa_open 0
 fn decides_several_together(rt: HostRuntime) {
     let alloc: Global = rt.alloc();
     if let Some(output) = written(alloc, MemLog::new(alloc), TOGETHER) {
-        assert_eq!(rt; output.as_slice(), TOGETHER_REPLIED.as_bytes());
+        assert!(rt; output.as_slice() == TOGETHER_REPLIED.as_bytes());
     }
 }
 
@@ -142,7 +153,7 @@ fn replies_to_what_is_wrong(rt: HostRuntime) {
         owed 0\nrefused 14 Limit\nrefused 3 NotOpen\ncrashed\nrefused 3 NotOpen\n\
         refused 5 UnknownTransaction\nrefused 14 Limit\nstatus up 4\n";
     if let Some(output) = written(alloc, MemLog::new(alloc), lines) {
-        assert_eq!(rt; output.as_slice(), replies.as_bytes());
+        assert!(rt; output.as_slice() == replies.as_bytes());
     }
 }
 
@@ -193,7 +204,7 @@ fn recovers_what_is_owed(rt: HostRuntime) {
         heard xa_commit -4\nnoted\nowed 0\n";
     if let Ok(log) = log_with_row(alloc) {
         if let Some(output) = written(alloc, log, lines) {
-            assert_eq!(rt; output.as_slice(), replies.as_bytes());
+            assert!(rt; output.as_slice() == replies.as_bytes());
         }
     }
 }

@@ -21,7 +21,7 @@ const UNKNOWN: [Gtrid; 2] = [
 fn decides_none(rt: HostRuntime) -> Result<(), StartFault> {
     let alloc: Global = rt.alloc();
     let mut manager = Manager::new(alloc, 1, 1, MemLog::new(alloc))?;
-    assert_eq!(rt; manager.decide_all(alloc, &[], Outcome::Commit), Ok(()));
+    assert!(rt; manager.decide_all(alloc, &[], Outcome::Commit) == Ok(()));
     Ok(())
 }
 
@@ -29,9 +29,8 @@ fn decides_none(rt: HostRuntime) -> Result<(), StartFault> {
 fn decides_none_that_was_never_begun(rt: HostRuntime) -> Result<(), StartFault> {
     let alloc: Global = rt.alloc();
     let mut manager = Manager::new(alloc, 1, 1, MemLog::new(alloc))?;
-    assert_eq!(rt;
-        manager.decide_all(alloc, &UNKNOWN, Outcome::Commit),
-        Err(Refusal::UnknownTransaction)
+    assert!(rt;
+        manager.decide_all(alloc, &UNKNOWN, Outcome::Commit) == Err(Refusal::UnknownTransaction)
     );
     Ok(())
 }
@@ -40,9 +39,6 @@ fn decides_none_that_was_never_begun(rt: HostRuntime) -> Result<(), StartFault> 
 fn finishes_none_that_was_never_begun(rt: HostRuntime) -> Result<(), StartFault> {
     let alloc: Global = rt.alloc();
     let mut manager = Manager::new(alloc, 1, 1, MemLog::new(alloc))?;
-    assert_eq!(rt;
-        manager.done_all(&UNKNOWN),
-        Err(Refusal::UnknownTransaction)
-    );
+    assert!(rt; manager.done_all(&UNKNOWN) == Err(Refusal::UnknownTransaction));
     Ok(())
 }

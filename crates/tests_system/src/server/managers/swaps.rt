@@ -49,7 +49,7 @@ fn gives_no_log_out_while_it_is_up(rt: HostRuntime) -> Result<(), StartFault> {
     let mut manager = manager(rt.alloc())?;
     assert!(rt; manager.take_log().is_none());
     let fault = fault_of(&mut manager, log_without_rows(rt.alloc(), 9));
-    assert_eq!(rt; fault, Some(SwapFault::Up));
+    assert!(rt; fault == Some(SwapFault::Up));
     Ok(())
 }
 
@@ -62,7 +62,7 @@ fn takes_the_log_that_it_gave_out(rt: HostRuntime) -> Result<(), StartFault> {
         return Ok(());
     };
     assert!(rt; manager.take_log().is_none());
-    assert_eq!(rt; fault_of(&mut manager, log), None);
+    assert!(rt; fault_of(&mut manager, log).is_none());
     assert!(rt; manager.take_log().is_some());
     Ok(())
 }
@@ -73,9 +73,9 @@ fn refuses_a_log_that_is_not_its_own(rt: HostRuntime) -> Result<(), StartFault> 
     manager.crash(Part::Manager);
     assert!(rt; manager.take_log().is_some());
     let fault = fault_of(&mut manager, log_without_rows(rt.alloc(), 1));
-    assert_eq!(rt; fault, Some(SwapFault::Log));
+    assert!(rt; fault == Some(SwapFault::Log));
     if let Ok(log) = log_of_another(rt.alloc()) {
-        assert_eq!(rt; fault_of(&mut manager, log), Some(SwapFault::OtherRows));
+        assert!(rt; fault_of(&mut manager, log) == Some(SwapFault::OtherRows));
     }
     Ok(())
 }
