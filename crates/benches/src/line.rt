@@ -2,6 +2,7 @@
 //! heard.
 
 use crate::hops::{hops_between_threads, hops_in_one_thread};
+use std::alloc::Global;
 use std::thread::Threads;
 use std::time::{Duration, Instant};
 use xa_base::{Branch, Call, Gtrid};
@@ -12,17 +13,26 @@ pub(crate) fn hop_count(timed: bool) -> u32 {
     if timed { 3_000_000 } else { 200_000 }
 }
 
-/// Makes hops in one thread, and between two. Where they are timed it makes more of them, so that the figures are steady.
-pub(crate) fn show<T: Threads>(rt: &HostRuntime, threads: &T, timed: bool) -> anyhow::Result<()> {
-    let hops = hop_count(timed);
-    let mut line = Line::new(rt.alloc())?;
+/// A line on which an xa_open was taken.
+fn opened(alloc: Global) -> anyhow::Result<Line> {
+    let mut line = Line::new(alloc)?;
     line.issue(Call::OpenRm)?;
     let _open = line.take();
+    Ok(line)
+}
+
+fn show_in_one_thread(rt: &HostRuntime, line: &mut Line, timed: bool) -> anyhow::Result<()> {
     let start = Instant::now(rt)?;
-    let made = hops_in_one_thread(&mut line, prepare(), hops);
-    show_hops(rt, "in one thread", made, timed, start.elapsed(rt)?)?;
+    let made = hops_in_one_thread(line, prepare(), hop_count(timed));
+    show_hops(rt, "in one thread", made, timed, start.elapsed(rt)?)
+}
+
+/// Makes hops in one thread, and between two. Where they are timed it makes more of them, so that the figures are steady.
+pub(crate) fn show<T: Threads>(rt: &HostRuntime, threads: &T, timed: bool) -> anyhow::Result<()> {
+    let mut line = opened(rt.alloc())?;
+    show_in_one_thread(rt, &mut line, timed)?;
     let start = Instant::now(rt)?;
-    let made = hops_between_threads(threads, line, prepare(), hops);
+    let made = hops_between_threads(threads, line, prepare(), hop_count(timed));
     show_hops(rt, "between two threads", made, timed, start.elapsed(rt)?)
 }
 

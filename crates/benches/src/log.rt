@@ -7,7 +7,7 @@ use sqlite::FileStore;
 use sqlite_disk::Disk;
 use std::time::Instant;
 use xa_base::{Branch, Gtrid, How};
-use xa_log::{DecisionLog, LogFault};
+use xa_log::{DecisionLog, LogFault, LogRows};
 use xa_sql_log::SqlLog;
 
 /// How many transactions are committed.
@@ -154,19 +154,21 @@ fn write<L: DecisionLog>(log: &mut L) -> Result<(), LogFault> {
 
 /// Prints the rows of a log, and the incarnation that it gives.
 fn read<L: DecisionLog>(rt: &HostRuntime, log: &mut L) -> anyhow::Result<()> {
-    let rows = log.rows()?;
+    show_rows(rt, &log.rows()?)?;
+    println!(rt; "incarnation {}", log.bump()?)?;
+    Ok(())
+}
+
+fn show_rows(rt: &HostRuntime, rows: &LogRows) -> anyhow::Result<()> {
     for g in &rows.decisions {
         println!(rt; "decision {} {}", g.incarnation, g.sequence)?;
     }
     for b in &rows.participants {
-        let branch = branch_text(rt, *b)?;
-        println!(rt; "participant {branch}")?;
+        println!(rt; "participant {}", branch_text(rt, *b)?)?;
     }
     for (b, how) in &rows.heuristics {
-        let branch = branch_text(rt, *b)?;
-        println!(rt; "heuristic {branch} {}", how.number())?;
+        println!(rt; "heuristic {} {}", branch_text(rt, *b)?, how.number())?;
     }
-    println!(rt; "incarnation {}", log.bump()?)?;
     Ok(())
 }
 
