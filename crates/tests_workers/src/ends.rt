@@ -12,7 +12,7 @@ use std::thread::Threads;
 use std::time::Clock;
 use xa_base::{Branch, Fate, Outcome};
 use xa_log::{DecisionLog, MemLog};
-use xa_workers::{Jobs, Outcomes, WorkFault};
+use xa_workers::{Jobs, WorkFault};
 
 /// What becomes of the branches of four jobs.
 fn fates_of_four(threads: u32) -> [(Branch, Fate); 7]
@@ -30,7 +30,7 @@ fn fates_of_four(threads: u32) -> [(Branch, Fate); 7]
 }
 
 /// The log has the two jobs that were decided by it, and is of the first incarnation.
-fn has_rows_of_four(rt: &impl Abort, mut log: MemLog, last: Branch) -> Result<(), Fail> {
+fn keeps_rows_of_four(rt: &impl Abort, mut log: MemLog, last: Branch) -> Result<(), Fail> {
     let rows = log.rows()?;
     let participants = [branch(1, 0, 0), branch(1, 0, 1), last];
     let has_rows = rows.decisions.as_slice() == [gtrid(1), gtrid(4)].as_slice()
@@ -57,7 +57,7 @@ fn four_jobs_end<R: Threads + Wait + Clock + Sync + Abort>(
     ];
     assert!(rt; done.ends.as_slice() == ends.as_slice());
     assert!(rt; are_fates(&done, &fates_of_four(threads)));
-    has_rows_of_four(rt, done.log, branch(4, 3 % threads, 1))
+    keeps_rows_of_four(rt, done.log, branch(4, 3 % threads, 1))
 }
 
 #[test]
