@@ -29,44 +29,59 @@ mod workers;
 
 use anyhow::bail;
 use std::env;
+use std::sync::Wait;
+use std::thread::Threads;
+use std::time::Clock;
 
 /// How often jobs of mixed votes are run where the words don't say.
 const RUNS: u32 = 200;
 
 fn main(rt: HostRuntime) -> anyhow::Result<()> {
     let words: Vec<String> = env::args(&rt)?.collect(rt.alloc())?;
+    run(&rt, &rt, &words)
+}
+
+/// Runs what the words name, of which the first is the program's own name.
+fn run<T: Threads + Wait + Clock + Sync>(
+    rt: &HostRuntime,
+    threads: &T,
+    words: &[String],
+) -> anyhow::Result<()> {
     let command = words.get(2).map(|word| word.as_str());
     let path = words.get(3).map(|word| word.as_str());
     let timed = command == Some("time");
     match words.get(1).map(|word| word.as_str()) {
-        Some("line") => line::show(&rt, &rt, timed),
-        Some("rings") => rtrb_alone::show(&rt, &rt, timed),
-        Some("log") => log::run(&rt, command, path),
+        Some("line") => line::show(rt, threads, timed),
+        Some("rings") => rtrb_alone::show(rt, threads, timed),
+        Some("log") => log::run(rt, command, path),
         Some("sql") => {
             let decisions = words.get(4).map(|word| word.as_str());
-            sqlite_alone::run(&rt, command, path, decisions)
+            sqlite_alone::run(rt, command, path, decisions)
         }
-        Some("maps") => maps::show(&rt, timed),
-        Some("scan") => scan::show(&rt, timed),
-        Some("steps") => steps::show(&rt, timed),
-        Some("workers") => workers::show(&rt, &rt, timed),
+        Some("maps") => maps::show(rt, timed),
+        Some("scan") => scan::show(rt, timed),
+        Some("steps") => steps::show(rt, timed),
+        Some("workers") => workers::show(rt, threads, timed),
         Some("stress") => {
             let runs = match command {
                 Some(word) => word.parse::<u32>()?,
                 None => RUNS,
             };
-            stress::run(&rt, &rt, runs)
+            stress::run(rt, threads, runs)
         }
         Some(name) => bail!("there is no benchmark {name}"),
-        None => {
-            line::show(&rt, &rt, false)?;
-            rtrb_alone::show(&rt, &rt, false)?;
-            log::run(&rt, None, None)?;
-            sqlite_alone::run(&rt, None, None, None)?;
-            maps::show(&rt, false)?;
-            scan::show(&rt, false)?;
-            steps::show(&rt, false)?;
-            workers::show(&rt, &rt, false)
-        }
+        None => run_all(rt, threads),
     }
+}
+
+/// Runs all but the stress, without times.
+fn run_all<T: Threads + Wait + Clock + Sync>(rt: &HostRuntime, threads: &T) -> anyhow::Result<()> {
+    line::show(rt, threads, false)?;
+    rtrb_alone::show(rt, threads, false)?;
+    log::run(rt, None, None)?;
+    sqlite_alone::run(rt, None, None, None)?;
+    maps::show(rt, false)?;
+    scan::show(rt, false)?;
+    steps::show(rt, false)?;
+    workers::show(rt, threads, false)
 }
