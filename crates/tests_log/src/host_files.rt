@@ -1,8 +1,5 @@
-//! Logs in files of the host, each opened again to look at it: by themselves, with their labels, under a system, and under scenarios.
+//! Logs in files of the host, each opened again to look at it: by themselves, with their labels, and under a system.
 
-mod again;
 mod labels;
 mod paths;
-mod processes;
 mod starts;
-mod texts;

@@ -1,8 +1,8 @@
-//! Tests of the decision logs, and of systems over them, of what no clause says: rows of each log, in which a call that is refused
-//! memory once is made again; and the one in files over disks in memory that stop, where at each call of either file a crash leaves
-//! what was there before or all that the one change makes: under a log alone, under whole systems, and under ten processes of the
-//! manager one after another with steps by chance. And logs in files of the host. All tests that compile the database stand here:
-//! each program that has it in it takes some minutes to prove and to build before its first function.
+//! Tests of the decision logs, and of systems over them, of what no clause says: each log answers the same calls alike; and a crash of
+//! one over disks in memory that stop leaves, at each call of either file, what was there before or all that the one change makes: under
+//! a log alone, under whole systems, and under ten processes of the manager one after another with steps by chance. And logs in files of
+//! the host. All tests that compile the database stand here: each program that has it in it takes some minutes to prove and to build
+//! before its first function.
 #![tactic(auto)]
 
 #[cfg(test)]

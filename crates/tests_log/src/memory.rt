@@ -13,14 +13,11 @@ fn answers_each_call(rt: HostRuntime) -> Result<(), Fail> {
     run_each_call(&rt, &mut MemLog::new(rt.alloc()))
 }
 
-/// What commands are told that change nothing. They are made again after one refusal of memory.
+/// What commands are told.
 fn told(alloc: Global, log: &mut MemLog, commands: &[Command]) -> Result<Vec<Told>, LogFault>
     requires { AllByRecursion Fits commands.now }
 {
-    match run_commands(alloc, log, commands) {
-        Err(LogFault::Memory) => run_commands(alloc, log, commands),
-        told => told,
-    }
+    run_commands(alloc, log, commands)
 }
 
 #[test]

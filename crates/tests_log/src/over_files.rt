@@ -65,16 +65,14 @@ pub(crate) fn over_stopping_files<W: OverLog>(
     over_files(rt, alloc, files, work)
 }
 
-/// The same over a new log. It is made again where memory is refused.
+/// The same over a new log.
 pub(crate) fn over_new_log<W: OverLog>(
     rt: &impl Abort,
     alloc: Global,
     work: &mut W,
 ) -> Result<(), Fail> {
-    for _ in 0..2u32 {
-        if over_stopping_files(rt, alloc, Stops::Journal, u64::MAX, work)? {
-            return Ok(());
-        }
+    if over_stopping_files(rt, alloc, Stops::Journal, u64::MAX, work)? {
+        return Ok(());
     }
     Err(Fail::from("no log is made"))
 }

@@ -53,10 +53,9 @@ fn answers_each_call(rt: HostRuntime) -> Result<(), Fail> {
 
 /// A log of the last incarnation but one is raised to the last, and then no more.
 fn spends_the_last<L: DecisionLog>(rt: &impl Abort, log: &mut L) {
-    let refused = &mut 0;
-    assert!(rt; bump(log, refused) == Ok(9_223_372_036_854_775_807));
-    assert!(rt; bump(log, refused) == Err(LogFault::Spent));
-    assert!(rt; bump(log, refused) == Err(LogFault::Spent));
+    assert!(rt; bump(log) == Ok(9_223_372_036_854_775_807));
+    assert!(rt; bump(log) == Err(LogFault::Spent));
+    assert!(rt; bump(log) == Err(LogFault::Spent));
 }
 
 /// A log of the last incarnation but one answers three calls of `bump`.
@@ -84,10 +83,9 @@ fn the_last_incarnation_is_spent(rt: HostRuntime) -> Result<(), Fail> {
 
 /// A log tells a thread that doesn't fit, wherever it reads the row, and nothing else.
 fn tells_thread<L: DecisionLog>(rt: &impl Abort, log: &mut L) -> Result<(), Fail> {
-    let refused = &mut 0;
-    assert!(rt; participants(log, refused, FIRST).err() == Some(LogFault::Version));
-    assert!(rt; rows(log, refused).err() == Some(LogFault::Version));
-    assert!(rt; contains(log, refused, FIRST)?);
+    assert!(rt; participants(log, FIRST).err() == Some(LogFault::Version));
+    assert!(rt; rows(log).err() == Some(LogFault::Version));
+    assert!(rt; contains(log, FIRST)?);
     Ok(())
 }
 

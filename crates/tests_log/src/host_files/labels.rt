@@ -2,8 +2,8 @@
 //! so a log that was made by it is opened, written and read here.
 
 use crate::host_files::paths::{Act, empty_in, play};
-use std::fs;
 use std::test::Fail;
+use std::{fs, io};
 use tests_disks::{EMPTY, bump_at, look_at, make_folder};
 use xa_log::LogFault;
 use xa_sql_log::SqlLog;
@@ -46,13 +46,18 @@ const PATH: &str = "halves/log.db";
 
 const JOURNAL: &str = "halves/log.db-wal";
 
-/// Whether a file with these bytes, or none, is half of a log beside this journal. The files are written.
-fn is_half(rt: &HostRuntime, file: Option<&[u8]>, journal: &[u8]) -> Result<bool, Fail> {
+/// Writes the file with these bytes, or removes it, and its journal.
+fn write_both(rt: &HostRuntime, file: Option<&[u8]>, journal: &[u8]) -> io::Result<()> {
     match file {
         Some(bytes) => fs::write(rt, PATH, bytes)?,
         None => fs::remove_file(rt, PATH)?,
     }
-    fs::write(rt, JOURNAL, journal)?;
+    fs::write(rt, JOURNAL, journal)
+}
+
+/// Whether a file with these bytes, or none, is half of a log beside this journal. The files are written.
+fn is_half(rt: &HostRuntime, file: Option<&[u8]>, journal: &[u8]) -> Result<bool, Fail> {
+    write_both(rt, file, journal)?;
     Ok(SqlLog::is_half(rt, PATH)?)
 }
 

@@ -10,7 +10,7 @@ use xa_log::LogFault;
 use xa_sql_log::SqlLog;
 
 /// What is done with a log, and what that answers.
-#[derive(Clone, Copy, Debug)]
+#[derive(Clone, Copy)]
 pub(crate) enum Act {
     /// It is opened, or made, and dropped.
     Open,
@@ -45,9 +45,9 @@ fn is_answered(rt: &HostRuntime, path: &str, act: &Act) -> Result<bool, Fail> {
 pub(crate) fn play(rt: &HostRuntime, folder: &str, acts: &[Act]) -> Result<(), Fail> {
     make_folder(rt, folder)?;
     let path = format!(in rt.alloc(); "{folder}/log.db")?;
-    for act in acts {
+    for (at, act) in acts.iter().enumerate() {
         if !is_answered(rt, path.as_str(), act)? {
-            return Err(Fail::from(*act));
+            return Err(Fail::from(format!(in rt.alloc(); "act {at}")?));
         }
     }
     fs::remove_dir_all(rt, folder)?;

@@ -1,10 +1,11 @@
 //! Runs that end early: a log that can't be started, and a writer that fails.
 
 use crate::scenario::failing::Failing;
+use std::alloc::Global;
 use std::test::Fail;
 use xa_files::RunFault;
 use xa_log::{FailLog, FailPlan, LogCall, MemLog};
-use xa_scenario::run_scenario;
+use xa_scenario::{read_scenarios, run_scenario, run_scenarios};
 
 /// A commit in one phase.
 pub(crate) const FIRST_RUN: &str = "\
@@ -20,6 +21,22 @@ step = [
 ";
 
 const FIRST_FATE: &str = "7:00000000000000010000000000000001:0000000000000000 committed\n";
+
+const FIRST_TRACE: &str = "\
+1 begun 00000000000000010000000000000001
+2 issued
+3 took xa_open 0
+4 heard xa_open 0
+5 issued
+6 took xa_start 0
+7 heard xa_start 0
+8 issued
+9 took xa_end 0
+10 heard xa_end 0
+11 issued
+12 took xa_commit 0
+13 heard xa_commit 0
+";
 
 /// No start of the manager succeeds.
 const NO_BUMP: FailPlan = FailPlan::Every {
@@ -37,6 +54,34 @@ fn log_fails(rt: HostRuntime) -> Result<(), Fail> {
         assert!(rt; run == Err(fault), "{text}");
         assert!(rt; out.is_empty(), "{text}");
     }
+    Ok(())
+}
+
+/// Why processes of these files over a log end early, if they do. Their traces are added to the bytes.
+fn fault_of(alloc: Global, texts: &[Vec<u8>], log: FailLog, out: &mut Vec<u8>) -> Option<RunFault> {
+    match read_scenarios(alloc, texts) {
+        Ok(scenarios) => run_scenarios(alloc, &scenarios, log, true, out).err(),
+        Err(refused) => Some(refused.fault),
+    }
+}
+
+/// The trace of the first process stays if the second can't be started.
+#[test]
+fn second_start_fails(rt: HostRuntime) -> Result<(), Fail> {
+    let alloc = rt.alloc();
+    let texts = [
+        Vec::from_slice(alloc, FIRST_RUN.as_bytes())?,
+        Vec::from_slice(alloc, b"threads = 1\nrms = 1\n")?,
+    ];
+    let plan = FailPlan::Once {
+        kind: LogCall::Bump,
+        at: 2,
+        made: false,
+    };
+    let log = FailLog::new(MemLog::new(alloc), plan);
+    let mut out = Vec::new(alloc);
+    assert!(rt; fault_of(alloc, &texts, log, &mut out) == Some(RunFault::Log));
+    assert!(rt; out.as_slice() == FIRST_TRACE.as_bytes());
     Ok(())
 }
 
