@@ -3,7 +3,7 @@
 ghost use Rattle.std.specs.Prelude.{◌≡◌, ◌≤◌};
 ghost use Rattle.xa_log.specs.Contract.{FitsRow};
 
-use sqlite::{Alter, FileStore};
+use sqlite::FileStore;
 use sqlite_disk::Disk;
 use std::time::Instant;
 use xa_base::{Branch, Gtrid, How};
@@ -62,11 +62,11 @@ fn work_in_files<D: Disk + Drop>(
     work_over(rt, "in a file", log, work)
 }
 
-/// Works over a log in any store.
-fn work_over<S: Alter + Drop>(
+/// Works over a log of any kind.
+fn work_over<L: DecisionLog + Drop>(
     rt: &HostRuntime,
     place: &str,
-    mut log: SqlLog<S>,
+    mut log: L,
     work: Work,
 ) -> anyhow::Result<()> {
     match work {
