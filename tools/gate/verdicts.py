@@ -14,6 +14,8 @@ GONE, UNSURE = "NOT SHOWN", "NOT TRIED"
 NO_LONGER = " (its answer no longer fits)"
 # How many answers that don't fit are asked of, and how often they are left out, each time those just found.
 TIMES = 4
+# So many goals that edits name are asked of in two checks, and no function is copied for it: the second begins with what the first kept.
+MANY = 4
 
 
 class Seat:
@@ -80,7 +82,7 @@ class Inquiry:
         self.can_be_copied = prover.can_copy(edit.function)
         # What is still to be asked, by goal and whether it has its answer; whether all goals were asked of; the answers that are
         # false; and what refuses it, by the goals that are open without their answers.
-        self.left = [(edit.goal, True), (edit.goal, False)] if edit.goal else [self.ALL]
+        self.left = [(edit.goal, False), (edit.goal, True)] if edit.goal else [self.ALL]
         self.is_of_all, self.false, self.opened = not edit.goal, [], {}
 
     def is_settled(self):
@@ -161,8 +163,11 @@ def try_together(edits, prover):
             inquiries.append(Inquiry(it, symbol, prover))
         else:
             left.append(it)
+    # First those that are asked of again, which then stand in the same places.
+    inquiries.sort(key=lambda it: not it.edit.goal)
+    by_turns = sum(bool(it.edit.goal) for it in inquiries) >= MANY
     while inquiries:
-        lost = [it.inquiry for it in ask(seated(inquiries), prover)]
+        lost = [it.inquiry for it in ask(seated(inquiries, by_turns), prover)]
         settled = [it for it in inquiries if it in lost or it.is_settled()]
         inquiries = [it for it in inquiries if it not in settled]
         left += [it.edit for it in settled if not it.edit.kind]
@@ -170,13 +175,14 @@ def try_together(edits, prover):
     return left
 
 
-def seated(inquiries):
+def seated(inquiries, by_turns):
     """What a check can ask, each in its place: of a function the first question in itself, and further ones in copies of it. What there
-    can be no copy for waits for another check."""
+    can be no copy for waits for another check; and so does, by turns, whether an answer is false, where the edit names its goal."""
     asked, counts = [], Counter()
     for it in inquiries:
         function = it.edit.function
-        for goal, has_answer in it.left:
+        waits = by_turns and not it.is_of_all
+        for goal, has_answer in it.left[:1] if waits else it.left:
             number = counts[function.key()]
             if number == 0 or it.can_be_copied:
                 counts[function.key()] += 1
