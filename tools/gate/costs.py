@@ -7,17 +7,19 @@ from .edits import edits_of
 from .machine import BYTES_A_JOB, jobs_for, processors
 
 # Minutes of one processor, from nothing: of --quick, of what the whole gate does of it, and of all proofs of rt ci with the tests.
-QUICK, QUICK_PART, PROOFS = 15, 5, 130
+QUICK, QUICK_PART, PROOFS = 15, 5, 125
 # Processor seconds of an edit, and of all edits of the crates in which one takes much longer.
-EDIT = 8
+EDIT = 5
 EDITS = {
-    "xa_session": 610,
-    "xa_sql_log": 405,
-    "xa_scenario": 285,
-    "xa_display": 255,
-    "xa_system": 240,
-    "xa_scenario_file": 180,
-    "xa_commands": 135,
+    "xa_session": 350,
+    "xa_sql_log": 330,
+    "xa_server": 255,
+    "xa_tm": 240,
+    "xa_scenario": 235,
+    "xa_system": 215,
+    "xa_display": 195,
+    "xa_workers": 180,
+    "xa_commands": 115,
 }
 # Minutes at the end, in which processors are idle: where the program is built anew, and where all is kept.
 LAST, LAST_KEPT = 5, 1
