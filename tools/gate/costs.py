@@ -14,7 +14,6 @@ EDITS = {
     "xa_session": 350,
     "xa_sql_log": 330,
     "xa_server": 255,
-    "xa_tm": 240,
     "xa_scenario": 235,
     "xa_system": 215,
     "xa_display": 195,
