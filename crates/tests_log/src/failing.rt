@@ -15,7 +15,7 @@ fn answers_each_call(rt: HostRuntime) -> Result<(), Fail> {
     run_each_call(&rt, &mut FailLog::new(MemLog::new(rt.alloc()), plan))
 }
 
-/// A log that begins with the decision FIRST, and whose first commit fails. FIRST has made room: a further row takes no memory.
+/// A log that begins with the decision FIRST, and whose next commit fails.
 fn fails_once(alloc: Global, made: bool) -> Result<FailLog, LogFault> {
     let mut log = MemLog::new(alloc);
     commit(&mut log, FIRST, &[FIRST_A])?;

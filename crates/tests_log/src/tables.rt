@@ -20,64 +20,11 @@ fn files_with(
     files_after(alloc, files, sql)
 }
 
-/// Opens a log in such files, and hands it over. Tells whether there was a log.
-fn over_files_with<W: OverLog>(
-    rt: &impl Abort,
-    alloc: Global,
-    change: Option<Change>,
-    sql: &str,
-    work: &mut W,
-) -> Result<bool, Fail> {
-    over_files(rt, alloc, files_with(alloc, change, sql)?, work)
-}
-
-/// Each kind of call is made at an empty log.
-#[derive(Drop)]
-struct EachCall;
-
-impl OverLog for EachCall {
-    fn over<L: Crashes>(
-        &mut self,
-        rt: &impl Abort,
-        _alloc: Global,
-        mut log: L,
-    ) -> Result<(), Fail> {
-        run_each_call(rt, &mut log)
-    }
-}
-
-#[test]
-fn answers_each_call(rt: HostRuntime) -> Result<(), Fail> {
-    over_new_log(&rt, rt.alloc(), &mut EachCall)
-}
-
 /// A log of the last incarnation but one is raised to the last, and then no more.
-fn spends_the_last<L: DecisionLog>(rt: &impl Abort, log: &mut L) {
+fn spends_the_last<L: DecisionLog>(rt: &impl Abort, log: &mut L) -> Result<(), Fail> {
     assert!(rt; bump(log) == Ok(9_223_372_036_854_775_807));
     assert!(rt; bump(log) == Err(LogFault::Spent));
     assert!(rt; bump(log) == Err(LogFault::Spent));
-}
-
-/// A log of the last incarnation but one answers three calls of `bump`.
-#[derive(Drop)]
-struct LastBumps;
-
-impl OverLog for LastBumps {
-    fn over<L: Crashes>(
-        &mut self,
-        rt: &impl Abort,
-        _alloc: Global,
-        mut log: L,
-    ) -> Result<(), Fail> {
-        spends_the_last(rt, &mut log);
-        Ok(())
-    }
-}
-
-#[test]
-fn the_last_incarnation_is_spent(rt: HostRuntime) -> Result<(), Fail> {
-    let last = "UPDATE tm_meta SET incarnation = 9223372036854775806";
-    assert!(rt; over_files_with(&rt, rt.alloc(), None, last, &mut LastBumps)?);
     Ok(())
 }
 
@@ -89,26 +36,60 @@ fn tells_thread<L: DecisionLog>(rt: &impl Abort, log: &mut L) -> Result<(), Fail
     Ok(())
 }
 
-/// A log with such a thread is asked.
+/// What is asked of a log in tables.
 #[derive(Drop)]
-struct TellsThread;
+enum Question {
+    /// Each kind of call, of an empty log.
+    EachCall,
+    /// To be raised, of a log of the last incarnation but one.
+    LastBumps,
+    /// Its row, of a log with a thread that doesn't fit.
+    Thread,
+}
 
-impl OverLog for TellsThread {
+impl OverLog for Question {
     fn over<L: Crashes>(
         &mut self,
         rt: &impl Abort,
         _alloc: Global,
         mut log: L,
     ) -> Result<(), Fail> {
-        tells_thread(rt, &mut log)
+        match self {
+            Question::EachCall => run_each_call(rt, &mut log),
+            Question::LastBumps => spends_the_last(rt, &mut log),
+            Question::Thread => tells_thread(rt, &mut log),
+        }
     }
+}
+
+/// Asks it of a log in such files. Tells whether there was a log.
+fn ask(
+    rt: &impl Abort,
+    alloc: Global,
+    change: Option<Change>,
+    sql: &str,
+    mut question: Question,
+) -> Result<bool, Fail> {
+    over_files(rt, alloc, files_with(alloc, change, sql)?, &mut question)
+}
+
+#[test]
+fn answers_each_call(rt: HostRuntime) -> Result<(), Fail> {
+    over_new_log(&rt, rt.alloc(), &mut Question::EachCall)
+}
+
+#[test]
+fn the_last_incarnation_is_spent(rt: HostRuntime) -> Result<(), Fail> {
+    let last = "UPDATE tm_meta SET incarnation = 9223372036854775806";
+    assert!(rt; ask(&rt, rt.alloc(), None, last, Question::LastBumps)?);
+    Ok(())
 }
 
 #[test]
 fn a_number_that_does_not_fit_is_told(rt: HostRuntime) -> Result<(), Fail> {
     let sql = "UPDATE participant SET thread = 4294967296";
     let commit = Some(Change::Commit);
-    assert!(rt; over_files_with(&rt, rt.alloc(), commit, sql, &mut TellsThread)?);
+    assert!(rt; ask(&rt, rt.alloc(), commit, sql, Question::Thread)?);
     Ok(())
 }
 
