@@ -1,5 +1,6 @@
 """About how long ./check takes here, by the number of processors and by what is kept."""
 
+import functools
 import os
 
 from .crates import CACHE, crates_of
@@ -33,14 +34,22 @@ class Costs:
     def __init__(self, top):
         self.crates = crates_of(top).values()
 
+    @functools.cached_property
+    def sums(self):
+        """Of each crate the sum of its files, as they stand when this is first asked."""
+        return {it: it.sum() for it in self.crates}
+
+    @functools.cached_property
+    def left(self):
+        """The crates that haven't passed here as they are."""
+        return [it for it in self.crates if not os.path.isfile(f"{CACHE}/passed/{self.sums[it]}")]
+
     def quick(self):
         minutes = QUICK / jobs_for(BYTES_A_JOB)
         return f"the quick part is done, and nothing is proved: at most about {self.rounded(minutes)}, {self.on()}"
 
     def whole(self):
-        """By the lines of the crates that haven't passed here as they are."""
-        self.sums = {it: it.sum() for it in self.crates}
-        self.left = [it for it in self.crates if not os.path.isfile(f"{CACHE}/passed/{self.sums[it]}")]
+        """By the lines of the crates that are left."""
         edits = sum(seconds_of_edits(it, len(edits_of(it)[0])) for it in self.left)
         parts = [self.part(self.left, self.crates) * PROOFS, edits / 60]
         minutes = (QUICK_PART + sum(parts)) / jobs_for(BYTES_A_JOB) + (LAST if self.left else LAST_KEPT)
