@@ -5,7 +5,7 @@ import subprocess
 import threading
 from collections import deque
 
-from .machine import BYTES_A_JOB, BYTES_A_PROOF, Busy, free_bytes, processors, put_last
+from .machine import BYTES_A_JOB, BYTES_A_PROOF, Busy, free_bytes, processors, put_back, put_last
 
 # What rt ci prints of a crate that it has proved in this run, and of one that an earlier run has.
 PROVED, KEPT = re.compile(r"rt: (\w+) proved$"), re.compile(r"rt: (\w+) is kept: ")
@@ -14,8 +14,8 @@ PROVED, KEPT = re.compile(r"rt: (\w+) proved$"), re.compile(r"rt: (\w+) is kept:
 class Ahead:
     """The last crates rest on one another, and rt ci leaves processors idle while it proves them. Meanwhile the edits of the crates
     before them are tried, at the lowest priority: of those that this run proves, and of those that are left though rt ci has kept them.
-    tools/edits keeps what is refused, and counts it when it is run over all. Those that are under way when rt ci ends go on: it waits for
-    them, crate by crate.
+    tools/edits keeps what is refused, and counts it when it is run over all. Those that are under way when rt ci ends go on, no longer at the
+    lowest priority: it waits for them, crate by crate.
 
     So often, in seconds (looks), it asks whether there is room for one more: busy says how many processors were busy since it was last
     asked, free how many bytes are left."""
@@ -74,3 +74,5 @@ class Ahead:
         """Begins no more."""
         self.ends.set()
         self.thread.join()
+        for it in self.runs.values():
+            put_back(it.pid)

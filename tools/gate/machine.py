@@ -48,9 +48,22 @@ def put_last(pid):
     """Gives a process that leads a session the lowest priority, and so what it starts from now on."""
     with contextlib.suppress(OSError):
         os.setpriority(os.PRIO_PROCESS, pid, 19)
-    # Linux may divide the processors among sessions first: then nice counts only within one.
+    nice_as_session(pid, 19)
+
+
+def put_back(pid):
+    """Gives all that runs in the session of this leader the priority of this program, if it may."""
+    nice = os.getpriority(os.PRIO_PROCESS, 0)
+    for group in {int(fields[2]) for _, fields in processes() if int(fields[3]) == pid}:
+        with contextlib.suppress(OSError):
+            os.setpriority(os.PRIO_PGRP, group, nice)
+    nice_as_session(pid, nice)
+
+
+def nice_as_session(pid, nice):
+    """Linux may divide the processors among sessions first: then nice counts only within one."""
     with contextlib.suppress(OSError), open(f"/proc/{pid}/autogroup", "w", encoding="utf-8") as it:
-        it.write("19")
+        it.write(str(nice))
 
 
 def processes():
