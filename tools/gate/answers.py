@@ -33,6 +33,15 @@ def without(text, names):
     return "\n".join(it for name, lines in parts(text) if name not in names for it in lines)
 
 
+# Names of the cases of a goal, which there are only if its answer tells them apart.
+CASES = re.compile(r"use \S+\.Goals\.\{")
+
+
+def without_one(text, name):
+    """The file without the answer of this name, nor the names of any cases: for a check that asks nothing of the other answers."""
+    return "\n".join(it for _, lines in parts(without(text, {name})) if not CASES.match("\n".join(lines)) for it in lines)
+
+
 # Beside this hole rattle offers no text for a goal that is open: that takes a run of antt of its own, some ten seconds of a check.
 UNOFFERED = "unoffered : Unit {0}\nunoffered = ?\n"
 
@@ -41,39 +50,37 @@ def unoffered(text):
     return f"{text}\n{UNOFFERED}"
 
 
-# In the place of an answer that a check isn't asked of: a name that nothing has. Like a hole it isn't admitted, and nothing searches for its
-# goal; but of a hole rattle prints the goal, which can take seconds.
+# In the place of an answer, or of a proof, of which a check asks nothing: a name that nothing has. Like a hole it isn't admitted, and nothing searches
+# for its goal; but of a hole rattle prints the goal, which can take seconds.
 LEFT_OUT = "left_out_of_this_check"
-# Names of the cases of a goal, which there are only where its answer tells them apart.
-CASES = re.compile(r"use \S+\.Goals\.\{")
-
-
-def with_one(text, but, leaves_out):
-    """The file where each answer is left out but one, which stands as it is, or goes, so that its goal stands by itself. What the rest
-    cites is a hole, which rattle takes by its signature."""
-    answers, kept, seen = names_in(text), [], set()
-    found = [it for it in parts(text) if not (leaves_out and (it[0] == but or CASES.match("\n".join(it[1]))))]
-    rest = [lines for name, lines in found if name == but or name not in answers]
-    cited = {it for lines in rest for line in lines for it in re.findall(r"[\w-]+", line)}
-    for name, lines in found:
-        if name == but or name not in answers or lines[0].startswith("pub "):
-            kept += lines
-        elif name not in seen:
-            seen.add(name)
-            kept.append(f"{name} = {'?' if name in cited else LEFT_OUT}")
-    return "\n".join(kept)
+WORD = re.compile(r"[\w-]+")
 
 
 def unasked(text, names, symbol):
-    """The file of the function of this whole name, where nothing is asked of these goals."""
+    """The file of the function of this whole name, where nothing is asked of these goals. One that the other answers cite is a hole, which rattle takes
+    by its signature."""
+    found, left = parts(text), dict.fromkeys(names)
+    cited = {it for name, lines in found if name not in names for line in lines for it in WORD.findall(line)}
+    kept = []
+    for name, lines in found:
+        if name not in names or lines[0].startswith("pub "):
+            kept += lines
+        elif name in left:
+            del left[name]
+            kept.append(f"{name} = {'?' if name in cited else LEFT_OUT}")
+    return with_goals("\n".join(kept), left, symbol)
+
+
+def with_goals(text, names, symbol):
+    """The file with these goals too, which have no answer there, so that nothing is asked of them."""
     if not names:
         return text
     crate, _, path = symbol.partition("::")
     goals = f"use Rattle.{crate}.proofs.{path.replace('::', '.')}.Goals as "
     # Rattle takes one name of a module in a file.
-    found = re.search(re.escape(goals) + r"(\S+)", text)
-    head, goal = ([], found[1]) if found else ([f"{goals}goal"], "goal")
-    return "\n".join([*head, without(text, names), *(f"pub {it} : {goal}.{it}\n{it} = {LEFT_OUT}" for it in names)])
+    known = re.search(re.escape(goals) + r"(\S+)", text)
+    head, goal = ([], known[1]) if known else ([f"{goals}goal"], "goal")
+    return "\n".join([*head, text, *(f"pub {it} : {goal}.{it}\n{it} = {LEFT_OUT}" for it in names)])
 
 
 def rewrite(file, becomes):

@@ -8,7 +8,7 @@ import sys
 
 PARTS = ("src", "specs", "proofs")
 # What of this tool settles what an edit comes to.
-JUDGES = ("answers", "crates", "edits", "functions", "holes", "places", "prover", "reports", "verdicts")
+JUDGES = ("answers", "crates", "edits", "functions", "places", "prover", "reports", "stubs", "verdicts")
 # The folders of a library, as built, in which its statements are, and the files that have sums of its code besides.
 STATED, SUMS = ("interface", "below", "lang"), ("made.json", "format")
 HERE = os.path.dirname(os.path.realpath(__file__))

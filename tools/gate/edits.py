@@ -15,7 +15,7 @@ class Edit:
     def __init__(self, path):
         self.name = os.path.basename(path).removesuffix(".edit")
         self.text, self.lines, self.function, self.bad = text_of(path), {}, None, None
-        self.kind, self.why, self.seems_proved, self.was_over_holes = None, "", False, False
+        self.kind, self.why, self.seems_proved, self.was_over_stubs = None, "", False, False
         # The goal that refuses it, where it says so, if that has an answer written by hand; and goals that are open too.
         self.goal = next(iter(self.named("goal")), None)
         self.beside = self.named("beside")

@@ -5,8 +5,8 @@ import re
 
 from .answers import answers_of
 from .crates import text_of
-from .holes import WRITTEN
 from .reports import PLACE
+from .stubs import WRITTEN
 
 
 class Place:
@@ -34,9 +34,9 @@ class Copies:
     function's goals, since rattle keeps them private, and one that calls itself is tried alone. Not copied is a method of a trait, nor a
     function whose proof is written whole or cited by others, nor one with a closure that has written proofs."""
 
-    def __init__(self, crate, names, holes):
+    def __init__(self, crate, names, stubs):
         self.crate, self.names = crate, names
-        self.keys = {it.key() for found in holes.left_out.values() for it in found}
+        self.keys = {it.key() for found in stubs.functions.values() for it in found}
         # Of each closure with proofs, the names that it has below the functions of its module.
         self.closures = [at.split("/fn/")[1].split("/") for at, _, _ in os.walk(f"{crate.folder}/proofs") if "/fn/" in at]
 

@@ -12,9 +12,9 @@ import threading
 from .answers import names_in, rewrite
 from .crates import PARTS, text_of
 from .functions import Names
-from .holes import Holes
 from .places import Copies, told_by_origins
 from .reports import reports
+from .stubs import Stubs
 
 # What a check printed, its status, its processor seconds and the most memory that it took.
 Said = collections.namedtuple("Said", "status text seconds bytes")
@@ -72,14 +72,14 @@ class Room:
 class Prover:
     """Checks of one crate, each begun with what a check of the crate as it stands has proved (the seed). If it is known that the crate
     is proved, no such check is made: each begins with what those before it proved of what their edits left alone, and one of functions
-    with edits may leave the others out (holes)."""
+    with edits may leave the others out (stubs)."""
 
     def __init__(self, kit, crate, room, is_known):
         self.kit, self.crate, self.room, self.work, self.is_known = kit, crate, room, room.new(crate.name), is_known
         self.seed, self.files, self.symbols, self.answers = f"{self.work}/seed", {}, [], {}
         self.names = Names(kit, crate) if is_known else None
-        self.holes, self.has_holes = Holes(crate, self.names) if is_known else None, is_known
-        self.copies = Copies(crate, self.names, self.holes) if is_known else None
+        self.stubs, self.has_stubs = Stubs(crate, self.names) if is_known else None, is_known
+        self.copies = Copies(crate, self.names, self.stubs) if is_known else None
         self.seconds, self.bytes, self.checks = 0.0, 0, 0
 
     def prove(self, edits, whole):
@@ -117,14 +117,14 @@ class Prover:
 
     def can_copy(self, function):
         """Whether a check can ask of copies of the function too."""
-        return self.has_holes and self.copies.can_be_made(function)
+        return self.has_stubs and self.copies.can_be_made(function)
 
-    def over_seed(self, seats, readings, with_holes=False):
+    def over_seed(self, seats, readings, with_stubs=False):
         """A check of the seats' paths, all if there are none, with their edits made, over a copy of the seed, which no check may change.
         Of some files of answers it reads what they become (readings)."""
         flags = only({it.path for it in seats if it.path})
         if self.is_known:
-            return self.check(seats, flags, self.seed, readings, with_holes)
+            return self.check(seats, flags, self.seed, readings, with_stubs)
         over = tempfile.mkdtemp(prefix="over-", dir=self.work)
         os.rmdir(over)
         linked(self.seed, over)
@@ -138,15 +138,15 @@ class Prover:
     def clean(self):
         shutil.rmtree(self.work, ignore_errors=True)
 
-    def check(self, seats, flags, over, readings=(), with_holes=False):
+    def check(self, seats, flags, over, readings=(), with_stubs=False):
         copied = [it for it in seats if it.is_copy()]
         edits = [it.edit for it in seats if not it.is_copy()]
         with tempfile.TemporaryDirectory(prefix="try-", dir=self.work) as folder:
             for part in PARTS:
                 if os.path.isdir(f"{self.crate.folder}/{part}"):
                     shutil.copytree(f"{self.crate.folder}/{part}", f"{folder}/{part}")
-            if with_holes:
-                self.holes.make(folder, edits)
+            if with_stubs:
+                self.stubs.make(folder, edits)
             make(edits, folder)
             origins = self.copies.make(folder, copied) if copied else {}
             for file in readings:

@@ -3,7 +3,7 @@
 from collections import Counter
 from functools import partial
 
-from .answers import answers_of, unasked, unoffered, with_one, without
+from .answers import answers_of, names_in, unasked, unoffered, without, without_one
 from .edits import parted
 from .places import Place
 from .reports import LIMIT, errors, first_words, reports
@@ -14,8 +14,6 @@ GONE, UNSURE = "NOT SHOWN", "NOT TRIED"
 NO_LONGER = " (its answer no longer fits)"
 # How many answers that don't fit are asked of, and how often they are left out, each time those just found.
 TIMES = 4
-# So many goals that edits name are asked of in two checks, and no function is copied for it: the second begins with what the first kept.
-MANY = 4
 
 
 class Seat:
@@ -32,9 +30,9 @@ class Seat:
 class Trial:
     """A check with some edits made. Of some files of answers written by hand it reads what they become (readings)."""
 
-    def __init__(self, prover, seats, readings, with_holes=False):
-        self.with_holes = with_holes
-        self.said = prover.over_seed(seats, readings, with_holes)
+    def __init__(self, prover, seats, readings, with_stubs=False):
+        self.with_stubs = with_stubs
+        self.said = prover.over_seed(seats, readings, with_stubs)
         self.found, self.wrong = reports(self.said.text), errors(self.said.text)
         self.others = [it for it in self.wrong if not it.is_of_answer()]
         # Answers that don't fit, each with its file, and whether it is false, or only names what is gone.
@@ -52,11 +50,14 @@ class Trial:
         """Whether it tells of each answer of a file if it fits."""
         return all(it.file != file for it in self.others)
 
+    def false_answers(self, file):
+        return [it for (at, it), is_false in self.misfits.items() if at == file and is_false]
+
 
 class Question(Seat):
     """What a check asks of an edit: which goals of its function are open that have no answer written by hand, and which answers are
-    false (goal is None). Or, of one goal, whether its answer is false (has_answer), or whether it is open without that: then the function's
-    other answers are left out."""
+    false (goal is None). Or, of one goal, whether its answer is false (has_answer), or whether it is open without that: then nothing is asked of
+    the function's other answers."""
 
     def __init__(self, inquiry, goal, has_answer, place):
         super().__init__(inquiry.edit, place.symbol, place)
@@ -64,61 +65,64 @@ class Question(Seat):
 
     def reads(self, text):
         """What the check reads of the function's answers."""
+        names = [*self.edit.beside]
         if self.goal is not None:
-            text = with_one(text, self.goal, leaves_out=not self.has_answer)
-        text = unasked(text, self.edit.beside, self.place.symbol)
+            names += names_in(text) - {self.goal}
+            text = text if self.has_answer else without_one(text, self.goal)
+        text = unasked(text, names, self.place.symbol)
         return unoffered(text) if self.inquiry.can_be_copied else text
 
 
 class Inquiry:
     """What is asked of an edit until something refuses it: an open goal without an answer; or a goal whose answer is false, and which
-    is open without that too. Which one that is the edit may say (its goal): then both is asked first, and all else only where that doesn't
-    refuse it."""
+    is open without that too. Which one that is the edit may say (its goal): then both is asked first, one after the other, and all else only if
+    that doesn't refuse it."""
 
     ALL = (None, True)
 
     def __init__(self, edit, symbol, prover):
         self.edit, self.symbol, self.prover = edit, symbol, prover
         self.can_be_copied = prover.can_copy(edit.function)
-        # What is still to be asked, by goal and whether it has its answer; whether all goals were asked of; the answers that are
-        # false; and what refuses it, by the goals that are open without their answers.
-        self.left = [(edit.goal, False), (edit.goal, True)] if edit.goal else [self.ALL]
-        self.is_of_all, self.false, self.opened = not edit.goal, [], {}
+        # What the next check is to ask, by goal and whether it has its answer; and which answers are false, once all goals were asked of.
+        self.left, self.false = [(edit.goal, False) if edit.goal else self.ALL], None
 
     def is_settled(self):
         return bool(self.edit.kind) or not self.left
 
     def hear(self, question, trial):
-        """Judges the edit by the open goals of its own function."""
+        """Judges the edit by the open goals of its own function, or says what is to be asked next."""
         if self.is_settled():
             return
-        place, asked = question.place, question.goal
-        self.left.remove((asked, question.has_answer))
+        place, goal, opened = question.place, question.goal, []
+        self.left.remove((goal, question.has_answer))
         for report, goals in own_goals(place, trial.found):
-            file = answers_of(report.name)
-            answered = self.prover.answered(place.original(file))
-            known = [*answered, *self.edit.beside]
-            new = [it.name for it in goals if it.name not in known and trial.is_told(file)]
+            file, names = answers_of(report.name), [it.name for it in goals]
+            known = [*self.prover.answered(place.original(file)), *self.edit.beside]
+            new = [it for it in names if it not in known and trial.is_told(file)]
             if new:
-                give(self.edit, REFUSED, place.original(told(report, new)))
+                give(self.edit, REFUSED, place.original(told(report.path(), new)))
                 return
-            if not question.has_answer and file == place.answers and any(it.name == asked for it in goals):
-                self.opened[asked] = place.original(told(report, [asked]))
-        if question.has_answer:
-            false = [it for (file, it), is_false in trial.misfits.items() if file == place.answers and is_false]
-            self.false = [it for it in false if asked in (None, it)][:TIMES]
-        if asked is None:
+            opened += names if file == place.answers else []
+        false = trial.false_answers(place.answers)
+        if goal is None:
             note(self.edit, place.symbol, trial)
+            self.false = false[:TIMES]
             self.left = [(it, False) for it in self.false]
-        found = [self.opened[it] for it in self.false if it in self.opened]
-        if found:
-            give(self.edit, REFUSED, found[0] + NO_LONGER)
-        elif not self.left and not self.is_of_all:
-            self.left, self.is_of_all = [self.ALL], True
+        else:
+            self.hear_of(goal, question.has_answer, goal in (false if question.has_answer else opened))
+
+    def hear_of(self, goal, has_answer, is_so):
+        """Hears of one goal whether its answer is false, or whether it is open without that (is_so)."""
+        if is_so and (has_answer or self.false):
+            give(self.edit, REFUSED, told(self.symbol.partition("::")[2], [goal]) + NO_LONGER)
+        elif is_so:
+            self.left = [(goal, True)]
+        elif self.false is None:
+            self.left = [self.ALL]
 
 
-def told(report, goals):
-    return f"{report.path()}: {', '.join(goals)}"
+def told(path, goals):
+    return f"{path}: {', '.join(goals)}"
 
 
 def give(edit, kind, why):
@@ -141,7 +145,7 @@ def note(edit, symbol, trial):
     own = [it for it in trial.found if it.name == symbol]
     # What a function's line says so is true whatever the bodies of the others are.
     edit.seems_proved = bool(own) and (own[0].is_proved or own[0].is_held_up)
-    edit.was_over_holes = trial.with_holes
+    edit.was_over_stubs = trial.with_stubs
 
 
 def try_all(edits, prover, whole):
@@ -163,11 +167,10 @@ def try_together(edits, prover):
             inquiries.append(Inquiry(it, symbol, prover))
         else:
             left.append(it)
-    # First those that are asked of again, which then stand in the same places.
+    # First those that are asked of again, which then stand in the same places: there a check begins with what the one before it kept.
     inquiries.sort(key=lambda it: not it.edit.goal)
-    by_turns = sum(bool(it.edit.goal) for it in inquiries) >= MANY
     while inquiries:
-        lost = [it.inquiry for it in ask(seated(inquiries, by_turns), prover)]
+        lost = [it.inquiry for it in ask(seated(inquiries), prover)]
         settled = [it for it in inquiries if it in lost or it.is_settled()]
         inquiries = [it for it in inquiries if it not in settled]
         left += [it.edit for it in settled if not it.edit.kind]
@@ -175,14 +178,13 @@ def try_together(edits, prover):
     return left
 
 
-def seated(inquiries, by_turns):
+def seated(inquiries):
     """What a check can ask, each in its place: of a function the first question in itself, and further ones in copies of it. What there
-    can be no copy for waits for another check; and so does, by turns, whether an answer is false, where the edit names its goal."""
+    can be no copy for waits for another check."""
     asked, counts = [], Counter()
     for it in inquiries:
         function = it.edit.function
-        waits = by_turns and not it.is_of_all
-        for goal, has_answer in it.left[:1] if waits else it.left:
+        for goal, has_answer in it.left:
             number = counts[function.key()]
             if number == 0 or it.can_be_copied:
                 counts[function.key()] += 1
@@ -211,19 +213,19 @@ def ask(asked, prover):
 
 def trial_of(asked, prover):
     readings = {it.place.answers: it.reads for it in asked}
-    trial = Trial(prover, asked, readings, prover.has_holes)
-    if trial.is_unread() and prover.has_holes:
+    trial = Trial(prover, asked, readings, prover.has_stubs)
+    if trial.is_unread() and prover.has_stubs:
         # It may be for what is left out that the crate doesn't compile.
         trial = Trial(prover, asked, readings)
-        prover.has_holes = trial.is_unread()
+        prover.has_stubs = trial.is_unread()
     return trial
 
 
 def try_alone(edit, prover, whole=False):
-    """Tries an edit alone: by a check of what it changes, with holes and without, and, if that doesn't refuse it, by one of the whole
+    """Tries an edit alone: by a check of what it changes, with stubs and without, and, if that doesn't refuse it, by one of the whole
     crate."""
     path = None if whole or edit.seems_proved else edit.path()
-    if path and edit.function and prover.has_holes and not edit.was_over_holes:
+    if path and edit.function and prover.has_stubs and not edit.was_over_stubs:
         for _ in try_together([edit], prover):
             pass
         if edit.kind:
@@ -282,11 +284,11 @@ class Alone:
             new = [goal for goal in goals if (file, goal) not in self.left_out and self.trial.is_told(file)]
             false = [goal for goal in goals if self.left_out.get((file, goal))]
             if new or false:
-                give(self.edit, REFUSED, told(it, new or false) + NO_LONGER * (not new))
+                give(self.edit, REFUSED, told(it.path(), new or false) + NO_LONGER * (not new))
                 return True
         if opened:
             goals = [goal.name for goal in opened[0].goals]
-            give(self.edit, GONE, f"only an answer names what it took away, which says nothing of a contract: {told(opened[0], goals)}")
+            give(self.edit, GONE, f"only an answer names what it took away, which says nothing of a contract: {told(opened[0].path(), goals)}")
         return bool(opened)
 
     def judge_errors(self):
