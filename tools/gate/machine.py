@@ -54,7 +54,7 @@ def put_last(pid):
 def put_back(pid):
     """Gives all that runs in the session of this leader the priority of this program, if it may."""
     nice = os.getpriority(os.PRIO_PROCESS, 0)
-    for group in {int(fields[2]) for _, fields in processes() if int(fields[3]) == pid}:
+    for group in {int(fields[2]) for _, fields in of_session(pid)}:
         with contextlib.suppress(OSError):
             os.setpriority(os.PRIO_PGRP, group, nice)
     nice_as_session(pid, nice)
@@ -73,9 +73,14 @@ def processes():
             yield int(it), stat.read().rpartition(")")[2].split()
 
 
+def of_session(session):
+    """Those of a session, which its leader's number names."""
+    return ((pid, fields) for pid, fields in processes() if int(fields[3]) == session)
+
+
 def seconds_of(session):
     """How many processor seconds the processes of a session have taken so far, with those that have ended."""
-    ticks = sum(sum(map(int, fields[11:15])) for _, fields in processes() if int(fields[3]) == session)
+    ticks = sum(sum(map(int, fields[11:15])) for _, fields in of_session(session))
     return ticks / os.sysconf("SC_CLK_TCK")
 
 
