@@ -5,8 +5,8 @@ use std::process::Abort;
 use std::sync::Wait;
 use std::thread::Threads;
 use std::time::Clock;
-use xa_base::{Branch, Fate, Gtrid, RbCode, Vote};
-use xa_log::DecisionLog;
+use xa_base::{Branch, Fate, Gtrid, Outcome, RbCode, Vote};
+use xa_log::{DecisionLog, MemLog};
 use xa_workers::{Gate, Jobs, Outcomes, WorkFault, run_jobs};
 
 pub(crate) const YES: Option<Vote> = Some(Vote::Yes);
@@ -49,6 +49,27 @@ pub(crate) fn run<R: Threads + Wait + Clock + Sync + Abort, L: DecisionLog + Dro
 ) -> Result<Outcomes<L>, WorkFault> {
     assert!(rt; jobs.is_runnable());
     run_jobs(rt, alloc, jobs, log, gate)
+}
+
+/// The fault of a run, if it has one. What it came to is let go here, so that no test does.
+pub(crate) fn fault_of<
+    R: Threads + Wait + Clock + Sync + Abort,
+    L: DecisionLog + Drop,
+    G: Gate + Sync,
+>(rt: &R, alloc: Global, jobs: &Jobs, log: L, gate: &G) -> Option<WorkFault> {
+    run(rt, alloc, jobs, log, gate).err()
+}
+
+/// The end that comes at a place of a run over a new log. A run that has a fault has none.
+pub(crate) fn end_at<R: Threads + Wait + Clock + Sync + Abort, G: Gate + Sync>(
+    rt: &R,
+    alloc: Global,
+    jobs: &Jobs,
+    gate: &G,
+    place: usize,
+) -> Result<Option<Outcome>, WorkFault> {
+    let done = run(rt, alloc, jobs, MemLog::new(alloc), gate)?;
+    Ok(done.ends.get(place).copied())
 }
 
 pub(crate) fn gtrid(sequence: u64) -> Gtrid {
