@@ -2,7 +2,8 @@
 
 use crate::gates::Counting;
 use crate::plans::{
-    NO, READ_ONLY, YES, are_fates, branch, end_at, fault_of, four_jobs, gtrid, jobs, run, swept,
+    NO, READ_ONLY, YES, are_fates, branch, end_at, fault_of, four_jobs, gtrid, jobs, push_job, run,
+    swept,
 };
 use std::alloc::{AllocError, Global};
 use std::process::Abort;
@@ -109,7 +110,7 @@ fn many_jobs(alloc: Global) -> Result<Jobs, AllocError> {
     for job in 0..120u32 {
         let last = if job % 7 == 0 { NO } else { YES };
         let row = [YES, READ_ONLY, None, last, YES, YES, None, YES];
-        votes.push(row.as_slice().to_vec(alloc)?)?;
+        push_job(alloc, &mut votes, &row)?;
     }
     Ok(Jobs {
         threads: 8,

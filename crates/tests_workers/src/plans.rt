@@ -15,6 +15,16 @@ pub(crate) const READ_ONLY: Option<Vote> = Some(Vote::ReadOnly);
 
 pub(crate) const NO: Option<Vote> = Some(Vote::No(RbCode::Deadlock));
 
+/// One job more, with these votes.
+pub(crate) fn push_job(
+    alloc: Global,
+    votes: &mut Vec<Vec<Option<Vote>>>,
+    row: &[Option<Vote>],
+) -> Result<(), AllocError> {
+    votes.push(row.to_vec(alloc)?)?;
+    Ok(())
+}
+
 pub(crate) fn jobs(
     alloc: Global,
     threads: u32,
@@ -23,7 +33,7 @@ pub(crate) fn jobs(
 ) -> Result<Jobs, AllocError> {
     let mut votes = Vec::new(alloc);
     for row in rows {
-        votes.push(row.to_vec(alloc)?)?;
+        push_job(alloc, &mut votes, row)?;
     }
     Ok(Jobs {
         threads,

@@ -35,6 +35,16 @@ impl Unlawful {
             alloc,
         }
     }
+
+    /// One decision more is listed, or one record.
+    fn list(&mut self, sequence: u64, is_record: bool) -> Result<(), AllocError> {
+        if is_record {
+            self.heuristics.push((branch(sequence, 0, 0), How::Mix))?;
+        } else {
+            self.decisions.push(gtrid(sequence))?;
+        }
+        Ok(())
+    }
 }
 
 impl DecisionLog for Unlawful {
@@ -123,11 +133,7 @@ const LISTED: [([u64; 2], bool); 4] = [
 fn listing(alloc: Global, sequences: [u64; 2], are_records: bool) -> Result<Unlawful, AllocError> {
     let mut log = Unlawful::new(alloc);
     for sequence in sequences {
-        if are_records {
-            log.heuristics.push((branch(sequence, 0, 0), How::Mix))?;
-        } else {
-            log.decisions.push(gtrid(sequence))?;
-        }
+        log.list(sequence, are_records)?;
     }
     Ok(log)
 }
