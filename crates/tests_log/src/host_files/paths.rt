@@ -171,10 +171,12 @@ fn each_log_answers_as_it_says(rt: HostRuntime) -> Result<(), Fail> {
 
 const PATH: &str = "looked_at/log.db";
 
+const JOURNAL: &str = "looked_at/log.db-wal";
+
 /// The bytes of a file and of its journal.
 fn both_files(rt: &HostRuntime) -> Result<Vec<u8>, Fail> {
     let mut bytes = fs::read(rt, PATH)?;
-    let mut journal = fs::read(rt, "looked_at/log.db-wal")?;
+    let mut journal = fs::read(rt, JOURNAL)?;
     bytes.append(&mut journal)?;
     Ok(bytes)
 }
@@ -192,7 +194,7 @@ fn leaves_others(rt: &HostRuntime) -> Result<bool, Fail> {
 fn a_look_makes_no_log(rt: HostRuntime) -> Result<(), Fail> {
     make_folder(&rt, "looked_at")?;
     assert!(rt; matches!(look_at(&rt, PATH), Err(LogFault::Store)));
-    assert!(rt; !fs::exists(&rt, PATH)?);
+    assert!(rt; !fs::exists(&rt, PATH)? && !fs::exists(&rt, JOURNAL)?);
     assert!(rt; leaves_others(&rt)?);
     fs::remove_dir_all(&rt, "looked_at")?;
     Ok(())

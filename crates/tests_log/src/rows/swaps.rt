@@ -2,6 +2,7 @@
 //! doesn't take meanwhile.
 
 ghost use Rattle.std.specs.Prelude.{◌≡◌};
+ghost use Rattle.xa_log.specs.Contract.{FitsRow};
 
 use crate::rows::act::{Act, FIRST, meets_stop, perform};
 use crate::rows::recovery::end_as_the_log_says;
@@ -11,7 +12,7 @@ use std::alloc::Global;
 use std::process::Abort;
 use std::test::Fail;
 use xa_base::{Branch, Gtrid, Refusal, Reply};
-use xa_log::{DecisionLog, FailLog, FailPlan, LogCall, LogFault, MemLog};
+use xa_log::{DecisionLog, FailLog, FailPlan, LogCall, LogFault, Logged, MemLog};
 use xa_rm::MemRm;
 use xa_system::{SwapFault, System};
 
@@ -31,6 +32,13 @@ fn log_that_fails(alloc: Global, kind: LogCall, made: bool) -> FailLog {
     FailLog::new(MemLog::new(alloc), FailPlan::Once { kind, at: 1, made })
 }
 
+/// Decides a transaction with a branch at both resource managers.
+fn commit_both(log: &mut MemLog, gtrid: Gtrid) -> Result<Logged, LogFault>
+    requires { FitsRow gtrid }
+{
+    log.commit(gtrid, &[branch(gtrid, 0), branch(gtrid, 1)])
+}
+
 /// A log that has, beside the row of FIRST, a decision of which the manager knows nothing.
 fn log_with_more(alloc: Global) -> Result<FailLog, LogFault> {
     let gtrid = Gtrid {
@@ -38,8 +46,8 @@ fn log_with_more(alloc: Global) -> Result<FailLog, LogFault> {
         ..FIRST
     };
     let mut log = MemLog::new(alloc);
-    log.commit(FIRST, &[branch(FIRST, 0), branch(FIRST, 1)])?;
-    log.commit(gtrid, &[branch(gtrid, 0), branch(gtrid, 1)])?;
+    commit_both(&mut log, FIRST)?;
+    commit_both(&mut log, gtrid)?;
     let kind = LogCall::Participants;
     Ok(FailLog::new(log, FailPlan::Every { kind }))
 }
@@ -54,8 +62,8 @@ fn fault_of(system: &mut System<MemRm, FailLog>, log: FailLog) -> Option<SwapFau
 
 /// Whether a manager that is up gives no log out, and takes none.
 fn keeps_its_log(alloc: Global, system: &mut System<MemRm, FailLog>) -> bool {
-    let other = log_that_fails(alloc, LogCall::Done, false);
-    taken_log(system).is_none() && matches!(fault_of(system, other), Some(SwapFault::Up))
+    let fault = fault_of(system, log_that_fails(alloc, LogCall::Done, false));
+    matches!(fault, Some(SwapFault::Up)) && taken_log(system).is_none()
 }
 
 /// Whether a manager whose log is out stays down: there is no other log to take out, and no restart is accepted.
@@ -72,12 +80,9 @@ fn takes_no_other_log(
     alloc: Global,
     system: &mut System<MemRm, FailLog>,
 ) -> Result<bool, LogFault> {
-    let other = log_with_more(alloc)?;
-    let blind = log_that_fails(alloc, LogCall::Rows, false);
-    Ok(
-        matches!(fault_of(system, other), Some(SwapFault::OtherRows))
-            && matches!(fault_of(system, blind), Some(SwapFault::Log)),
-    )
+    let more = fault_of(system, log_with_more(alloc)?);
+    let blind = fault_of(system, log_that_fails(alloc, LogCall::Rows, false));
+    Ok(matches!(more, Some(SwapFault::OtherRows)) && matches!(blind, Some(SwapFault::Log)))
 }
 
 /// A manager that is down takes its own log again, and ends as that says.
