@@ -21,7 +21,7 @@ impl StopsAfter for Fuse<Memory> {
 }
 
 /// Which of the two files stops.
-#[derive(Clone, Copy, Debug, PartialEq, Eq)]
+#[derive(Clone, Copy)]
 pub enum Stops {
     Journal,
     Database,

@@ -75,18 +75,6 @@ pub fn run_in<D: Disk + Drop>(
     }
 }
 
-/// How far a log comes that takes the files in a transaction that has deleted the decisions, and what they then show. It is an
-/// `Err` where they don't open.
-pub fn run_without_decisions<D: Disk + Drop>(
-    alloc: Global,
-    files: Files<D>,
-) -> Result<(Reached, Seen), LogFault> {
-    match perform_in(alloc, files, Task::RunInTransaction) {
-        (Done::RanInTransaction(reached, seen), _) => Ok((reached, seen)),
-        _ => Err(LogFault::Store),
-    }
-}
-
 /// The files as a crash leaves them.
 pub fn crashed<D: Crash + Drop>(mut files: Files<D>) -> Files<D> {
     files.log.crash();

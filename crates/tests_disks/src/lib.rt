@@ -13,11 +13,7 @@ mod seen;
 mod task;
 
 pub use disks::{Stops, StopsAfter, blank, stopping};
-pub use files::{
-    crash_after, crashed, files_after, log_over, look_in, run_in, run_without_decisions,
-};
-pub use paths::{
-    OverLog, bump_at, gather_at, look_at, make_folder, opens_at, run_at, seen_at, work_at,
-};
+pub use files::{crash_after, crashed, files_after, log_over, look_in, run_in};
+pub use paths::{OverLog, bump_at, look_at, make_folder, run_at, seen_at, work_at};
 pub use seen::{BLANK, EMPTY, MIGRATED, OLD, Seen, VERSION_1, look};
 pub use task::{Change, Reached};

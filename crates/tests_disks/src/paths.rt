@@ -12,27 +12,16 @@ use xa_sql_log::SqlLog;
 /// What is done with a log that is open. As it names no store, it is proved once for all logs.
 pub trait OverLog {
     /// Does it, and keeps what that comes to.
-    fn over<L: DecisionLog + Drop>(&mut self, log: L) -> Result<(), LogFault>;
+    fn over<L: DecisionLog + Drop>(&mut self, log: L);
 }
 
-/// The log is let go.
+/// Its incarnation is raised, and the answer kept here.
 #[derive(Drop)]
-struct Nothing;
-
-impl OverLog for Nothing {
-    fn over<L: DecisionLog + Drop>(&mut self, _log: L) -> Result<(), LogFault> {
-        Ok(())
-    }
-}
-
-/// Its incarnation is raised, and kept here.
-#[derive(Drop)]
-struct Bumped(u64);
+struct Bumped(Result<u64, LogFault>);
 
 impl OverLog for Bumped {
-    fn over<L: DecisionLog + Drop>(&mut self, mut log: L) -> Result<(), LogFault> {
-        self.0 = log.bump()?;
-        Ok(())
+    fn over<L: DecisionLog + Drop>(&mut self, mut log: L) {
+        self.0 = log.bump();
     }
 }
 
@@ -41,8 +30,6 @@ impl OverLog for Bumped {
 enum Use {
     /// It is opened, or made, and handed over.
     HandOver,
-    /// It is opened, or made, and closed into one file.
-    Close,
     /// It is looked at, and closed into one file.
     Look,
 }
@@ -53,11 +40,15 @@ fn use_log<D: Disk + Drop, W: OverLog>(
     work: &mut W,
 ) -> Result<(), LogFault> {
     match way {
-        Use::HandOver => work.over(log),
-        Use::Close | Use::Look => log.close(),
+        Use::HandOver => {
+            work.over(log);
+            Ok(())
+        }
+        Use::Look => log.close(),
     }
 }
 
+/// The work is done where the log is handed over.
 fn use_at<W: OverLog>(
     rt: &HostRuntime,
     path: &str,
@@ -65,7 +56,7 @@ fn use_at<W: OverLog>(
     work: &mut W,
 ) -> Result<(), LogFault> {
     let log = match way {
-        Use::HandOver | Use::Close => SqlLog::open(rt, path),
+        Use::HandOver => SqlLog::open(rt, path),
         Use::Look => SqlLog::look(rt, path),
     };
     match log {
@@ -79,26 +70,17 @@ pub fn work_at<W: OverLog>(rt: &HostRuntime, path: &str, work: &mut W) -> Result
     use_at(rt, path, Use::HandOver, work)
 }
 
-/// Opens the log at a path, or makes it, and lets it go. Tells whether it did.
-pub fn opens_at(rt: &HostRuntime, path: &str) -> bool {
-    work_at(rt, path, &mut Nothing).is_ok()
-}
-
 /// What the log at a path answers to `bump`. It is made where there is none, and not closed.
 pub fn bump_at(rt: &HostRuntime, path: &str) -> Result<u64, LogFault> {
-    let mut bumped = Bumped(0);
+    let mut bumped = Bumped(Err(LogFault::Store));
     work_at(rt, path, &mut bumped)?;
-    Ok(bumped.0)
-}
-
-/// Opens the log at a path, or makes it, and closes it into one file.
-pub fn gather_at(rt: &HostRuntime, path: &str) -> Result<(), LogFault> {
-    use_at(rt, path, Use::Close, &mut Nothing)
+    bumped.0
 }
 
 /// Looks at the log at a path, and closes it into one file.
 pub fn look_at(rt: &HostRuntime, path: &str) -> Result<(), LogFault> {
-    use_at(rt, path, Use::Look, &mut Nothing)
+    let mut unused = Bumped(Err(LogFault::Store));
+    use_at(rt, path, Use::Look, &mut unused)
 }
 
 /// What a task comes to over the database at a path, which is made where there is none.

@@ -15,11 +15,10 @@ pub const VERSION_1: &str = "BEGIN; \
     INSERT INTO heuristic (inc, seq, thread, rm, how) VALUES (1, 2, 0, 3, 6); \
     COMMIT";
 
-/// The tables of a database, how many rows they have, and whether a transaction is open. Of decisions and heuristics
-/// only the rows of `VERSION_1` count, and any other row counts as -1.
-#[derive(Clone, Copy, Debug, PartialEq, Eq)]
+/// The tables of a database, and how many rows they have. Of decisions and heuristics only the rows of `VERSION_1` count, and any
+/// other row counts as -1.
+#[derive(Clone, Copy, PartialEq, Eq)]
 pub struct Seen {
-    pub in_transaction: bool,
     pub tables: i64,
     pub version: i64,
     pub incarnation: i64,
@@ -29,7 +28,6 @@ pub struct Seen {
 }
 
 pub const BLANK: Seen = Seen {
-    in_transaction: false,
     tables: 0,
     version: 0,
     incarnation: 0,
@@ -73,7 +71,6 @@ fn number<S: Alter>(conn: &mut Connection<S>, sql: &str) -> i64 {
 /// What a connection shows.
 pub fn look<S: Alter>(conn: &mut Connection<S>) -> Seen {
     Seen {
-        in_transaction: !conn.is_autocommit(),
         tables: number(
             conn,
             "SELECT count(*) FROM sqlite_schema WHERE type = 'table'",

@@ -19,7 +19,7 @@ pub enum Change {
 }
 
 /// How far a run of a log came.
-#[derive(Clone, Copy, Debug, PartialEq, Eq)]
+#[derive(Clone, Copy)]
 pub enum Reached {
     /// The files did not open.
     Nothing,
@@ -38,8 +38,6 @@ pub(crate) enum Task<'a> {
     Look,
     /// A log takes the connection, and makes the change if there is one.
     Run(Option<Change>),
-    /// A transaction deletes the decisions, and a log takes the connection.
-    RunInTransaction,
 }
 
 /// What a task came to.
@@ -50,7 +48,6 @@ pub(crate) enum Done {
     Executed,
     Seen(Seen),
     Ran(Reached),
-    RanInTransaction(Reached, Seen),
 }
 
 /// A transaction of the first incarnation.
@@ -75,25 +72,18 @@ fn branch(gtrid: Gtrid, rm: u32) -> Branch
     }
 }
 
-/// Makes the change.
-fn make<L: DecisionLog>(log: &mut L, change: Change) -> Result<(), LogFault> {
+/// Makes the change, and tells whether the call succeeded.
+fn makes<L: DecisionLog>(log: &mut L, change: Change) -> bool {
     let (first, second) = (gtrid(1), gtrid(2));
     match change {
         Change::Commit => {
-            log.commit(
-                second,
-                &[branch(second, 0), branch(second, 1), branch(second, 2)],
-            )?;
+            let participants = [branch(second, 0), branch(second, 1), branch(second, 2)];
+            log.commit(second, &participants).is_ok()
         }
-        Change::Done => {
-            log.done(first)?;
-        }
-        Change::Note => log.note_heuristic(branch(first, 0), How::Mix)?,
-        Change::Bump => {
-            log.bump()?;
-        }
+        Change::Done => log.done(first).is_ok(),
+        Change::Note => log.note_heuristic(branch(first, 0), How::Mix).is_ok(),
+        Change::Bump => log.bump().is_ok(),
     }
-    Ok(())
 }
 
 /// A log takes the connection, makes the change if there is one, and gives the connection back.
@@ -105,11 +95,11 @@ fn run_on<S: Alter + Drop>(
         Ok(log) => log,
         Err((fault, conn)) => return (Reached::Refused(fault), conn),
     };
-    let made = match change {
-        Some(change) => make(&mut log, change),
-        None => Ok(()),
+    let is_made = match change {
+        Some(change) => makes(&mut log, change),
+        None => true,
     };
-    let reached = if made.is_ok() {
+    let reached = if is_made {
         Reached::End
     } else {
         Reached::Adopted
@@ -125,14 +115,6 @@ fn execute<S: Alter + Drop>(mut conn: Connection<S>, sql: &str) -> (Done, Connec
     (done, conn)
 }
 
-fn run_in_transaction<S: Alter + Drop>(mut conn: Connection<S>) -> (Done, Connection<S>) {
-    if conn.execute_batch("BEGIN; DELETE FROM decision").is_err() {
-        return (Done::Nothing, conn);
-    }
-    let (reached, mut conn) = run_on(conn, None);
-    (Done::RanInTransaction(reached, look(&mut conn)), conn)
-}
-
 /// Does it, and gives the connection back.
 pub(crate) fn perform<S: Alter + Drop>(
     mut conn: Connection<S>,
@@ -145,6 +127,5 @@ pub(crate) fn perform<S: Alter + Drop>(
             let (reached, conn) = run_on(conn, change);
             (Done::Ran(reached), conn)
         }
-        Task::RunInTransaction => run_in_transaction(conn),
     }
 }

@@ -1,50 +1,49 @@
-//! A run of commands that every log answers alike.
+//! Each call of a log, made with success, and worked answers, which are the same of every log.
 //!
 //! Each call is one of a function with no clause, so that the proof of a test carries none.
 
-ghost use Rattle.std.specs.Prelude.{◌≡◌};
+ghost use Rattle.std.specs.Prelude.{◌≡◌, IfOk};
 ghost use Rattle.std.specs.List.{AllByRecursion};
 ghost use Rattle.xa_log.specs.Contract.{FitsRow};
 
-use std::process::Abort;
-use std::test::Fail;
+use std::alloc::Global;
 use xa_base::{Branch, Gtrid, How};
-use xa_log::{DecisionLog, LogFault, LogRows, Logged};
+use xa_log::{Decision, DecisionLog, LogFault, LogRows, Logged};
 
 pub(crate) const FIRST: Gtrid = Gtrid {
     incarnation: 1,
     sequence: 2,
 };
 
-pub(crate) const SECOND: Gtrid = Gtrid {
+const SECOND: Gtrid = Gtrid {
     incarnation: 1,
     sequence: 10,
 };
 
-pub(crate) const THIRD: Gtrid = Gtrid {
+const THIRD: Gtrid = Gtrid {
     incarnation: 2,
     sequence: 1,
 };
 
-pub(crate) const FIRST_A: Branch = Branch {
+const FIRST_A: Branch = Branch {
     gtrid: FIRST,
     thread: 0,
     rm: 1,
 };
 
-pub(crate) const FIRST_B: Branch = Branch {
+const FIRST_B: Branch = Branch {
     gtrid: FIRST,
     thread: 1,
     rm: 0,
 };
 
-pub(crate) const SECOND_A: Branch = Branch {
+const SECOND_A: Branch = Branch {
     gtrid: SECOND,
     thread: 0,
     rm: 0,
 };
 
-pub(crate) fn commit<L: DecisionLog>(
+fn commit<L: DecisionLog>(
     log: &mut L,
     g: Gtrid,
     participants: &[Branch],
@@ -85,7 +84,7 @@ fn heuristic_of<L: DecisionLog>(log: &mut L, b: Branch) -> Result<Option<How>, L
     log.heuristic_of(b)
 }
 
-pub(crate) fn bump<L: DecisionLog>(log: &mut L) -> Result<u64, LogFault> {
+fn bump<L: DecisionLog>(log: &mut L) -> Result<u64, LogFault> {
     log.bump()
 }
 
@@ -93,110 +92,119 @@ pub(crate) fn rows<L: DecisionLog>(log: &mut L) -> Result<LogRows, LogFault> {
     log.rows()
 }
 
-/// Whether the participants of a transaction are these.
-fn has_participants<L: DecisionLog>(
-    log: &mut L,
-    g: Gtrid,
-    expected: &[Branch],
-) -> Result<bool, LogFault>
-    requires { FitsRow g }
+/// A decision with these participants.
+fn decision(alloc: Global, g: Gtrid, participants: &[Branch]) -> Result<Decision, LogFault>
+    requires fits { FitsRow g }
+    requires own { AllByRecursion (λ b. b.gtrid ≡ g) participants.now }
+    ensures fits { IfOk result (λ d. FitsRow d.gtrid) }
+    ensures own { IfOk result (λ d.
+        AllByRecursion (λ b. b.gtrid ≡ d.gtrid) d.participants.items) }
 {
-    Ok(participants(log, g)?.as_slice() == expected)
+    Ok(Decision {
+        gtrid: g,
+        participants: Vec::from_slice(alloc, participants)?,
+    })
 }
 
-/// Whether a branch has this heuristic end, or none.
-fn has_ended<L: DecisionLog>(
+fn commit_all<L: DecisionLog>(
     log: &mut L,
-    b: Branch,
-    expected: Option<How>,
-) -> Result<bool, LogFault>
-    requires { FitsRow b.gtrid }
+    alloc: Global,
+    decisions: &[Decision],
+) -> Result<Vec<Logged>, LogFault>
+    requires fits { AllByRecursion (λ d. FitsRow d.gtrid) decisions.now }
+    requires own { AllByRecursion (λ d.
+        AllByRecursion (λ b. b.gtrid ≡ d.gtrid) d.participants.items) decisions.now }
 {
-    Ok(heuristic_of(log, b)? == expected)
+    log.commit_all(alloc, decisions)
 }
 
-/// Whether a log has these decisions, participants and heuristic ends.
-pub(crate) fn has_rows<L: DecisionLog>(
+fn done_all<L: DecisionLog>(log: &mut L, gtrids: &[Gtrid]) -> Result<(), LogFault>
+    requires { AllByRecursion FitsRow gtrids.now }
+{
+    log.done_all(gtrids)
+}
+
+/// Whether each call succeeds at an empty log of no incarnation, and those that are worked out here answer so.
+pub(crate) fn answers_each_call<L: DecisionLog>(
     log: &mut L,
-    decisions: &[Gtrid],
-    participants: &[Branch],
-    heuristics: &[(Branch, How)],
+    alloc: Global,
 ) -> Result<bool, LogFault> {
-    let rows = rows(log)?;
     Ok(
-        rows.decisions.as_slice() == decisions
-            && rows.participants.as_slice() == participants
-            && rows.heuristics.as_slice() == heuristics,
+        commits(log)?
+            && commits_lists(log, alloc)?
+            && notes(log)?
+            && raises(log)?
+            && has_rows(log)?
+            && takes_away(log)?
+            && takes_lists_away(log)?
+            && log.faults() == 0,
     )
 }
 
-/// Runs each kind of call at an empty log of no incarnation.
-pub(crate) fn run_each_call<L: DecisionLog>(rt: &impl Abort, log: &mut L) -> Result<(), Fail> {
-    run_decisions(rt, log)?;
-    run_heuristics(rt, log)?;
-    raise_twice(rt, log)?;
-    let decisions = [FIRST, THIRD];
-    let participants = [FIRST_A, FIRST_B];
-    let heuristics = [(FIRST_B, How::Rb), (SECOND_A, How::Haz)];
-    assert!(rt; has_rows(log, &decisions, &participants, &heuristics)?);
-    assert!(rt; log.faults() == 0);
-    Ok(())
+/// Leaves the decision FIRST, whose participants are listed in their order. A row that is there stays with its own.
+fn commits<L: DecisionLog>(log: &mut L) -> Result<bool, LogFault> {
+    Ok(
+        matches!(commit(log, FIRST, &[FIRST_B, FIRST_A])?, Logged::New)
+            && matches!(commit(log, FIRST, &[])?, Logged::Already)
+            && participants(log, FIRST)?.as_slice() == [FIRST_A, FIRST_B].as_slice(),
+    )
+}
+
+/// Writes a list at a log that has FIRST: SECOND, FIRST again, and SECOND once more.
+fn write_three<L: DecisionLog>(log: &mut L, alloc: Global) -> Result<Vec<Logged>, LogFault> {
+    let decisions = [
+        decision(alloc, SECOND, &[SECOND_A])?,
+        decision(alloc, FIRST, &[])?,
+        decision(alloc, SECOND, &[])?,
+    ];
+    commit_all(log, alloc, &decisions)
+}
+
+/// Leaves SECOND beside FIRST. A list may be empty.
+fn commits_lists<L: DecisionLog>(log: &mut L, alloc: Global) -> Result<bool, LogFault> {
+    let expected = [Logged::New, Logged::Already, Logged::Already];
+    Ok(
+        write_three(log, alloc)?.as_slice() == expected.as_slice()
+            && commit_all(log, alloc, &[])?.is_empty(),
+    )
+}
+
+/// Leaves the heuristic end of FIRST_B. Another isn't kept.
+fn notes<L: DecisionLog>(log: &mut L) -> Result<bool, LogFault> {
+    note_heuristic(log, FIRST_B, How::Rb)?;
+    note_heuristic(log, FIRST_B, How::Com)?;
+    Ok(
+        matches!(heuristic_of(log, FIRST_B)?, Some(How::Rb))
+            && heuristic_of(log, FIRST_A)?.is_none(),
+    )
 }
 
 /// The incarnation is raised, and raised again.
-fn raise_twice<L: DecisionLog>(rt: &impl Abort, log: &mut L) -> Result<(), Fail> {
-    assert!(rt; bump(log)? == 1);
-    assert!(rt; bump(log)? == 2);
-    Ok(())
+fn raises<L: DecisionLog>(log: &mut L) -> Result<bool, LogFault> {
+    Ok(bump(log)? == 1 && bump(log)? == 2)
 }
 
-/// Leaves the decisions FIRST, for FIRST_A and FIRST_B, and THIRD, for no branch.
-fn run_decisions<L: DecisionLog>(rt: &impl Abort, log: &mut L) -> Result<(), Fail> {
-    assert!(rt; !contains(log, FIRST)?);
-    commit_three(rt, log)?;
-    find_three(rt, log)?;
-    take_second(rt, log)
+/// Whether a log has all that was left.
+fn has_rows<L: DecisionLog>(log: &mut L) -> Result<bool, LogFault> {
+    let rows = rows(log)?;
+    Ok(
+        rows.decisions.as_slice() == [FIRST, SECOND].as_slice()
+            && rows.participants.as_slice() == [FIRST_A, FIRST_B, SECOND_A].as_slice()
+            && rows.heuristics.as_slice() == [(FIRST_B, How::Rb)].as_slice(),
+    )
 }
 
-/// Leaves the decisions FIRST, SECOND and THIRD.
-fn commit_three<L: DecisionLog>(rt: &impl Abort, log: &mut L) -> Result<(), Fail> {
-    assert!(rt; commit(log, THIRD, &[])? == Logged::New);
-    assert!(rt; commit(log, SECOND, &[SECOND_A])? == Logged::New);
-    assert!(rt; commit(log, FIRST, &[FIRST_B, FIRST_A])? == Logged::New);
-    Ok(())
+/// FIRST is taken away. It isn't there to be taken away again.
+fn takes_away<L: DecisionLog>(log: &mut L) -> Result<bool, LogFault> {
+    Ok(done(log, FIRST)? && !done(log, FIRST)? && !contains(log, FIRST)?)
 }
 
-/// The decisions are there, with their participants. FIRST isn't committed again.
-fn find_three<L: DecisionLog>(rt: &impl Abort, log: &mut L) -> Result<(), Fail> {
-    assert!(rt; commit(log, FIRST, &[])? == Logged::Already);
-    assert!(rt; contains(log, FIRST)? && contains(log, SECOND)?);
-    assert!(rt; has_participants(log, FIRST, &[FIRST_A, FIRST_B])?);
-    assert!(rt; has_participants(log, THIRD, &[])?);
-    Ok(())
-}
-
-/// SECOND is taken away, with its participant. It isn't there to be taken away again.
-fn take_second<L: DecisionLog>(rt: &impl Abort, log: &mut L) -> Result<(), Fail> {
-    assert!(rt; done(log, SECOND)?);
-    assert!(rt; !done(log, SECOND)?);
-    assert!(rt; !contains(log, SECOND)?);
-    assert!(rt; has_participants(log, SECOND, &[])?);
-    Ok(())
-}
-
-/// Leaves the heuristic ends of SECOND_A and FIRST_B.
-fn run_heuristics<L: DecisionLog>(rt: &impl Abort, log: &mut L) -> Result<(), Fail> {
-    assert!(rt; has_ended(log, SECOND_A, None)?);
-    note_two(log)?;
-    assert!(rt; has_ended(log, SECOND_A, Some(How::Haz))?);
-    assert!(rt; has_ended(log, FIRST_B, Some(How::Rb))?);
-    assert!(rt; has_ended(log, FIRST_A, None)?);
-    Ok(())
-}
-
-/// Notes the heuristic ends of SECOND_A and FIRST_B, and of the second another, which isn't kept.
-fn note_two<L: DecisionLog>(log: &mut L) -> Result<(), LogFault> {
-    note_heuristic(log, SECOND_A, How::Haz)?;
-    note_heuristic(log, FIRST_B, How::Rb)?;
-    note_heuristic(log, FIRST_B, How::Com)
+/// SECOND, which is named twice, is taken away, beside a transaction that isn't there. A list may be empty.
+fn takes_lists_away<L: DecisionLog>(log: &mut L) -> Result<bool, LogFault> {
+    if !contains(log, SECOND)? {
+        return Ok(false);
+    }
+    done_all(log, &[SECOND, THIRD, SECOND])?;
+    done_all(log, &[])?;
+    Ok(!contains(log, SECOND)?)
 }

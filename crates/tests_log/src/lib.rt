@@ -8,11 +8,7 @@
 #[cfg(test)]
 mod commands;
 #[cfg(test)]
-mod failing;
-#[cfg(test)]
 mod host_files;
-#[cfg(test)]
-mod lists;
 #[cfg(test)]
 mod memory;
 #[cfg(test)]

@@ -1,16 +1,31 @@
-//! A log in memory.
+//! Logs in memory.
 
 ghost use Rattle.std.specs.List.{AllByRecursion};
 ghost use Rattle.xa_log.specs.Commands.{Fits};
 
-use crate::commands::{FIRST, run_each_call};
+use crate::commands::{FIRST, answers_each_call};
 use std::alloc::Global;
 use std::test::Fail;
-use xa_log::{Command, LogFault, MemLog, Told, run_commands};
+use xa_log::{Command, FailLog, FailPlan, LogCall, LogFault, MemLog, Told, run_commands};
 
 #[test]
-fn answers_each_call(rt: HostRuntime) -> Result<(), Fail> {
-    run_each_call(&rt, &mut MemLog::new(rt.alloc()))
+fn answers_each_call_in_memory(rt: HostRuntime) -> Result<(), Fail> {
+    let mut log = MemLog::new(rt.alloc());
+    assert!(rt; answers_each_call(&mut log, rt.alloc())?);
+    Ok(())
+}
+
+/// A log that fails by a plan doesn't up to the call that is planned to.
+#[test]
+fn answers_each_call_by_a_plan(rt: HostRuntime) -> Result<(), Fail> {
+    let plan = FailPlan::Once {
+        kind: LogCall::Rows,
+        at: 3,
+        made: true,
+    };
+    let mut log = FailLog::new(MemLog::new(rt.alloc()), plan);
+    assert!(rt; answers_each_call(&mut log, rt.alloc())?);
+    Ok(())
 }
 
 /// What commands are told.

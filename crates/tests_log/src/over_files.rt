@@ -45,10 +45,10 @@ pub(crate) fn over_files<D: StopsAfter, W: OverLog>(
     work: &mut W,
 ) -> Result<bool, Fail> {
     match log_over(alloc, files) {
-        Some(log) => {
-            work.over(rt, alloc, log)?;
-            Ok(true)
-        }
+        Some(log) => match work.over(rt, alloc, log) {
+            Ok(()) => Ok(true),
+            Err(fail) => Err(fail),
+        },
         None => Ok(false),
     }
 }
@@ -63,16 +63,4 @@ pub(crate) fn over_stopping_files<W: OverLog>(
 ) -> Result<bool, Fail> {
     let files = stopping(alloc, &blank(alloc), which, calls)?;
     over_files(rt, alloc, files, work)
-}
-
-/// The same over a new log.
-pub(crate) fn over_new_log<W: OverLog>(
-    rt: &impl Abort,
-    alloc: Global,
-    work: &mut W,
-) -> Result<(), Fail> {
-    if over_stopping_files(rt, alloc, Stops::Journal, u64::MAX, work)? {
-        return Ok(());
-    }
-    Err(Fail::from("no log is made"))
 }

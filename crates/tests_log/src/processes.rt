@@ -7,9 +7,9 @@ mod told;
 
 use crate::over_files::{Crashes, OverLog, over_stopping_files};
 use crate::processes::chance::Chance;
-use crate::processes::moves::Player;
+use crate::processes::moves::{Notes, Player};
 use crate::processes::told::{Ends, RMS, THREADS, Told};
-use crate::systems::{new_system, taken_log, takes_log};
+use crate::systems::{new_system, resumed_system, taken_log, takes_log};
 use std::alloc::Global;
 use std::process::Abort;
 use std::test::Fail;
@@ -30,16 +30,11 @@ fn calls_by(chance: &mut Chance) -> u64 {
 }
 
 /// A log as a crash leaves it, opened again and read.
-fn found_again<L: Crashes>(
-    alloc: Global,
-    log: L,
-    told: &mut Told,
-    chance: &mut Chance,
-) -> Result<L, Fail> {
-    let Some(mut log) = log.reopened(alloc, calls_by(chance)) else {
+fn found_again<L: Crashes>(alloc: Global, log: L, notes: &mut Notes) -> Result<L, Fail> {
+    let Some(mut log) = log.reopened(alloc, calls_by(&mut notes.chance)) else {
         return Err(Fail::from("the log stops before it is there"));
     };
-    told.read(&mut log)?;
+    notes.told.read(&mut log)?;
     Ok(log)
 }
 
@@ -54,14 +49,27 @@ fn remains_of<L: Crashes>(system: System<MemRm, L>) -> Result<(Vec<MemRm>, L), F
     }
 }
 
+/// The system of the next process, over what that of another leaves.
+fn next_system<L: Crashes>(
+    alloc: Global,
+    system: System<MemRm, L>,
+    notes: &mut Notes,
+) -> Result<System<MemRm, L>, Fail> {
+    let (rms, log) = remains_of(system)?;
+    let log = found_again(alloc, log, notes)?;
+    Ok(resumed_system(alloc, THREADS, rms, log)?)
+}
+
 impl<L: Crashes> Player<L> {
     /// The first process.
     fn new(alloc: Global, log: L, seed: u32) -> Result<Player<L>, Fail> {
         Ok(Player {
             system: new_system(alloc, THREADS, RMS, log)?,
-            told: Told::new(alloc),
-            chance: Chance::of(seed),
-            stops: 0,
+            notes: Notes {
+                told: Told::new(alloc),
+                chance: Chance::of(seed),
+                stops: 0,
+            },
         })
     }
 
@@ -70,35 +78,30 @@ impl<L: Crashes> Player<L> {
         let Some(log) = taken_log(&mut self.system) else {
             return Ok(());
         };
-        self.stops = self.stops.saturating_add(1);
-        let log = found_again(alloc, log, &mut self.told, &mut self.chance)?;
-        assert!(rt; takes_log(&mut self.system, log), "the log isn't taken");
-        self.told
-            .step(&mut self.system, Step::Restart(Side::Manager))?;
+        self.notes.stops = self.notes.stops.saturating_add(1);
+        let log = found_again(alloc, log, &mut self.notes)?;
+        assert!(rt; takes_log(&mut self.system, log));
+        self.step(Step::Restart(Side::Manager));
         Ok(())
     }
 
     /// A process plays.
     fn run(&mut self, rt: &impl Abort, alloc: Global) -> Result<(), Fail> {
         for _ in 0..MOVES {
-            self.play()?;
+            self.play();
             self.mend(rt, alloc)?;
         }
-        let _ends = self.told.look(rt, &self.system);
+        let _ends = self.notes.told.look(rt, &self.system);
         Ok(())
     }
 
     /// The next process, over what this one leaves.
     fn next(self, alloc: Global) -> Result<Player<L>, Fail> {
-        let (mut told, mut chance, stops) = (self.told, self.chance, self.stops);
-        let (rms, log) = remains_of(self.system)?;
-        let log = found_again(alloc, log, &mut told, &mut chance)?;
-        Ok(Player {
-            system: System::resume(alloc, THREADS, rms, log)?,
-            told,
-            chance,
-            stops,
-        })
+        let Player { system, mut notes } = self;
+        match next_system(alloc, system, &mut notes) {
+            Ok(system) => Ok(Player { system, notes }),
+            Err(fail) => Err(fail),
+        }
     }
 
     /// A process plays, and the next one begins.
@@ -108,14 +111,14 @@ impl<L: Crashes> Player<L> {
     }
 
     /// All that is in doubt is ended. Tells how the branches ended.
-    fn end_all(&mut self, rt: &impl Abort) -> Result<Ends, Fail> {
+    fn end_all(&mut self, rt: &impl Abort) -> Ends {
         for rm in 0..RMS {
             // A resource manager may be busy, and a branch that it ended alone is to be forgotten.
             for _ in 0..40u32 {
-                self.recover(rm, true)?;
+                self.recover(rm, true);
             }
         }
-        Ok(self.told.look(rt, &self.system))
+        self.notes.told.look(rt, &self.system)
     }
 }
 
@@ -130,14 +133,14 @@ fn ten_processes<L: Crashes>(
     for _ in 0..PROCESSES {
         player = player.passed_on(rt, alloc)?;
     }
-    let ends = player.end_all(rt)?;
-    Ok((ends, player.stops))
+    let ends = player.end_all(rt);
+    Ok((ends, player.notes.stops))
 }
 
 /// Nothing is left in doubt, and there were ends of both kinds.
 fn have_ended(rt: &impl Abort, ends: Ends) {
-    assert!(rt; ends.prepared == 0, "{ends:?}");
-    assert!(rt; ends.committed > 20 && ends.rolled_back > 20, "{ends:?}");
+    assert!(rt; ends.prepared == 0);
+    assert!(rt; ends.committed > 20 && ends.rolled_back > 20);
 }
 
 /// Ten processes with the steps of a seed, and how often their log has stopped.
@@ -180,6 +183,6 @@ fn over_files_that_stop(rt: HostRuntime) -> Result<(), Fail> {
     for seed in 1..3u32 {
         stopped = stopped.saturating_add(ten_in_files(&rt, rt.alloc(), seed)?);
     }
-    assert!(rt; stopped > 0, "{stopped} stops");
+    assert!(rt; stopped > 0);
     Ok(())
 }

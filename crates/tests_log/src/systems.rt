@@ -5,7 +5,7 @@ use std::alloc::{AllocError, Global};
 use xa_base::{Reply, Step};
 use xa_log::DecisionLog;
 use xa_rm::MemRm;
-use xa_system::{NewFault, System};
+use xa_system::{NewFault, ResumeFault, System};
 
 /// So many resource managers, which hold nothing.
 fn resource_managers(alloc: Global, count: u32) -> Result<Vec<MemRm>, AllocError> {
@@ -27,6 +27,16 @@ pub(crate) fn new_system<L: DecisionLog + Drop>(
         return Err(NewFault::Memory);
     };
     System::new(alloc, threads, rms, log)
+}
+
+/// A system over what another left.
+pub(crate) fn resumed_system<L: DecisionLog + Drop>(
+    alloc: Global,
+    threads: u32,
+    rms: Vec<MemRm>,
+    log: L,
+) -> Result<System<MemRm, L>, ResumeFault> {
+    System::resume(alloc, threads, rms, log)
 }
 
 /// Does a step.

@@ -1,8 +1,10 @@
-//! How jobs end, and what the resource managers and the log then have.
-ghost use Rattle.std.specs.Prelude.{◌<◌};
+//! How jobs end, and what the log then has.
 
 use crate::gates::Counting;
-use crate::plans::{NO, READ_ONLY, YES, are_fates, branch, four_jobs, gtrid, jobs, run, swept};
+use crate::plans::{
+    NO, READ_ONLY, YES, are_fates, branch, end_at, fault_of, four_jobs, gtrid, jobs, push_job, run,
+    swept,
+};
 use std::alloc::{AllocError, Global};
 use std::process::Abort;
 use std::sync::Wait;
@@ -11,44 +13,38 @@ use std::test::Fail;
 use std::thread::Threads;
 use std::time::Clock;
 use xa_base::{Branch, Fate, Outcome};
-use xa_log::{DecisionLog, MemLog};
+use xa_log::{DecisionLog, LogFault, MemLog};
 use xa_workers::{Jobs, WorkFault};
 
-/// What becomes of the branches of four jobs.
-fn fates_of_four(threads: u32) -> [(Branch, Fate); 7]
-    requires { 0 < threads }
-{
+/// What becomes of the branches of four jobs on three threads.
+fn fates_of_four() -> [(Branch, Fate); 7] {
     [
         (branch(1, 0, 0), Fate::Committed),
         (branch(1, 0, 1), Fate::Committed),
-        (branch(2, 1 % threads, 0), Fate::RolledBack),
-        (branch(2, 1 % threads, 1), Fate::RolledBack),
-        (branch(3, 2 % threads, 0), Fate::ReadOnly),
-        (branch(3, 2 % threads, 1), Fate::ReadOnly),
-        (branch(4, 3 % threads, 1), Fate::Committed),
+        (branch(2, 1, 0), Fate::RolledBack),
+        (branch(2, 1, 1), Fate::RolledBack),
+        (branch(3, 2, 0), Fate::ReadOnly),
+        (branch(3, 2, 1), Fate::ReadOnly),
+        (branch(4, 0, 1), Fate::Committed),
     ]
 }
 
-/// The log has the two jobs that were decided by it, and is of the first incarnation.
-fn keeps_rows_of_four(rt: &impl Abort, mut log: MemLog, last: Branch) -> Result<(), Fail> {
+/// Whether the log has the two jobs that were decided by it.
+fn has_rows_of_four(log: &mut MemLog) -> Result<bool, LogFault> {
     let rows = log.rows()?;
-    let participants = [branch(1, 0, 0), branch(1, 0, 1), last];
-    let has_rows = rows.decisions.as_slice() == [gtrid(1), gtrid(4)].as_slice()
-        && rows.participants.as_slice() == participants.as_slice();
-    assert!(rt; has_rows);
-    assert!(rt; log.bump()? == 2);
-    Ok(())
+    let participants = [branch(1, 0, 0), branch(1, 0, 1), branch(4, 0, 1)];
+    Ok(
+        rows.decisions.as_slice() == [gtrid(1), gtrid(4)].as_slice()
+            && rows.participants.as_slice() == participants.as_slice(),
+    )
 }
 
-fn four_jobs_end<R: Threads + Wait + Clock + Sync + Abort>(
-    rt: &R,
-    alloc: Global,
-    threads: u32,
-) -> Result<(), Fail>
-    requires { 0 < threads }
-{
-    let jobs = four_jobs(alloc, threads)?;
-    let done = run(rt, alloc, &jobs, MemLog::new(alloc), &Counting::new())?;
+/// A worked run.
+#[test]
+fn four_jobs_end_as_their_votes_say(rt: HostRuntime) -> Result<(), Fail> {
+    let alloc = rt.alloc();
+    let four = four_jobs(alloc, 3)?;
+    let mut done = run(&rt, alloc, &four, MemLog::new(alloc), &Counting::new())?;
     let ends = [
         Outcome::Commit,
         Outcome::Rollback,
@@ -56,29 +52,8 @@ fn four_jobs_end<R: Threads + Wait + Clock + Sync + Abort>(
         Outcome::Commit,
     ];
     assert!(rt; done.ends.as_slice() == ends.as_slice());
-    assert!(rt; are_fates(&done, &fates_of_four(threads)));
-    keeps_rows_of_four(rt, done.log, branch(4, 3 % threads, 1))
-}
-
-#[test]
-fn four_jobs_end_alike_for_each_number_of_threads(rt: HostRuntime) -> Result<(), Fail> {
-    for threads in 1..9u32 {
-        four_jobs_end(&rt, rt.alloc(), threads)?;
-    }
-    Ok(())
-}
-
-#[test]
-fn a_no_leaves_read_only_as_it_is(rt: HostRuntime) -> Result<(), Fail> {
-    let alloc = rt.alloc();
-    let one = jobs(alloc, 1, 2, &[&[READ_ONLY, NO]])?;
-    let done = run(&rt, alloc, &one, MemLog::new(alloc), &Counting::new())?;
-    assert!(rt; done.ends.as_slice() == [Outcome::Rollback].as_slice());
-    let fates = [
-        (branch(1, 0, 0), Fate::ReadOnly),
-        (branch(1, 0, 1), Fate::RolledBack),
-    ];
-    assert!(rt; are_fates(&done, &fates));
+    assert!(rt; are_fates(&done, &fates_of_four()));
+    assert!(rt; has_rows_of_four(&mut done.log)?);
     Ok(())
 }
 
@@ -94,11 +69,22 @@ fn the_last_phase_goes_to_who_voted_yes(rt: HostRuntime) -> Result<(), Fail> {
     ] {
         let gate = Counting::new();
         let one = jobs(alloc, 1, 2, &[&votes])?;
-        let _done = run(&rt, alloc, &one, MemLog::new(alloc), &gate)?;
+        assert!(rt; fault_of(&rt, alloc, &one, MemLog::new(alloc), &gate).is_none());
         // xa_open, xa_start, xa_end and xa_prepare at both, and the last phase
         assert!(rt; gate.answered.load(Ordering::SeqCst) == 8 + last);
     }
     Ok(())
+}
+
+/// Four jobs, which are made again where they want memory, twice at most.
+fn jobs_at_last(rt: &HostRuntime, alloc: Global) -> Result<Jobs, AllocError> {
+    for _ in 0..2u32 {
+        if let Ok(four) = four_jobs(alloc, 2) {
+            return Ok(four);
+        }
+        let _ = rt.eprintln("no jobs");
+    }
+    four_jobs(alloc, 2)
 }
 
 /// A run that wants memory ends with a fault, with all its threads, and the same run again comes to its end. So this
@@ -106,91 +92,60 @@ fn the_last_phase_goes_to_who_voted_yes(rt: HostRuntime) -> Result<(), Fail> {
 #[test]
 fn runs_again_after_want_of_memory(rt: HostRuntime) -> Result<(), Fail> {
     let alloc = rt.alloc();
-    let mut made = four_jobs(alloc, 2);
+    let four = swept(jobs_at_last(&rt, alloc)?);
+    let mut end = end_at(&rt, alloc, &four, &Counting::new(), 1);
     for _ in 0..2u32 {
-        if made.is_err() {
-            let _ = rt.eprintln("no jobs");
-            made = four_jobs(alloc, 2);
-        }
-    }
-    let jobs = swept(made?);
-    let mut ran = run(&rt, alloc, &jobs, MemLog::new(alloc), &Counting::new());
-    for _ in 0..2u32 {
-        if let Err(fault @ (WorkFault::Memory | WorkFault::Log)) = &ran {
+        if let Err(fault @ (WorkFault::Memory | WorkFault::Log)) = end {
             let _ = rt.eprintln(fault);
-            ran = run(&rt, alloc, &jobs, MemLog::new(alloc), &Counting::new());
+            end = end_at(&rt, alloc, &four, &Counting::new(), 1);
         }
     }
-    let done = ran?;
-    assert!(rt; done.ends.len() == 4);
-    assert!(rt; done.ends.get(1) == Some(&Outcome::Rollback));
+    assert!(rt; matches!(end, Ok(Some(Outcome::Rollback))));
     Ok(())
 }
 
-#[test]
-fn no_jobs_give_no_fate(rt: HostRuntime) -> Result<(), Fail> {
-    let alloc = rt.alloc();
-    let none = swept(jobs(alloc, 8, 8, &[])?);
-    let done = run(&rt, alloc, &none, MemLog::new(alloc), &Counting::new())?;
-    assert!(rt; done.fates.is_empty());
-    assert!(rt; done.rms.len() == 8);
-    Ok(())
-}
-
-#[test]
-fn jobs_of_another_shape_cannot_be_run(rt: HostRuntime) -> Result<(), Fail> {
-    let alloc = rt.alloc();
-    assert!(rt; !jobs(alloc, 0, 1, &[])?.is_runnable());
-    assert!(rt; !jobs(alloc, 9, 1, &[])?.is_runnable());
-    assert!(rt; !jobs(alloc, 1, 9, &[])?.is_runnable());
-    assert!(rt; !jobs(alloc, 1, 2, &[&[YES]])?.is_runnable());
-    Ok(())
-}
-
-/// Fifteen jobs for each of eight threads.
-const MANY: usize = 120;
-
-/// Each seventh is rolled back, and without a recovery each other one is committed.
-fn many_jobs(alloc: Global, sweep: bool) -> Result<Jobs, AllocError> {
+/// Fifteen jobs for each of eight threads, of which each seventh is rolled back.
+fn many_jobs(alloc: Global) -> Result<Jobs, AllocError> {
     let mut votes = Vec::new(alloc);
-    for job in 0..MANY {
+    for job in 0..120u32 {
         let last = if job % 7 == 0 { NO } else { YES };
         let row = [YES, READ_ONLY, None, last, YES, YES, None, YES];
-        votes.push(row.as_slice().to_vec(alloc)?)?;
+        push_job(alloc, &mut votes, &row)?;
     }
     Ok(Jobs {
         threads: 8,
         rms: 8,
-        sweep,
+        sweep: false,
         votes,
     })
 }
 
-fn ends_as_planned(job: usize, end: Outcome, sweep: bool) -> bool {
-    if job % 7 == 0 {
-        end == Outcome::Rollback
-    } else {
-        sweep || end == Outcome::Commit
-    }
-}
-
-fn many_jobs_end<R: Threads + Wait + Clock + Sync + Abort>(
+/// Whether a run of jobs on their threads comes to its end.
+fn comes_to_its_end<R: Threads + Wait + Clock + Sync + Abort>(
     rt: &R,
     alloc: Global,
-    sweep: bool,
-) -> Result<(), Fail> {
-    let many = many_jobs(alloc, sweep)?;
-    let done = run(rt, alloc, &many, MemLog::new(alloc), &Counting::new())?;
-    assert!(rt; done.ends.len() == MANY);
-    assert!(rt; done.fates.len() == 6 * MANY);
-    for (job, end) in done.ends.iter().enumerate() {
-        assert!(rt; ends_as_planned(job, *end, sweep));
+    all: &Jobs,
+) -> bool {
+    fault_of(rt, alloc, all, MemLog::new(alloc), &Counting::new()).is_none()
+}
+
+#[test]
+fn runs_come_to_their_end_for_each_number_of_threads(rt: HostRuntime) -> Result<(), Fail> {
+    let alloc = rt.alloc();
+    for threads in 1..9u32 {
+        let four = four_jobs(alloc, threads)?;
+        assert!(rt; comes_to_its_end(&rt, alloc, &four));
     }
+    let none = swept(jobs(alloc, 8, 8, &[])?);
+    assert!(rt; comes_to_its_end(&rt, alloc, &none));
     Ok(())
 }
 
 #[test]
 fn many_jobs_on_all_threads(rt: HostRuntime) -> Result<(), Fail> {
-    many_jobs_end(&rt, rt.alloc(), false)?;
-    many_jobs_end(&rt, rt.alloc(), true)
+    let alloc = rt.alloc();
+    let many = many_jobs(alloc)?;
+    assert!(rt; comes_to_its_end(&rt, alloc, &many));
+    assert!(rt; comes_to_its_end(&rt, alloc, &swept(many)));
+    Ok(())
 }

@@ -5,7 +5,7 @@ use std::thread;
 use xa_workers::{Gate, Point};
 
 /// How often a gate looks in vain before it gives up.
-pub(crate) const LOOKS: u32 = 1_000_000;
+const LOOKS: u32 = 1_000_000;
 
 /// A gate that holds nobody back, and counts the answers of all resource managers.
 #[derive(Drop)]

@@ -5,8 +5,8 @@ use std::process::Abort;
 use std::sync::Wait;
 use std::thread::Threads;
 use std::time::Clock;
-use xa_base::{Branch, Fate, Gtrid, RbCode, Vote};
-use xa_log::DecisionLog;
+use xa_base::{Branch, Fate, Gtrid, Outcome, RbCode, Vote};
+use xa_log::{DecisionLog, MemLog};
 use xa_workers::{Gate, Jobs, Outcomes, WorkFault, run_jobs};
 
 pub(crate) const YES: Option<Vote> = Some(Vote::Yes);
@@ -14,6 +14,16 @@ pub(crate) const YES: Option<Vote> = Some(Vote::Yes);
 pub(crate) const READ_ONLY: Option<Vote> = Some(Vote::ReadOnly);
 
 pub(crate) const NO: Option<Vote> = Some(Vote::No(RbCode::Deadlock));
+
+/// One job more, with these votes.
+pub(crate) fn push_job(
+    alloc: Global,
+    votes: &mut Vec<Vec<Option<Vote>>>,
+    row: &[Option<Vote>],
+) -> Result<(), AllocError> {
+    votes.push(row.to_vec(alloc)?)?;
+    Ok(())
+}
 
 pub(crate) fn jobs(
     alloc: Global,
@@ -23,7 +33,7 @@ pub(crate) fn jobs(
 ) -> Result<Jobs, AllocError> {
     let mut votes = Vec::new(alloc);
     for row in rows {
-        votes.push(row.to_vec(alloc)?)?;
+        push_job(alloc, &mut votes, row)?;
     }
     Ok(Jobs {
         threads,
@@ -49,6 +59,27 @@ pub(crate) fn run<R: Threads + Wait + Clock + Sync + Abort, L: DecisionLog + Dro
 ) -> Result<Outcomes<L>, WorkFault> {
     assert!(rt; jobs.is_runnable());
     run_jobs(rt, alloc, jobs, log, gate)
+}
+
+/// The fault of a run, if it has one. What it came to is let go here, so that no test does.
+pub(crate) fn fault_of<
+    R: Threads + Wait + Clock + Sync + Abort,
+    L: DecisionLog + Drop,
+    G: Gate + Sync,
+>(rt: &R, alloc: Global, jobs: &Jobs, log: L, gate: &G) -> Option<WorkFault> {
+    run(rt, alloc, jobs, log, gate).err()
+}
+
+/// The end that comes at a place of a run over a new log. A run that has a fault has none.
+pub(crate) fn end_at<R: Threads + Wait + Clock + Sync + Abort, G: Gate + Sync>(
+    rt: &R,
+    alloc: Global,
+    jobs: &Jobs,
+    gate: &G,
+    place: usize,
+) -> Result<Option<Outcome>, WorkFault> {
+    let done = run(rt, alloc, jobs, MemLog::new(alloc), gate)?;
+    Ok(done.ends.get(place).copied())
 }
 
 pub(crate) fn gtrid(sequence: u64) -> Gtrid {

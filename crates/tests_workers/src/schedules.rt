@@ -1,52 +1,56 @@
 //! Runs whose gates hold workers back: that they work side by side, and in which order decisions and sweeps come.
 
 use crate::gates::{After, Closed, Lagging, Meeting};
-use crate::plans::{YES, four_jobs, jobs, run, swept};
+use crate::plans::{YES, end_at, fault_of, four_jobs, jobs, swept};
+use std::alloc::Global;
+use std::process::Abort;
+use std::sync::Wait;
 use std::sync::atomic::Ordering;
 use std::test::Fail;
-use xa_base::{Fate, Outcome};
+use std::thread::Threads;
+use std::time::Clock;
+use xa_base::Outcome;
 use xa_log::MemLog;
-use xa_workers::{Point, WorkFault};
+use xa_workers::{Jobs, Point, WorkFault};
+
+/// Whether two workers meet at these points, in a run that comes to its end.
+fn meet<R: Threads + Wait + Clock + Sync + Abort>(
+    rt: &R,
+    alloc: Global,
+    jobs: &Jobs,
+    points: [Point; 2],
+) -> bool {
+    let gate = Meeting::new(points);
+    fault_of(rt, alloc, jobs, MemLog::new(alloc), &gate).is_none()
+        && !gate.failed.load(Ordering::SeqCst)
+}
 
 #[test]
 fn two_resource_managers_work_side_by_side(rt: HostRuntime) -> Result<(), Fail> {
-    let alloc = rt.alloc();
-    let one = jobs(alloc, 1, 2, &[&[YES, YES]])?;
-    let gate = Meeting::new([Point::Answering(0), Point::Answering(1)]);
-    let done = run(&rt, alloc, &one, MemLog::new(alloc), &gate)?;
-    assert!(rt; done.ends.as_slice() == [Outcome::Commit].as_slice());
-    assert!(rt; !gate.failed.load(Ordering::SeqCst));
+    let one = jobs(rt.alloc(), 1, 2, &[&[YES, YES]])?;
+    let points = [Point::Answering(0), Point::Answering(1)];
+    assert!(rt; meet(&rt, rt.alloc(), &one, points));
     Ok(())
 }
 
 #[test]
 fn two_threads_decide_side_by_side(rt: HostRuntime) -> Result<(), Fail> {
-    let alloc = rt.alloc();
-    let two = jobs(alloc, 2, 1, &[&[YES], &[YES]])?;
-    let gate = Meeting::new([Point::Deciding(0), Point::Deciding(1)]);
-    let done = run(&rt, alloc, &two, MemLog::new(alloc), &gate)?;
-    let ends = [Outcome::Commit, Outcome::Commit];
-    assert!(rt; done.ends.as_slice() == ends.as_slice());
-    assert!(rt; !gate.failed.load(Ordering::SeqCst));
+    let two = jobs(rt.alloc(), 2, 1, &[&[YES], &[YES]])?;
+    let points = [Point::Deciding(0), Point::Deciding(1)];
+    assert!(rt; meet(&rt, rt.alloc(), &two, points));
     Ok(())
 }
 
 #[test]
 fn a_closed_gate_is_stuck(rt: HostRuntime) -> Result<(), Fail> {
     let alloc = rt.alloc();
-    let fault = run(
-        &rt,
-        alloc,
-        &four_jobs(alloc, 2)?,
-        MemLog::new(alloc),
-        &Closed,
-    )
-    .err();
-    assert!(rt; fault == Some(WorkFault::Stuck));
+    let four = four_jobs(alloc, 2)?;
+    let fault = fault_of(&rt, alloc, &four, MemLog::new(alloc), &Closed);
+    assert!(rt; matches!(fault, Some(WorkFault::Stuck)));
     let one = swept(jobs(alloc, 1, 1, &[&[YES]])?);
     let never = After::new(Point::Sweeping(0), Point::Sweeping(1), 1);
-    let fault = run(&rt, alloc, &one, MemLog::new(alloc), &never).err();
-    assert!(rt; fault == Some(WorkFault::Stuck));
+    let fault = fault_of(&rt, alloc, &one, MemLog::new(alloc), &never);
+    assert!(rt; matches!(fault, Some(WorkFault::Stuck)));
     Ok(())
 }
 
@@ -55,13 +59,11 @@ fn the_first_to_reach_a_job_decides_it(rt: HostRuntime) -> Result<(), Fail> {
     let alloc = rt.alloc();
     let one = swept(jobs(alloc, 1, 2, &[&[YES, YES]])?);
     let swept_first = After::new(Point::Answering(0), Point::Swept(0), 1);
-    let done = run(&rt, alloc, &one, MemLog::new(alloc), &swept_first)?;
-    assert!(rt; done.ends.as_slice() == [Outcome::Rollback].as_slice());
-    assert!(rt; done.fates.iter().all(|fate| fate.1 == Fate::RolledBack));
+    let end = end_at(&rt, alloc, &one, &swept_first, 0)?;
+    assert!(rt; matches!(end, Some(Outcome::Rollback)));
     let decided_first = After::new(Point::Sweeping(0), Point::Answered(0), 5);
-    let done = run(&rt, alloc, &one, MemLog::new(alloc), &decided_first)?;
-    assert!(rt; done.ends.as_slice() == [Outcome::Commit].as_slice());
-    assert!(rt; done.fates.iter().all(|fate| fate.1 == Fate::Committed));
+    let end = end_at(&rt, alloc, &one, &decided_first, 0)?;
+    assert!(rt; matches!(end, Some(Outcome::Commit)));
     Ok(())
 }
 
@@ -71,9 +73,7 @@ fn the_first_to_reach_a_job_decides_it(rt: HostRuntime) -> Result<(), Fail> {
 fn a_job_begins_before_the_last_answers_of_the_one_before(rt: HostRuntime) -> Result<(), Fail> {
     let alloc = rt.alloc();
     let two = jobs(alloc, 1, 2, &[&[YES, YES], &[YES, YES]])?;
-    let done = run(&rt, alloc, &two, MemLog::new(alloc), &Lagging::new())?;
-    let ends = [Outcome::Commit, Outcome::Commit];
-    assert!(rt; done.ends.as_slice() == ends.as_slice());
-    assert!(rt; done.fates.iter().all(|fate| fate.1 == Fate::Committed));
+    let fault = fault_of(&rt, alloc, &two, MemLog::new(alloc), &Lagging::new());
+    assert!(rt; fault.is_none());
     Ok(())
 }

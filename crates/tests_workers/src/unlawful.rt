@@ -1,8 +1,8 @@
 //! Runs over a log that lists what no log lists, or that fails late.
 
 use crate::gates::Counting;
-use crate::plans::{YES, branch, four_jobs, gtrid, jobs, run};
-use std::alloc::Global;
+use crate::plans::{YES, branch, fault_of, four_jobs, gtrid, jobs};
+use std::alloc::{AllocError, Global};
 use std::sync::atomic::Ordering;
 use std::test::Fail;
 use std::{mem, thread};
@@ -34,6 +34,16 @@ impl Unlawful {
             faults: 0,
             alloc,
         }
+    }
+
+    /// One decision more is listed, or one record.
+    fn list(&mut self, sequence: u64, is_record: bool) -> Result<(), AllocError> {
+        if is_record {
+            self.heuristics.push((branch(sequence, 0, 0), How::Mix))?;
+        } else {
+            self.decisions.push(gtrid(sequence))?;
+        }
+        Ok(())
     }
 }
 
@@ -110,47 +120,35 @@ impl DecisionLog for Unlawful {
     }
 }
 
-/// What is listed of two transactions, and the fault of a run over such a log: out of order, twice, or with a number that
-/// fits no row they are refused, as a system would refuse them.
-const LISTED: [([u64; 2], Option<WorkFault>); 4] = [
-    ([1, 2], None),
-    ([2, 1], Some(WorkFault::Log)),
-    ([1, 1], Some(WorkFault::Log)),
-    ([1, 1 << 63], Some(WorkFault::Log)),
+/// What is listed of two transactions, and whether a run over such a log is refused: out of order, twice, or with a number
+/// that fits no row, as a system would refuse it.
+const LISTED: [([u64; 2], bool); 4] = [
+    ([1, 2], false),
+    ([2, 1], true),
+    ([1, 1], true),
+    ([1, 1 << 63], true),
 ];
 
-#[test]
-fn rows_that_no_log_lists_are_refused(rt: HostRuntime) -> Result<(), Fail> {
-    let alloc = rt.alloc();
-    for (sequences, fault) in LISTED {
-        let mut decisions = Vec::new(alloc);
-        for sequence in sequences {
-            decisions.push(gtrid(sequence))?;
-        }
-        let log = Unlawful {
-            decisions,
-            ..Unlawful::new(alloc)
-        };
-        let ran = run(&rt, alloc, &four_jobs(alloc, 2)?, log, &Counting::new());
-        assert!(rt; ran.err() == fault);
+/// A log that lists two decisions, or a record of a branch of each.
+fn listing(alloc: Global, sequences: [u64; 2], are_records: bool) -> Result<Unlawful, AllocError> {
+    let mut log = Unlawful::new(alloc);
+    for sequence in sequences {
+        log.list(sequence, are_records)?;
     }
-    Ok(())
+    Ok(log)
 }
 
 #[test]
-fn records_that_no_log_lists_are_refused(rt: HostRuntime) -> Result<(), Fail> {
+fn what_no_log_lists_is_refused(rt: HostRuntime) -> Result<(), Fail> {
     let alloc = rt.alloc();
-    for (sequences, fault) in LISTED {
-        let mut heuristics = Vec::new(alloc);
-        for sequence in sequences {
-            heuristics.push((branch(sequence, 0, 0), How::Mix))?;
+    let four = four_jobs(alloc, 2)?;
+    for are_records in [false, true] {
+        for (sequences, is_refused) in LISTED {
+            let log = listing(alloc, sequences, are_records)?;
+            let fault = fault_of(&rt, alloc, &four, log, &Counting::new());
+            assert!(rt; matches!(fault, Some(WorkFault::Log)) == is_refused);
+            assert!(rt; fault.is_some() == is_refused);
         }
-        let log = Unlawful {
-            heuristics,
-            ..Unlawful::new(alloc)
-        };
-        let ran = run(&rt, alloc, &four_jobs(alloc, 2)?, log, &Counting::new());
-        assert!(rt; ran.err() == fault);
     }
     Ok(())
 }
@@ -165,8 +163,8 @@ fn no_commit_is_issued_while_its_row_is_written(rt: HostRuntime) -> Result<(), F
         ..Unlawful::new(alloc)
     };
     let one = jobs(alloc, 1, 1, &[&[YES]])?;
-    let ran = run(&rt, alloc, &one, log, &gate);
-    assert!(rt; ran.err() == Some(WorkFault::Log));
+    let fault = fault_of(&rt, alloc, &one, log, &gate);
+    assert!(rt; matches!(fault, Some(WorkFault::Log)));
     // xa_open, xa_start, xa_end and xa_prepare
     assert!(rt; gate.answered.load(Ordering::SeqCst) == 4);
     Ok(())

@@ -1,185 +1,201 @@
-//! Logs in files of the host, each opened again to look at it.
+//! Logs in files of the host, each opened again to look at it. Of some a label is kept: that a text with a label makes the table of a
+//! log is no clause, so a log that was made by it is opened, written and read here.
 
 use std::fs;
 use std::test::Fail;
 use tests_disks::{
-    EMPTY, MIGRATED, OLD, Seen, VERSION_1, bump_at, gather_at, look_at, make_folder, opens_at,
-    run_at, seen_at,
+    EMPTY, MIGRATED, OLD, Seen, VERSION_1, bump_at, look_at, make_folder, run_at, seen_at,
 };
 use xa_log::LogFault;
 use xa_sql_log::SqlLog;
 
 /// What is done with a log, and what that answers.
 #[derive(Clone, Copy)]
-pub(crate) enum Act {
-    /// It is opened, or made, and dropped.
-    Open,
-    /// Its incarnation is raised.
-    Bump(Result<u64, LogFault>),
+enum Act {
+    /// Its incarnation is raised to this.
+    Bump(u64),
+    /// It isn't raised.
+    BumpFails(LogFault),
     /// A statement runs in its tables.
     Run(&'static str),
     /// Its tables are looked at.
     See(Seen),
     /// It is made with a label.
-    Make(&'static str, Result<(), LogFault>),
+    Make(&'static str),
+    /// It isn't made with a label.
+    MakeFails(&'static str),
     /// Its label is read, where there is a log.
     Label(Option<&'static str>),
     /// No file is there.
     IsGone,
 }
 
+/// A log is made, and found again.
+const FOUND_AGAIN: &[Act] = &[
+    Act::Bump(1),
+    Act::See(Seen {
+        incarnation: 1,
+        ..EMPTY
+    }),
+    Act::Run("UPDATE tm_meta SET incarnation = 3"),
+    Act::Bump(4),
+    Act::See(Seen {
+        incarnation: 4,
+        ..EMPTY
+    }),
+];
+
+/// A log of an unknown version stays as it is.
+const UNKNOWN: &[Act] = &[
+    Act::Run(VERSION_1),
+    Act::Run("UPDATE tm_meta SET version = 9"),
+    Act::BumpFails(LogFault::Version),
+    Act::See(Seen { version: 9, ..OLD }),
+];
+
+/// A log comes to its last incarnation, and keeps it.
+const SPENT: &[Act] = &[
+    Act::Run(VERSION_1),
+    Act::Run("UPDATE tm_meta SET incarnation = 9223372036854775806"),
+    Act::Bump(9_223_372_036_854_775_807),
+    Act::BumpFails(LogFault::Spent),
+    Act::BumpFails(LogFault::Spent),
+    Act::See(Seen {
+        incarnation: 9_223_372_036_854_775_807,
+        ..MIGRATED
+    }),
+];
+
+/// A log is made beside other tables.
+const BESIDE: &[Act] = &[
+    Act::Run("CREATE TABLE other (a INTEGER)"),
+    Act::Bump(1),
+    Act::Bump(2),
+    Act::See(Seen {
+        tables: 5,
+        incarnation: 2,
+        ..EMPTY
+    }),
+];
+
+const SHOP: &str = "shop-1 bank stock";
+
+/// A log keeps its label.
+const LABELLED: &[Act] = &[
+    Act::Label(None),
+    Act::Make(SHOP),
+    Act::See(EMPTY),
+    Act::Bump(1),
+    Act::Bump(2),
+    Act::See(Seen {
+        incarnation: 2,
+        ..EMPTY
+    }),
+    Act::Label(Some(SHOP)),
+    Act::MakeFails("shop-2"),
+    Act::Label(Some(SHOP)),
+];
+
+/// A text that is no label makes no log, and a log without a label has none.
+const UNLABELLED: &[Act] = &[
+    Act::MakeFails("a */ b"),
+    Act::IsGone,
+    Act::Bump(1),
+    Act::Label(Some("")),
+];
+
+/// Each with a folder for it, and its path.
+const PLAYS: [(&str, &str, &[Act]); 6] = [
+    ("found_again", "found_again/log.db", FOUND_AGAIN),
+    ("unknown", "unknown/log.db", UNKNOWN),
+    ("spent", "spent/log.db", SPENT),
+    ("beside", "beside/log.db", BESIDE),
+    ("labelled", "labelled/log.db", LABELLED),
+    ("unlabelled", "unlabelled/log.db", UNLABELLED),
+];
+
+fn make_at(rt: &HostRuntime, path: &str, label: &str) -> Result<(), LogFault> {
+    SqlLog::make(rt, path, label)
+}
+
+fn label_at(rt: &HostRuntime, path: &str) -> Result<Option<String>, LogFault> {
+    SqlLog::label(rt, path)
+}
+
+/// Whether the label of the log at a path is this, or none where there is no log.
+fn has_label(rt: &HostRuntime, path: &str, label: Option<&str>) -> Result<bool, LogFault> {
+    Ok(label_at(rt, path)?.as_deref() == label)
+}
+
 /// Whether an act at a path answers as it says.
-fn is_answered(rt: &HostRuntime, path: &str, act: &Act) -> Result<bool, Fail> {
-    Ok(match *act {
-        Act::Open => opens_at(rt, path),
-        Act::Bump(answer) => bump_at(rt, path) == answer,
-        Act::Run(sql) => run_at(rt, path, sql).is_ok(),
-        Act::See(seen) => seen_at(rt, path)? == seen,
-        Act::Make(label, answer) => SqlLog::make(rt, path, label) == answer,
-        Act::Label(label) => SqlLog::label(rt, path)?.as_deref() == label,
-        Act::IsGone => !fs::exists(rt, path)?,
-    })
+fn is_answered(rt: &HostRuntime, path: &str, act: Act) -> Result<bool, LogFault> {
+    match act {
+        Act::Bump(incarnation) => Ok(bump_at(rt, path)? == incarnation),
+        Act::BumpFails(fault) => Ok(matches!(bump_at(rt, path), Err(told) if told == fault)),
+        Act::Run(sql) => Ok(run_at(rt, path, sql).is_ok()),
+        Act::See(seen) => Ok(seen_at(rt, path)? == seen),
+        Act::Make(label) => Ok(make_at(rt, path, label).is_ok()),
+        Act::MakeFails(label) => Ok(matches!(make_at(rt, path, label), Err(LogFault::Store))),
+        Act::Label(label) => has_label(rt, path, label),
+        Act::IsGone => Ok(matches!(fs::exists(rt, path), Ok(false))),
+    }
+}
+
+/// Which of these acts answers otherwise, if one does.
+fn first_wrong(rt: &HostRuntime, path: &str, acts: &[Act]) -> Result<Option<usize>, LogFault> {
+    for (at, act) in acts.iter().enumerate() {
+        if !is_answered(rt, path, *act)? {
+            return Ok(Some(at));
+        }
+    }
+    Ok(None)
 }
 
 /// Acts over a log that isn't there yet, in a new folder.
-pub(crate) fn play(rt: &HostRuntime, folder: &str, acts: &[Act]) -> Result<(), Fail> {
+fn play(rt: &HostRuntime, folder: &str, path: &str, acts: &[Act]) -> Result<(), Fail> {
     make_folder(rt, folder)?;
-    let path = format!(in rt.alloc(); "{folder}/log.db")?;
-    for (at, act) in acts.iter().enumerate() {
-        if !is_answered(rt, path.as_str(), act)? {
-            return Err(Fail::from(format!(in rt.alloc(); "act {at}")?));
-        }
+    if let Some(at) = first_wrong(rt, path, acts)? {
+        return Err(Fail::from(format!(in rt.alloc(); "{path}, act {at}")?));
     }
     fs::remove_dir_all(rt, folder)?;
     Ok(())
 }
 
-/// An empty log in this incarnation.
-pub(crate) fn empty_in(incarnation: i64) -> Act {
-    Act::See(Seen {
-        incarnation,
-        ..EMPTY
-    })
-}
-
 #[test]
-fn a_log_is_found_again(rt: HostRuntime) -> Result<(), Fail> {
-    play(
-        &rt,
-        "found_again",
-        &[
-            Act::Open,
-            Act::See(EMPTY),
-            Act::Bump(Ok(1)),
-            empty_in(1),
-            Act::Run("UPDATE tm_meta SET incarnation = 3"),
-            Act::Bump(Ok(4)),
-            empty_in(4),
-        ],
-    )
-}
-
-#[test]
-fn an_unknown_version_stays_as_it_is(rt: HostRuntime) -> Result<(), Fail> {
-    play(
-        &rt,
-        "unknown_version",
-        &[
-            Act::Run(VERSION_1),
-            Act::Run("UPDATE tm_meta SET version = 9"),
-            Act::Bump(Err(LogFault::Version)),
-            Act::See(Seen { version: 9, ..OLD }),
-        ],
-    )
-}
-
-#[test]
-fn a_spent_log_keeps_its_incarnation(rt: HostRuntime) -> Result<(), Fail> {
-    play(
-        &rt,
-        "spent",
-        &[
-            Act::Run(VERSION_1),
-            Act::Run("UPDATE tm_meta SET incarnation = 9223372036854775807"),
-            Act::Bump(Err(LogFault::Spent)),
-            Act::See(Seen {
-                incarnation: 9_223_372_036_854_775_807,
-                ..MIGRATED
-            }),
-        ],
-    )
-}
-
-#[test]
-fn a_log_is_made_beside_other_tables(rt: HostRuntime) -> Result<(), Fail> {
-    play(
-        &rt,
-        "beside",
-        &[
-            Act::Run("CREATE TABLE other (a INTEGER)"),
-            Act::Bump(Ok(1)),
-            Act::Bump(Ok(2)),
-            Act::See(Seen {
-                tables: 5,
-                incarnation: 2,
-                ..EMPTY
-            }),
-        ],
-    )
-}
-
-/// The bytes of a file, if it is there.
-fn bytes_at(rt: &HostRuntime, path: &str) -> Result<Option<Vec<u8>>, Fail> {
-    if !fs::exists(rt, path)? {
-        return Ok(None);
+fn each_log_answers_as_it_says(rt: HostRuntime) -> Result<(), Fail> {
+    for (folder, path, acts) in PLAYS {
+        play(&rt, folder, path, acts)?;
     }
-    Ok(Some(fs::read(rt, path)?))
-}
-
-/// The bytes of a file and of its journal, where they are there.
-fn both_at(rt: &HostRuntime, path: &str, journal: &str) -> Result<[Option<Vec<u8>>; 2], Fail> {
-    let file = bytes_at(rt, path)?;
-    Ok([file, bytes_at(rt, journal)?])
-}
-
-/// What a look answers, and whether it leaves the file and its journal as they were, or not there.
-fn look_in_vain(rt: &HostRuntime, path: &str, journal: &str) -> Result<Option<LogFault>, Fail> {
-    let before = both_at(rt, path, journal)?;
-    let fault = look_at(rt, path).err();
-    if both_at(rt, path, journal)? != before {
-        return Err(Fail::from("a look changes what is there"));
-    }
-    Ok(fault)
-}
-
-#[test]
-fn a_look_makes_no_log(rt: HostRuntime) -> Result<(), Fail> {
-    make_folder(&rt, "looked_at")?;
-    let path = "looked_at/log.db";
-    let journal = "looked_at/log.db-wal";
-    assert!(rt; look_in_vain(&rt, path, journal)? == Some(LogFault::Store));
-    fs::write(&rt, path, b"")?;
-    assert!(rt; look_in_vain(&rt, path, journal)? == Some(LogFault::Version));
-    run_at(&rt, path, "CREATE TABLE other (a INTEGER)")?;
-    assert!(rt; look_in_vain(&rt, path, journal)? == Some(LogFault::Version));
-    fs::remove_dir_all(&rt, "looked_at")?;
     Ok(())
 }
 
-/// What a copy of the file of a log answers to `bump`.
-fn bump_of_copy(rt: &HostRuntime, path: &str, copy: &str) -> Result<u64, Fail> {
-    fs::write(rt, copy, fs::read(rt, path)?.as_slice())?;
-    look_at(rt, copy)?;
-    Ok(bump_at(rt, copy)?)
+const PATH: &str = "looked_at/log.db";
+
+const JOURNAL: &str = "looked_at/log.db-wal";
+
+/// The bytes of a file and of its journal.
+fn both_files(rt: &HostRuntime) -> Result<Vec<u8>, Fail> {
+    let mut bytes = fs::read(rt, PATH)?;
+    let mut journal = fs::read(rt, JOURNAL)?;
+    bytes.append(&mut journal)?;
+    Ok(bytes)
 }
 
+/// Whether a look at a database with other tables leaves it as it is.
+fn leaves_others(rt: &HostRuntime) -> Result<bool, Fail> {
+    run_at(rt, PATH, "CREATE TABLE other (a INTEGER)")?;
+    let before = both_files(rt)?;
+    let looked = look_at(rt, PATH);
+    Ok(matches!(looked, Err(LogFault::Version)) && both_files(rt)?.as_slice() == before.as_slice())
+}
+
+/// A look where no file is makes none. (The program is tried with an empty file.)
 #[test]
-fn a_log_that_was_closed_is_one_file(rt: HostRuntime) -> Result<(), Fail> {
-    make_folder(&rt, "closed")?;
-    let path = "closed/log.db";
-    assert!(rt; bump_at(&rt, path) == Ok(1));
-    gather_at(&rt, path)?;
-    assert!(rt; bump_of_copy(&rt, path, "closed/copy.db")? == 2);
-    fs::remove_dir_all(&rt, "closed")?;
+fn a_look_makes_no_log(rt: HostRuntime) -> Result<(), Fail> {
+    make_folder(&rt, "looked_at")?;
+    assert!(rt; matches!(look_at(&rt, PATH), Err(LogFault::Store)));
+    assert!(rt; !fs::exists(&rt, PATH)? && !fs::exists(&rt, JOURNAL)?);
+    assert!(rt; leaves_others(&rt)?);
+    fs::remove_dir_all(&rt, "looked_at")?;
     Ok(())
 }

@@ -1,5 +1,6 @@
 //! Systems that start over logs in files of the host, or don't. Each log is opened again to look at it.
 
+use crate::systems::{do_step, new_system};
 use std::alloc::Global;
 use std::fs;
 use std::test::Fail;
@@ -20,133 +21,109 @@ fn done(sequence: u64) -> Step {
     }
 }
 
-/// What a system answers.
-#[derive(Drop)]
-struct Answers {
-    /// To a begin.
-    begun: Reply,
-    /// To done of the first transaction of the first incarnation.
-    first: Reply,
-    /// To done of the second.
-    second: Reply,
-}
-
-/// What a system that starts over the log answers.
-fn answers_over<L: DecisionLog + Drop>(alloc: Global, log: L) -> Result<Answers, NewFault> {
-    let Ok(rms) = Vec::from_array(alloc, [MemRm::new(alloc)]) else {
-        return Err(NewFault::Memory);
-    };
-    let mut system = System::new(alloc, 1, rms, log)?;
-    let begun = system.step(Step::Begin { thread: 0 });
-    let first = system.step(done(1));
-    let second = system.step(done(2));
-    Ok(Answers {
-        begun,
-        first,
-        second,
-    })
-}
-
-/// A system starts over a log, and its answers are kept here.
-#[derive(Drop)]
-struct Start {
-    alloc: Global,
-    answers: Option<Result<Answers, NewFault>>,
-}
-
-impl OverLog for Start {
-    fn over<L: DecisionLog + Drop>(&mut self, log: L) -> Result<(), LogFault> {
-        self.answers = Some(answers_over(self.alloc, log));
-        Ok(())
-    }
-}
-
-/// What a system that starts over the log at a path answers.
-fn answers_at(rt: &HostRuntime, path: &str) -> Result<Result<Answers, NewFault>, LogFault> {
-    let mut start = Start {
-        alloc: rt.alloc(),
-        answers: None,
-    };
-    work_at(rt, path, &mut start)?;
-    start.answers.ok_or(LogFault::Store)
-}
-
-/// What a system answers that starts over a log of version 1 at a path, in which this statement has run, and what its tables then
-/// hold.
-fn start_at(
-    rt: &HostRuntime,
-    path: &str,
-    sql: &str,
-) -> Result<(Result<Answers, NewFault>, Seen), LogFault> {
-    run_at(rt, path, VERSION_1)?;
-    run_at(rt, path, sql)?;
-    let answers = answers_at(rt, path)?;
-    let seen = seen_at(rt, path)?;
-    Ok((answers, seen))
-}
-
-/// The same in a new folder of the host.
-fn start_in(
-    rt: &HostRuntime,
-    folder: &str,
-    sql: &str,
-) -> Result<(Result<Answers, NewFault>, Seen), Fail> {
-    make_folder(rt, folder)?;
-    let path = format!(in rt.alloc(); "{folder}/log.db")?;
-    let started = start_at(rt, path.as_str(), sql)?;
-    fs::remove_dir_all(rt, folder)?;
-    Ok(started)
-}
-
-#[test]
-fn no_system_starts_over_a_spent_log(rt: HostRuntime) -> Result<(), Fail> {
-    let sql = "UPDATE tm_meta SET incarnation = 9223372036854775807";
-    let (answers, seen) = start_in(&rt, "spent_start", sql)?;
-    assert!(rt; matches!(answers, Err(NewFault::Log)));
-    assert_eq!(rt;
-        seen,
-        Seen {
-            incarnation: 9_223_372_036_854_775_807,
-            ..MIGRATED
-        }
-    );
-    Ok(())
-}
-
-#[test]
-fn no_system_starts_over_a_row_of_its_own_incarnation(rt: HostRuntime) -> Result<(), Fail> {
-    let (answers, seen) = start_in(&rt, "row_ahead", "UPDATE decision SET inc = 2")?;
-    assert!(rt; matches!(answers, Err(NewFault::Log)));
-    assert!(rt; seen.version == 2 && seen.decisions == -1, "{seen:?}");
-    Ok(())
-}
-
-/// Whether the transaction that was begun is of the second incarnation. Of those of the first, the first isn't over, and the second
+/// Whether the transaction that is begun is of the second incarnation. Of those of the first, the first isn't over, and the second
 /// unknown.
-fn has_first_alone(answers: &Answers) -> bool {
+fn has_first_alone<L: DecisionLog + Drop>(system: &mut System<MemRm, L>) -> bool {
     let next = Gtrid {
         incarnation: 2,
         sequence: 1,
     };
-    matches!(answers.begun, Reply::Begun(gtrid) if gtrid == next)
-        && matches!(answers.first, Reply::Refused(Refusal::Busy))
-        && matches!(answers.second, Reply::Refused(Refusal::UnknownTransaction))
+    matches!(do_step(system, Step::Begin { thread: 0 }), Reply::Begun(gtrid) if gtrid == next)
+        && matches!(do_step(system, done(1)), Reply::Refused(Refusal::Busy))
+        && matches!(
+            do_step(system, done(2)),
+            Reply::Refused(Refusal::UnknownTransaction)
+        )
 }
 
-/// Such a row has no participants, and so waits for an answer that can't come.
-#[test]
-fn a_row_of_version_1_stays(rt: HostRuntime) -> Result<(), Fail> {
-    let (answers, seen) = start_in(&rt, "migrated_start", "")?;
-    let Ok(answers) = answers else {
-        return Err(Fail::from("no system starts"));
-    };
-    assert!(rt; has_first_alone(&answers));
-    assert_eq!(rt;
-        seen,
-        Seen {
+/// How a system starts over a log, which is kept here.
+#[derive(Drop)]
+struct Start {
+    alloc: Global,
+    /// Whether the fault of the start was the log's.
+    is_refused: bool,
+    /// Whether there was none, and the system has the row of the first transaction.
+    has_first_alone: bool,
+}
+
+impl OverLog for Start {
+    fn over<L: DecisionLog + Drop>(&mut self, log: L) {
+        match new_system(self.alloc, 1, 1, log) {
+            Ok(mut system) => self.has_first_alone = has_first_alone(&mut system),
+            Err(fault) => self.is_refused = matches!(fault, NewFault::Log),
+        }
+    }
+}
+
+/// A start over a log of version 1, in which a statement has run.
+#[derive(Clone, Copy)]
+struct Row {
+    folder: &'static str,
+    path: &'static str,
+    sql: &'static str,
+    /// Whether a system starts, which has the row of the first transaction then. That row has no participants, and so waits for an
+    /// answer that can't come.
+    starts: bool,
+    /// What the tables then hold.
+    left: Seen,
+}
+
+const ROWS: [Row; 3] = [
+    // No incarnation is left.
+    Row {
+        folder: "spent_start",
+        path: "spent_start/log.db",
+        sql: "UPDATE tm_meta SET incarnation = 9223372036854775807",
+        starts: false,
+        left: Seen {
+            incarnation: 9_223_372_036_854_775_807,
+            ..MIGRATED
+        },
+    },
+    // A row is of the incarnation of the start.
+    Row {
+        folder: "row_ahead",
+        path: "row_ahead/log.db",
+        sql: "UPDATE decision SET inc = 2",
+        starts: false,
+        left: Seen {
+            incarnation: 2,
+            decisions: -1,
+            ..MIGRATED
+        },
+    },
+    Row {
+        folder: "migrated_start",
+        path: "migrated_start/log.db",
+        sql: "",
+        starts: true,
+        left: Seen {
             incarnation: 2,
             ..MIGRATED
-        }
-    );
+        },
+    },
+];
+
+/// Whether a system starts over the log of a row as that says, or doesn't.
+fn starts_as_said(rt: &HostRuntime, row: &Row) -> Result<bool, LogFault> {
+    run_at(rt, row.path, VERSION_1)?;
+    run_at(rt, row.path, row.sql)?;
+    let mut start = Start {
+        alloc: rt.alloc(),
+        is_refused: false,
+        has_first_alone: false,
+    };
+    work_at(rt, row.path, &mut start)?;
+    let is_as_said = start.has_first_alone == row.starts && start.is_refused != row.starts;
+    Ok(is_as_said && seen_at(rt, row.path)? == row.left)
+}
+
+#[test]
+fn systems_start_or_are_refused(rt: HostRuntime) -> Result<(), Fail> {
+    for row in &ROWS {
+        make_folder(&rt, row.folder)?;
+        assert!(rt; starts_as_said(&rt, row)?);
+        fs::remove_dir_all(&rt, row.folder)?;
+    }
     Ok(())
 }

@@ -3,9 +3,8 @@
 use crate::systems::do_step;
 use std::alloc::Global;
 use std::process::Abort;
-use std::test::Fail;
 use xa_base::{Branch, Fate, Gtrid, Outcome, Reply, Step};
-use xa_log::DecisionLog;
+use xa_log::{DecisionLog, LogFault};
 use xa_rm::MemRm;
 use xa_system::System;
 
@@ -18,11 +17,13 @@ pub(crate) const RMS: u32 = 2;
 #[derive(Drop)]
 pub(crate) struct Told {
     pub begun: Vec<Gtrid>,
-    pub logged: Vec<Gtrid>,
+    logged: Vec<Gtrid>,
+    /// Whether no memory was left for one of them. What follows then shows nothing.
+    has_lost: bool,
 }
 
 /// How many branches ended so, and how many didn't end.
-#[derive(Clone, Copy, Debug)]
+#[derive(Clone, Copy)]
 pub(crate) struct Ends {
     pub committed: u32,
     pub rolled_back: u32,
@@ -71,6 +72,7 @@ impl Told {
         Told {
             begun: Vec::new(alloc),
             logged: Vec::new(alloc),
+            has_lost: false,
         }
     }
 
@@ -79,28 +81,39 @@ impl Told {
         &mut self,
         system: &mut System<MemRm, L>,
         step: Step,
-    ) -> Result<Reply, Fail> {
+    ) -> Reply {
         let commits = commits(&step);
         let reply = do_step(system, step);
-        self.keep(&reply, commits)?;
-        Ok(reply)
+        self.keep(&reply, commits);
+        reply
     }
 
     /// Keeps what a reply tells.
-    fn keep(&mut self, reply: &Reply, commits: Option<Gtrid>) -> Result<(), Fail> {
+    fn keep(&mut self, reply: &Reply, commits: Option<Gtrid>) {
         match (reply, commits) {
-            (Reply::Begun(gtrid), _) => self.begun.push(*gtrid)?,
-            (Reply::Decided, Some(gtrid)) => self.logged.push(gtrid)?,
+            (Reply::Begun(gtrid), _) => self.keep_begun(*gtrid),
+            (Reply::Decided, Some(gtrid)) => self.keep_logged(gtrid),
             _ => {}
         }
-        Ok(())
+    }
+
+    fn keep_begun(&mut self, gtrid: Gtrid) {
+        if self.begun.push(gtrid).is_err() {
+            self.has_lost = true;
+        }
+    }
+
+    fn keep_logged(&mut self, gtrid: Gtrid) {
+        if self.logged.push(gtrid).is_err() {
+            self.has_lost = true;
+        }
     }
 
     /// Keeps the rows of a log.
-    pub(crate) fn read<L: DecisionLog>(&mut self, log: &mut L) -> Result<(), Fail> {
+    pub(crate) fn read<L: DecisionLog>(&mut self, log: &mut L) -> Result<(), LogFault> {
         let rows = log.rows()?;
         for gtrid in &rows.decisions {
-            self.logged.push(*gtrid)?;
+            self.keep_logged(*gtrid);
         }
         Ok(())
     }
@@ -108,10 +121,7 @@ impl Told {
     /// Looks at a branch, which has ended as it may, and counts it.
     fn look_at(&self, rt: &impl Abort, branch: Branch, fate: Fate, ends: &mut Ends) {
         let has_row = self.logged.contains(&branch.gtrid);
-        assert!(rt;
-            may_end(fate, has_row),
-            "{branch:?} is {fate:?}, with a row: {has_row}"
-        );
+        assert!(rt; may_end(fate, has_row));
         ends.count(fate);
     }
 
@@ -121,6 +131,7 @@ impl Told {
         rt: &impl Abort,
         system: &System<MemRm, L>,
     ) -> Ends {
+        assert!(rt; !self.has_lost);
         let mut ends = Ends {
             committed: 0,
             rolled_back: 0,

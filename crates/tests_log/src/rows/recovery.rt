@@ -8,7 +8,7 @@ use xa_rm::MemRm;
 use xa_system::System;
 
 /// What a start of the manager found.
-#[derive(Clone, Copy, Debug)]
+#[derive(Clone, Copy)]
 pub(crate) struct Found {
     pub incarnation: u64,
     pub decisions: usize,
@@ -24,7 +24,7 @@ fn restart<L: DecisionLog + Drop>(rt: &impl Abort, system: &mut System<MemRm, L>
         heuristics,
     } = reply
     else {
-        assert!(rt; false, "no restart");
+        assert!(rt; false);
         return Found {
             incarnation: 0,
             decisions: 0,
@@ -99,7 +99,7 @@ fn ends_alike<L: DecisionLog + Drop>(
     recover(system, rms);
     let alone = count_of(system, rms, Fate::Heuristic(How::Rb));
     let ended = count_of(system, rms, end).saturating_add(alone);
-    assert!(rt; ended == rms as usize, "{ended} of {rms} are {end:?}");
+    assert!(rt; ended == rms as usize);
     alone
 }
 
@@ -111,14 +111,11 @@ fn rows_leave<L: DecisionLog + Drop>(
     found: Found,
     alone: usize,
 ) {
-    assert!(rt; settle(system, rms) == found.decisions, "{found:?}");
+    assert!(rt; settle(system, rms) == found.decisions);
     assert!(rt; matches!(perform(system, Act::CrashManager), Reply::Crashed));
     let after = restart(rt, system);
     let is_later = after.incarnation > found.incarnation;
-    assert!(rt;
-        is_later && after.decisions == 0 && after.heuristics == alone,
-        "{found:?}, {after:?}"
-    );
+    assert!(rt; is_later && after.decisions == 0 && after.heuristics == alone);
 }
 
 /// The manager is started over the log that was given back, and all branches end alike, as the log says; but for those

@@ -1,7 +1,7 @@
 //! Each row, with a stop at each call of either file.
 
 use crate::over_files::{Crashes, OverLog, over_stopping_files};
-use crate::rows::act::{Act, meets_stop, perform};
+use crate::rows::act::meets_stop;
 use crate::rows::recovery::{count_of, end_as_the_log_says};
 use crate::rows::table::{
     ABANDONED, ACKNOWLEDGED_LATER, CLAIM_ENDS_WITH_CRASH, CLAIMED_IS_KEPT, DECIDED_BEFORE_CRASH,
@@ -12,7 +12,7 @@ use std::alloc::Global;
 use std::process::Abort;
 use std::test::Fail;
 use tests_disks::Stops;
-use xa_base::{Fate, How, Refusal, Reply, Side, Step};
+use xa_base::{Fate, How, Reply, Side, Step};
 use xa_log::DecisionLog;
 use xa_rm::MemRm;
 use xa_system::{NewFault, System};
@@ -40,23 +40,6 @@ fn ends_whole<L: DecisionLog + Drop>(rt: &impl Abort, system: &System<MemRm, L>,
     assert!(rt; ended.saturating_add(alone) == row.rms as usize && ended > 0);
 }
 
-/// Whether a manager whose log is out stays down: there is no other log to take, and no restart is accepted.
-fn stays_down<L: DecisionLog + Drop>(system: &mut System<MemRm, L>) -> bool {
-    if taken_log(system).is_some() {
-        return false;
-    }
-    let restarted = perform(system, Act::RestartManager);
-    matches!(restarted, Reply::Refused(Refusal::LogFault))
-}
-
-/// The log of a manager that has met a stop, which stays down then.
-fn log_of<L: DecisionLog + Drop>(rt: &impl Abort, system: &mut System<MemRm, L>) -> Option<L> {
-    let log = taken_log(system);
-    assert!(rt; log.is_some(), "the manager is down, and holds its log");
-    assert!(rt; stays_down(system));
-    log
-}
-
 /// The incarnation of the last start, and whether the step behind all others was to start the manager again.
 fn starts_of<L: DecisionLog + Drop>(system: &System<MemRm, L>) -> (u64, bool) {
     let mut incarnation = 1u64;
@@ -70,13 +53,6 @@ fn starts_of<L: DecisionLog + Drop>(system: &System<MemRm, L>) -> (u64, bool) {
     (incarnation, is_start)
 }
 
-/// A manager that is down takes its log again, which is no step.
-fn give_back<L: DecisionLog + Drop>(rt: &impl Abort, system: &mut System<MemRm, L>, log: L) {
-    let events = system.trace().len();
-    assert!(rt; takes_log(system, log), "the log isn't taken");
-    assert!(rt; system.trace().len() == events);
-}
-
 /// A manager takes its log again, and all ends as the log says. The incarnation is the next, and where the start of a
 /// manager met the stop, that or the one after it.
 fn goes_on<L: DecisionLog + Drop>(
@@ -86,14 +62,11 @@ fn goes_on<L: DecisionLog + Drop>(
     rms: u32,
     starts: (u64, bool),
 ) {
-    give_back(rt, system, log);
+    assert!(rt; takes_log(system, log));
     let found = end_as_the_log_says(rt, system, rms);
     let (last, is_start) = starts;
     let passed = found.incarnation.saturating_sub(last);
-    assert!(rt;
-        passed == 1 || (passed == 2 && is_start),
-        "{found:?}, {last}"
-    );
+    assert!(rt; passed == 1 || (passed == 2 && is_start));
 }
 
 /// A manager that has met a stop goes on over its log as a crash leaves it.
@@ -104,8 +77,8 @@ fn outlives_stop<L: Crashes>(
     rms: u32,
 ) -> Result<(), Fail> {
     let starts = starts_of(system);
-    let Some(log) = log_of(rt, system) else {
-        return Ok(());
+    let Some(log) = taken_log(system) else {
+        return Err(Fail::from("the manager holds its log"));
     };
     let Some(log) = log.reopened(alloc, u64::MAX) else {
         return Err(Fail::from("the files don't open again"));
@@ -200,8 +173,8 @@ fn stops(rt: &(impl Abort + Eprint), alloc: Global, row: &Row) -> Result<(), Fai
     let database = stop_at_each_call(rt, alloc, Stops::Database, row)?;
     let journal = stop_at_each_call(rt, alloc, Stops::Journal, row)?;
     tell(rt, database, journal);
-    assert!(rt; database.0 > 0 && journal.0 > 0, "no stop at the start");
-    assert!(rt; (journal.1 > 0) == row.is_logged, "{} stops", journal.1);
+    assert!(rt; database.0 > 0 && journal.0 > 0);
+    assert!(rt; (journal.1 > 0) == row.is_logged);
     Ok(())
 }
 
