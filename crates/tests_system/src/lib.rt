@@ -37,3 +37,5 @@ mod scans;
 mod systems;
 #[cfg(test)]
 mod words;
+#[cfg(test)]
+mod writers;
