@@ -36,6 +36,8 @@ mod scans;
 #[cfg(test)]
 mod systems;
 #[cfg(test)]
+mod uncalled;
+#[cfg(test)]
 mod words;
 #[cfg(test)]
 mod writers;
