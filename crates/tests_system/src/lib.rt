@@ -1,5 +1,6 @@
-//! Worked rows through a whole system: each line of a row is a step, with the reply that it is to have; examples of its parts; the
-//! coordinator of a driver; and whole files of scenarios and of jobs. Where one of them needs a log, it is in memory.
+//! Worked rows through a whole system: each line of a row is a step, with the reply that it is to have; examples of its parts; and the
+//! manager by itself. Where one of them needs a log, it is in memory. Sessions of a driver, and files of scenarios and of jobs, are
+//! played over the built program, by `tools/try-program`.
 #![tactic(auto)]
 
 #[cfg(test)]
@@ -19,6 +20,8 @@ mod limits;
 #[cfg(test)]
 mod logs;
 #[cfg(test)]
+mod managers;
+#[cfg(test)]
 mod parts;
 #[cfg(test)]
 mod play;
@@ -31,10 +34,10 @@ mod reply_words;
 #[cfg(test)]
 mod scans;
 #[cfg(test)]
-mod scenario;
-#[cfg(test)]
-mod server;
-#[cfg(test)]
 mod systems;
 #[cfg(test)]
+mod uncalled;
+#[cfg(test)]
 mod words;
+#[cfg(test)]
+mod writers;
