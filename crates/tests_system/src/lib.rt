@@ -1,6 +1,6 @@
 //! Worked rows through a whole system: each line of a row is a step, with the reply that it is to have; examples of its parts; and the
-//! manager by itself. Where one of them needs a log, it is in memory. Sessions of a driver, and files of scenarios and of jobs, are
-//! played over the built program, by `tools/try-program`.
+//! manager by itself. Where one of them needs a log, it is in memory. `tools/try-program` plays sessions of a driver, and files of
+//! scenarios and of jobs, over the built program.
 #![tactic(auto)]
 
 #[cfg(test)]
@@ -34,9 +34,9 @@ mod reply_words;
 #[cfg(test)]
 mod scans;
 #[cfg(test)]
-mod systems;
+mod serving;
 #[cfg(test)]
-mod uncalled;
+mod systems;
 #[cfg(test)]
 mod words;
 #[cfg(test)]

@@ -12,6 +12,7 @@ use std::alloc::{AllocError, Global};
 use std::env::Env;
 use std::process::Abort;
 use xa_base::{Refusal, Reply, Side, Step};
+use xa_files::fate_text;
 use xa_log::{FailLog, FailPlan, LogCall, MemLog};
 use xa_system::{NewFault, System};
 
@@ -101,10 +102,9 @@ impl Run {
     ) -> Result<String, AllocError> {
         let step = words::step(line);
         match (line[0], &step) {
-            ("fate", _) => {
-                let fate = self.system.fate(&words::branch(line[1]).xid());
-                reply_words::fate(fate).to_string(self.alloc)
-            }
+            ("fate", _) => fate_text(self.system.fate(&words::branch(line[1]).xid())).to_string(
+                self.alloc,
+            ),
             ("call", Step::Issue { thread, rm, .. }) => {
                 let (thread, rm) = (*thread, *rm);
                 let mut reply = self.step(rt, &step, want);

@@ -1,7 +1,7 @@
-//! Replies and fates in words.
+//! Replies in words.
 
 use std::alloc::{AllocError, Global};
-use xa_base::{Answer, Call, Fate, How, Reply};
+use xa_base::{Answer, Call, Reply};
 
 fn name(call: &Call) -> &'static str {
     match call {
@@ -59,23 +59,4 @@ pub(crate) fn reply(alloc: Global, reply: &Reply) -> Result<String, AllocError> 
         Reply::RmRestarted => "restarted",
     };
     word.to_string(alloc)
-}
-
-/// What became of a branch, in words.
-pub(crate) fn fate(fate: Fate) -> &'static str {
-    match fate {
-        Fate::Unstarted => "unstarted",
-        Fate::Active => "active",
-        Fate::Idle => "idle",
-        Fate::Prepared => "prepared",
-        Fate::RollbackOnly => "rollback-only",
-        Fate::Committed => "committed",
-        Fate::RolledBack => "rolled-back",
-        Fate::Lost => "lost",
-        Fate::ReadOnly => "read-only",
-        Fate::Heuristic(How::Com) => "heuristic-com",
-        Fate::Heuristic(How::Rb) => "heuristic-rb",
-        Fate::Heuristic(How::Mix) => "heuristic-mix",
-        Fate::Heuristic(How::Haz) => "heuristic-haz",
-    }
 }

@@ -3,10 +3,8 @@
 //! A transaction is `INCARNATION.SEQUENCE`, and a branch of it `INCARNATION.SEQUENCE.THREAD.RM`, of one digit each.
 //! Calls and flags have XA's names. A word that isn't one of these stands for another, and the row then fails.
 
-use xa_base::{
-    Branch, Call, CallKind, Gtrid, How, Outcome, Part, RbCode, Side, Step, TMENDRSCAN, TMFAIL,
-    TMJOIN, TMNOFLAGS, TMONEPHASE, TMSTARTRSCAN, TMSUCCESS, Vote,
-};
+use xa_base::{Branch, Call, CallKind, Gtrid, How, Outcome, Part, Side, Step, TMNOFLAGS, Vote};
+use xa_files::{call_named, flag_named, vote_named};
 
 /// The words of a line, of which there are at most six.
 pub(crate) fn of(line: &str) -> [&str; 6] {
@@ -43,49 +41,16 @@ pub(crate) fn branch(word: &str) -> Branch {
     }
 }
 
-fn kind(name: &str) -> CallKind {
-    match name {
-        "xa_open" => CallKind::OpenRm,
-        "xa_start" => CallKind::Start,
-        "xa_end" => CallKind::End,
-        "xa_prepare" => CallKind::Prepare,
-        "xa_commit" => CallKind::Commit,
-        "xa_rollback" => CallKind::Rollback,
-        "xa_forget" => CallKind::Forget,
-        "xa_recover" => CallKind::Recover,
-        _ => CallKind::CloseRm,
-    }
-}
-
-fn flag(name: &str) -> u32 {
-    match name {
-        "TMJOIN" => TMJOIN,
-        "TMENDRSCAN" => TMENDRSCAN,
-        "TMSTARTRSCAN" => TMSTARTRSCAN,
-        "TMSUCCESS" => TMSUCCESS,
-        "TMFAIL" => TMFAIL,
-        "TMONEPHASE" => TMONEPHASE,
-        _ => TMNOFLAGS,
-    }
-}
-
-/// A vote: `ok`, `ro`, or the number of the code of a rollback.
-fn vote(word: &str) -> Vote {
-    match word {
-        "ro" => Vote::ReadOnly,
-        "102" => Vote::No(RbCode::Deadlock),
-        _ => Vote::Yes,
-    }
-}
-
 /// A call with a branch and a flag, where there is one.
-fn call(name: &str, x: &str, flag_name: &str) -> Call {
+fn call(name: &str, x: &str, flag: &str) -> Call {
+    let kind = call_named(name).unwrap_or(CallKind::CloseRm);
     let xid = if x.is_empty() {
         None
     } else {
         Some(branch(x).xid())
     };
-    Call::of(kind(name), xid, flag(flag_name), None).unwrap_or(Call::CloseRm)
+    let flags = flag_named(flag).unwrap_or(TMNOFLAGS);
+    Call::of(kind, xid, flags, None).unwrap_or(Call::CloseRm)
 }
 
 /// The step that these words ask for.
@@ -132,7 +97,7 @@ fn step_of_line(words: &[&str; 6]) -> Step {
         "vote" => Step::Vote {
             rm: branch.rm,
             xid,
-            vote: vote(second),
+            vote: vote_named(second).unwrap_or(Vote::Yes),
         },
         "heuristic" => Step::Heuristic {
             rm: branch.rm,
