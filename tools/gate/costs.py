@@ -8,7 +8,7 @@ from .edits import edits_of
 from .machine import BYTES_A_JOB, jobs_for, processors
 
 # Minutes of one processor, from nothing: of --quick, of what the whole gate does of it, and of all proofs of rt ci with the tests.
-QUICK, QUICK_PART, PROOFS = 15, 5, 125
+QUICK, QUICK_PART, PROOFS = 15, 2, 115
 # Processor seconds of an edit, and of all edits of the crates in which one takes much longer.
 EDIT = 5
 EDITS = {
