@@ -39,7 +39,8 @@ CASES = re.compile(r"use \S+\.Goals\.\{")
 
 def without_one(text, name):
     """The file without the answer of this name, nor the names of any cases: for a check that asks nothing of the other answers."""
-    return "\n".join(it for _, lines in parts(without(text, {name})) if not CASES.match("\n".join(lines)) for it in lines)
+    kept = [lines for of, lines in parts(text) if of != name and not CASES.match("\n".join(lines))]
+    return "\n".join(it for lines in kept for it in lines)
 
 
 # Beside this hole rattle offers no text for a goal that is open: that takes a run of antt of its own, some ten seconds of a check.
@@ -57,8 +58,8 @@ WORD = re.compile(r"[\w-]+")
 
 
 def unasked(text, names, symbol):
-    """The file of the function of this whole name, where nothing is asked of these goals. One that the other answers cite is a hole, which rattle takes
-    by its signature."""
+    """The file of this function's answers, where nothing is asked of these goals. One that the other answers cite is a hole, which rattle takes by
+    its signature."""
     found, left = parts(text), dict.fromkeys(names)
     cited = {it for name, lines in found if name not in names for line in lines for it in WORD.findall(line)}
     kept = []
@@ -72,7 +73,7 @@ def unasked(text, names, symbol):
 
 
 def with_goals(text, names, symbol):
-    """The file with these goals too, which have no answer there, so that nothing is asked of them."""
+    """The file with these goals too, of which nothing is asked."""
     if not names:
         return text
     crate, _, path = symbol.partition("::")

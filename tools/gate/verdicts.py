@@ -102,7 +102,8 @@ class Inquiry:
             if new:
                 give(self.edit, REFUSED, place.original(told(report.path(), new)))
                 return
-            opened += names if file == place.answers else []
+            if file == place.answers:
+                opened += names
         false = trial.false_answers(place.answers)
         if goal is None:
             note(self.edit, place.symbol, trial)
