@@ -1,7 +1,7 @@
 //! Runs whose gates hold workers back: that they work side by side, and in which order decisions and sweeps come.
 
 use crate::gates::{After, Closed, Lagging, Meeting};
-use crate::plans::{YES, end_at, fault_of, four_jobs, jobs, swept};
+use crate::plans::{YES, end_at, fault_of, four_jobs, jobs, run, swept};
 use std::alloc::Global;
 use std::process::Abort;
 use std::sync::Wait;
@@ -11,25 +11,35 @@ use std::thread::Threads;
 use std::time::Clock;
 use xa_base::Outcome;
 use xa_log::MemLog;
-use xa_workers::{Jobs, Point, WorkFault};
+use xa_workers::{Gate, Jobs, Point, WorkFault};
 
-/// Whether two workers meet at these points, in a run that comes to its end.
+/// Whether all jobs of a run commit.
+fn all_commit<R: Threads + Wait + Clock + Sync + Abort, G: Gate + Sync>(
+    rt: &R,
+    alloc: Global,
+    jobs: &Jobs,
+    gate: &G,
+) -> Result<bool, WorkFault> {
+    let done = run(rt, alloc, jobs, MemLog::new(alloc), gate)?;
+    Ok(done.ends.iter().all(|end| matches!(end, Outcome::Commit)))
+}
+
+/// Whether two workers meet at these points, in a run whose jobs commit.
 fn meet<R: Threads + Wait + Clock + Sync + Abort>(
     rt: &R,
     alloc: Global,
     jobs: &Jobs,
     points: [Point; 2],
-) -> bool {
+) -> Result<bool, WorkFault> {
     let gate = Meeting::new(points);
-    fault_of(rt, alloc, jobs, MemLog::new(alloc), &gate).is_none()
-        && !gate.failed.load(Ordering::SeqCst)
+    Ok(all_commit(rt, alloc, jobs, &gate)? && !gate.failed.load(Ordering::SeqCst))
 }
 
 #[test]
 fn two_resource_managers_work_side_by_side(rt: HostRuntime) -> Result<(), Fail> {
     let one = jobs(rt.alloc(), 1, 2, &[&[YES, YES]])?;
     let points = [Point::Answering(0), Point::Answering(1)];
-    assert!(rt; meet(&rt, rt.alloc(), &one, points));
+    assert!(rt; meet(&rt, rt.alloc(), &one, points)?);
     Ok(())
 }
 
@@ -37,7 +47,7 @@ fn two_resource_managers_work_side_by_side(rt: HostRuntime) -> Result<(), Fail> 
 fn two_threads_decide_side_by_side(rt: HostRuntime) -> Result<(), Fail> {
     let two = jobs(rt.alloc(), 2, 1, &[&[YES], &[YES]])?;
     let points = [Point::Deciding(0), Point::Deciding(1)];
-    assert!(rt; meet(&rt, rt.alloc(), &two, points));
+    assert!(rt; meet(&rt, rt.alloc(), &two, points)?);
     Ok(())
 }
 
@@ -73,7 +83,6 @@ fn the_first_to_reach_a_job_decides_it(rt: HostRuntime) -> Result<(), Fail> {
 fn a_job_begins_before_the_last_answers_of_the_one_before(rt: HostRuntime) -> Result<(), Fail> {
     let alloc = rt.alloc();
     let two = jobs(alloc, 1, 2, &[&[YES, YES], &[YES, YES]])?;
-    let fault = fault_of(&rt, alloc, &two, MemLog::new(alloc), &Lagging::new());
-    assert!(rt; fault.is_none());
+    assert!(rt; all_commit(&rt, alloc, &two, &Lagging::new())?);
     Ok(())
 }
