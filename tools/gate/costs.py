@@ -15,9 +15,9 @@ EDITS = {
     "xa_session": 350,
     "xa_sql_log": 330,
     "xa_server": 255,
-    "xa_scenario": 235,
+    "xa_scenario": 165,
     "xa_system": 215,
-    "xa_display": 195,
+    "xa_display": 170,
     "xa_workers": 180,
     "xa_commands": 115,
 }
