@@ -13,7 +13,7 @@ QUICK, QUICK_PART, PROOFS = 15, 2, 115
 EDIT = 5
 EDITS = {
     "xa_session": 350,
-    "xa_sql_log": 330,
+    "xa_sql_log": 300,
     "xa_server": 255,
     "xa_scenario": 165,
     "xa_system": 215,
