@@ -53,17 +53,24 @@ const UNKNOWN: &[Act] = &[
     Act::See(Seen { version: 9, ..OLD }),
 ];
 
-/// A log comes to its last incarnation, and keeps it.
+/// A log at its last incarnation keeps it.
 const SPENT: &[Act] = &[
     Act::Run(VERSION_1),
-    Act::Run("UPDATE tm_meta SET incarnation = 9223372036854775806"),
-    Act::Bump(9_223_372_036_854_775_807),
-    Act::BumpFails(LogFault::Spent),
+    Act::Run("UPDATE tm_meta SET incarnation = 9223372036854775807"),
     Act::BumpFails(LogFault::Spent),
     Act::See(Seen {
         incarnation: 9_223_372_036_854_775_807,
         ..MIGRATED
     }),
+];
+
+/// The last incarnation is given once.
+const LAST: &[Act] = &[
+    Act::Run(VERSION_1),
+    Act::Run("UPDATE tm_meta SET incarnation = 9223372036854775806"),
+    Act::Bump(9_223_372_036_854_775_807),
+    Act::BumpFails(LogFault::Spent),
+    Act::BumpFails(LogFault::Spent),
 ];
 
 /// A log is made beside other tables.
@@ -105,10 +112,11 @@ const UNLABELLED: &[Act] = &[
 ];
 
 /// Each with a folder for it, and its path.
-const PLAYS: [(&str, &str, &[Act]); 6] = [
+const PLAYS: [(&str, &str, &[Act]); 7] = [
     ("found_again", "found_again/log.db", FOUND_AGAIN),
     ("unknown", "unknown/log.db", UNKNOWN),
     ("spent", "spent/log.db", SPENT),
+    ("last", "last/log.db", LAST),
     ("beside", "beside/log.db", BESIDE),
     ("labelled", "labelled/log.db", LABELLED),
     ("unlabelled", "unlabelled/log.db", UNLABELLED),
