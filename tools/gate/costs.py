@@ -8,18 +8,18 @@ from .edits import edits_of
 from .machine import BYTES_A_JOB, jobs_for, processors
 
 # Minutes of one processor, from nothing: of --quick, of what the whole gate does of it, and of all proofs of rt ci with the tests.
-QUICK, QUICK_PART, PROOFS = 15, 2, 115
+QUICK, QUICK_PART, PROOFS = 15, 2, 155
 # Processor seconds of an edit, and of all edits of the crates in which one takes much longer.
-EDIT = 5
+EDIT = 6
 EDITS = {
-    "xa_session": 350,
-    "xa_sql_log": 300,
-    "xa_server": 255,
-    "xa_scenario": 165,
-    "xa_system": 215,
-    "xa_display": 170,
-    "xa_workers": 180,
-    "xa_commands": 115,
+    "xa_session": 640,
+    "xa_sql_log": 470,
+    "xa_server": 340,
+    "xa_scenario": 315,
+    "xa_display": 265,
+    "xa_system": 250,
+    "xa_workers": 240,
+    "xa_commands": 215,
 }
 # Minutes at the end, in which processors are idle: where the program is built anew, and where all is kept.
 LAST, LAST_KEPT = 5, 1
