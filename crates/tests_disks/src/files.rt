@@ -21,7 +21,7 @@ fn options(checkpoint_frames: usize) -> Options {
 
 /// What a task comes to over a connection to files, and the files as they then stand, with no copy of the journal into the
 /// database file.
-pub(crate) fn perform_over<D: Disk + Drop>(
+fn perform_over<D: Disk + Drop>(
     conn: Connection<FileStore<D>>,
     task: Task<'_>,
 ) -> (Done, Files<D>) {
