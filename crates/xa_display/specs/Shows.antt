@@ -28,29 +28,37 @@ module _ {L : Type 0} (moment : L → Moment) (log : L) (text : List ℕ) where
     pub over : StartsOverLog moment log o
     pub run : IsRunOf plan o events
 
-  -- what was written is the story of a run, with the fates of its report
-  pub record TellsRun (old new : Option (List ℕ)) : Type 0 where
+  -- a text is the story of a run, with the fates of its report
+  pub record IsStoryOfRun (story : List ℕ) : Type 0 where
     pub plan : Plan
     pub origin : Origin
     pub events : List Event
     pub names : List (List ℕ)
     pub fates : List (Xid × Fate)
-    pub story : List ℕ
     pub run : IsRunOfText plan origin events
     pub named : names_of text ≡ Ok names
     pub report : IsReportOf origin events fates
     pub told : IsStory names events fates story
+
+  -- what was written is the story of a run
+  pub record TellsRun (old new : Option (List ℕ)) : Type 0 where
+    pub story : List ℕ
+    pub of_run : IsStoryOfRun story
     pub writes : Appends old new story
 
-  -- what was written is a picture of a run, as large as it
-  pub record DrawsRun (old new : Option (List ℕ)) : Type 0 where
+  -- a text is a picture of a run, as large as it
+  pub record IsPictureOfRun (picture : List ℕ) : Type 0 where
     pub plan : Plan
     pub origin : Origin
     pub events : List Event
-    pub picture : List ℕ
     pub run : IsRunOfText plan origin events
     pub few : length events ≤ most_drawn_events
     pub drawn : IsPicture plan.threads plan.rms (length events) picture
+
+  -- what was written is a picture of a run
+  pub record DrawsRun (old new : Option (List ℕ)) : Type 0 where
+    pub picture : List ℕ
+    pub of_run : IsPictureOfRun picture
     pub writes : Appends old new picture
 
   -- the run has too many events for a picture
@@ -67,5 +75,5 @@ ExplainsPicture TooLong read = IsOk read
 ExplainsPicture (Run fault) read = SaysOfReading fault read
 
 -- a text with this fault isn't drawn: that ends with the fault, unless memory ran out
-abbrev pub EndsPicture : RunFault → Result (Unit {0}) ChartFault → Type 0
+abbrev pub EndsPicture : {Y : Type 0} → RunFault → Result Y ChartFault → Type 0
 EndsPicture fault result = IsErrAnd result (λ e. (e ≡ Run fault) ⊎ (e ≡ Run Memory))

@@ -1,12 +1,13 @@
 //! A scenario file is run, and its story is told.
 
-ghost use Rattle.std.specs.Prelude.{◌≡◌, ◌≢◌, Err, IfErr, IfOk, IsErr, OnOk, map};
+ghost use Rattle.std.specs.Prelude.{◌≡◌, ◌≢◌, ◌⊎◌, Err, IfErr, IfOk, IsErr, IsErrAnd, OnOk, map};
 ghost use Rattle.std.specs.Io.KnownBytes.{Keeps};
 ghost use Rattle.std.specs.String.{string_bytes};
-ghost use Rattle.xa_display.specs.Shows.{TellsRun};
+ghost use Rattle.xa_display.specs.Shows.{IsStoryOfRun, TellsRun};
 ghost use Rattle.xa_files.specs.Reading.{EndsWith, SaysOfReading};
 ghost use Rattle.xa_files.specs.declared.fault.RunFault.{RunFault};
 ghost use Rattle.xa_files.specs.declared.fault.RunFault.TheVariants.{Work};
+ghost use Rattle.xa_files.specs.declared.fault.RunFault.TheVariants as Faults;
 ghost use Rattle.xa_scenario_file.specs.Scenarios.{scenario_of};
 ghost use Rattle.xa_story.specs.Stories.{IsStory};
 
@@ -42,11 +43,28 @@ pub fn explain_scenario<L: DecisionLog + Drop, W: Write>(
     ensures unwritten { IsErr (scenario_of text.now)
         → Keeps (W.contents out.old) (W.contents out.new) }
 {
+    let story = story_of_run(alloc, text, log)?;
+    write_text(story.as_bytes(), out)
+}
+
+/// The story of a run of a scenario file over a log.
+fn story_of_run<L: DecisionLog + Drop>(
+    alloc: Global,
+    text: &[u8],
+    log: L,
+) -> Result<String, RunFault>
+    ensures told { IfOk result (λ story. IsStoryOfRun L.moment log text.now
+        (string_bytes story)) }
+    ensures fault { IfErr result (λ e. SaysOfReading e (scenario_of text.now)) }
+    ensures work { IfErr result (λ e. e ≢ Work) }
+    ensures refused { (e : RunFault) → scenario_of text.now ≡ Err e
+        → IsErrAnd result (λ found. (found ≡ e) ⊎ (found ≡ Faults.Memory)) }
+{
     let named = read_named_scenario(alloc, text)?;
     let system = system_after(alloc, &named.scenario, log)?;
     let fates = system.report(alloc)?;
     let story = story_of(alloc, &named.names, system.trace(), &fates)?;
-    write_text(story.as_bytes(), out)
+    Ok(story)
 }
 
 /// The story of some events, and of what became of the branches.

@@ -4,7 +4,7 @@ ghost use Rattle.std.specs.Prelude.{◌≡◌, Err, IfErr, IfOk, IsErr, OnOk, le
 ghost use Rattle.std.specs.Io.KnownBytes.{Keeps};
 ghost use Rattle.std.specs.String.{string_bytes};
 ghost use Rattle.xa_chart.specs.Pictures.{IsPicture};
-ghost use Rattle.xa_display.specs.Shows.{DrawsRun, EndsPicture, ExplainsPicture, IsTooLong};
+ghost use Rattle.xa_display.specs.Shows.{DrawsRun, EndsPicture, ExplainsPicture, IsPictureOfRun, IsTooLong};
 ghost use Rattle.xa_display.specs.declared.picture.ChartFault.TheVariants.{Run, TooLong};
 ghost use Rattle.xa_display.specs.declared.picture.ChartFault.TheVariants as ChartFaults;
 ghost use Rattle.xa_files.specs.declared.fault.RunFault.{RunFault};
@@ -71,6 +71,23 @@ pub fn draw_scenario<L: DecisionLog + Drop, W: Write>(
         → Keeps (W.contents out.old) (W.contents out.new) }
     ensures long { result ≡ Err TooLong → Keeps (W.contents out.old) (W.contents out.new) }
 {
+    let picture = picture_of_run(alloc, text, log)?;
+    write_text(picture.as_bytes(), out)?;
+    Ok(())
+}
+
+/// The picture of a run of a scenario file over a log.
+fn picture_of_run<L: DecisionLog + Drop>(
+    alloc: Global,
+    text: &[u8],
+    log: L,
+) -> Result<String, ChartFault>
+    ensures drawn { IfOk result (λ picture. IsPictureOfRun L.moment log text.now
+        (string_bytes picture)) }
+    ensures too_long { result ≡ Err TooLong → IsTooLong L.moment log text.now }
+    ensures fault { IfErr result (λ e. ExplainsPicture e (scenario_of text.now)) }
+    ensures refused { (e : RunFault) → scenario_of text.now ≡ Err e → EndsPicture e result }
+{
     let named = read_named_scenario(alloc, text)?;
     let system = system_after(alloc, &named.scenario, log)?;
     let events = system.trace();
@@ -78,8 +95,7 @@ pub fn draw_scenario<L: DecisionLog + Drop, W: Write>(
         return Err(ChartFault::TooLong);
     }
     let picture = picture_of(alloc, &named, events)?;
-    write_text(picture.as_bytes(), out)?;
-    Ok(())
+    Ok(picture)
 }
 
 /// The picture of the events of a scenario.
