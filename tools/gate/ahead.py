@@ -14,6 +14,7 @@ PROVED, KEPT = re.compile(r"rt: (\w+) proved$"), re.compile(r"rt: (\w+) is kept:
 class Ahead:
     """The last crates rest on one another, and rt ci leaves processors idle while it proves them. Meanwhile the edits of the crates
     before them are tried, at the lowest priority: of those that this run proves, and of those that are left though rt ci has kept them.
+    Those of a crate that all others wait for are tried beside its proof (first): if that fails, so does the gate.
     tools/edits keeps what is refused, and counts it when it is run over all. Those that are under way when rt ci ends go on, no longer at the
     lowest priority: it waits for them, crate by crate.
 
@@ -23,8 +24,8 @@ class Ahead:
     # One is begun where there is room for it and for one proof more; all are ended where less than this is left.
     LEAST = 2_000_000_000
 
-    def __init__(self, tool, running, left, looks=5, busy=None, free=free_bytes):
-        self.tool, self.running, self.left, self.crates, self.runs = tool, running, left, deque(), {}
+    def __init__(self, tool, running, left, looks=5, busy=None, free=free_bytes, first=()):
+        self.tool, self.running, self.left, self.crates, self.runs = tool, running, left, deque(first), {}
         self.looks, self.busy, self.free = looks, busy or Busy(), free
         self.ends = threading.Event()
         self.thread = threading.Thread(target=self.work, daemon=True)

@@ -16,10 +16,10 @@ EDITS = {
     "xa_sql_log": 470,
     "xa_server": 340,
     "xa_scenario": 315,
-    "xa_display": 265,
     "xa_system": 250,
     "xa_workers": 240,
     "xa_commands": 215,
+    "xa_display": 160,
 }
 # Minutes at the end, in which processors are idle: where the program is built anew, and where all is kept.
 LAST, LAST_KEPT = 5, 1
