@@ -47,7 +47,10 @@ class Ahead:
             self.crates.extendleft(reversed(self.runs))
             self.end_runs()
         elif self.crates and self.has_room():
-            self.begin(self.crates.popleft())
+            crate = self.crates.popleft()
+            # Those of the first may be under way when rt ci says that it is kept.
+            if crate not in self.runs:
+                self.begin(crate)
 
     def has_room(self):
         is_idle = self.busy() < processors() - 0.5
