@@ -1,5 +1,31 @@
-# Commits a second of the decision log, in memory and in a file, beside the C library sqlite3 with the same rows, and beside
-# programs that do a part of it and of which nothing is proved.
+# Commits a second of the decision log, in a file in memory and on a disk, beside the C library sqlite3 with the same rows, and beside
+# a program that does a part of it and of which nothing is proved.
+
+# How many transactions are decided, and how often. They aren't done, so their rows stay.
+decided=499
+times=10
+
+# decided_with OUTCOME FOLDER: the microseconds of as many runs of the scenario, each over a new log in the folder.
+decided_with() {
+    micros=0
+    time=1
+    while [ "$time" -le "$times" ]; do
+        mkdir "$2/logs"
+        took=$(micros crates/xatm/out/xatm run --log "$2/logs/log.db" "$work/$1.toml")
+        micros=$((micros + took))
+        rm -r "$2/logs"
+        time=$((time + 1))
+    done
+    echo "$micros"
+}
+
+# ours PLACE FOLDER: how many commits a second the log takes. The same transactions that are rolled back write nothing to it: so what they
+# take less is the log's time.
+ours() {
+    with=$(decided_with commit "$2")
+    without=$(decided_with rollback "$2")
+    echo "$1|ours|$((decided * times * 1000000 / (with - without)))"
+}
 
 # by_place WHO FILE: the figures of a program that tells its commits a second, and where.
 by_place() {
@@ -7,30 +33,35 @@ by_place() {
         / commits a second in a file$/ { print "in a file|" who "|" $1 }' "$2"
 }
 
-# commits WHO COMMAND..: the figures of a command that commits, in a new file.
-commits() {
-    who=$1
-    shift
-    mkdir "$work/logs"
-    "$@" "$work/logs/log.db" > "$work/commits"
-    rm -r "$work/logs"
-    by_place "$who" "$work/commits"
-}
-
 figures() {
-    commits ours crates/benches/out/benches log time
-    if [ "$sides" = 2 ]; then commits "sqlite3 in C" "$work/sqlite3_commits"; fi
-    commits "the crate sqlite alone" crates/benches/out/benches sql time
+    if [ "$in_memory" ]; then ours "in memory" "$in_memory"; fi
+    ours "in a file" "$work"
     if [ "$sides" = 2 ]; then
+        mkdir "$work/logs"
+        "$work/sqlite3_commits" "$work/logs/log.db" > "$work/commits"
+        rm -r "$work/logs"
+        by_place "sqlite3 in C" "$work/commits"
         echo "in a file|the disk alone|$(disk_rate)"
     fi
 }
 
 on_disk
-build benches
+./xatm --help > /dev/null
+in_memory=
+count=1
+if has "a file system in memory at /dev/shm" mount sh -c 'df -T /dev/shm | grep tmpfs && test -w /dev/shm'; then
+    in_memory=$(mktemp -d -p /dev/shm)
+    trap 'rm -rf "$work" "$in_memory"' EXIT
+    count=2
+fi
+for outcome in commit rollback; do
+    awk -v events=10000 -v undone=1 -v outcome="$outcome" -f bench/scenario.awk > "$work/$outcome.toml"
+    crates/xatm/out/xatm run --trace "$work/$outcome.toml" > "$work/printed"
+    [ "$(grep -c ' decided$' "$work/printed")" = "$decided" ] || stop "the scenario doesn't decide $decided transactions"
+done
 if has "the C compiler cc" gcc command -v cc &&
     has "the header sqlite3.h" libsqlite3-dev sh -c 'echo "#include <sqlite3.h>" | cc -E -'; then
     cc -O2 -o "$work/sqlite3_commits" bench/sqlite3_commits.c -lsqlite3
     sides=2
 fi
-show $((4 + 3 * (sides - 1))) "commits a second"
+show $((count + 3 * (sides - 1))) "commits a second"

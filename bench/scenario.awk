@@ -1,5 +1,5 @@
 # Writes a scenario of so many events (-v events=10000): two-phase commits at two resource managers, one after the other. Each
-# xa_ call is one entry, or three where -v single=1.
+# xa_ call is one entry, or three where -v single=1. With -v undone=1 the transactions are decided and no more, to what -v outcome says.
 
 function entry(text) { print "    { " text " }," }
 
@@ -23,18 +23,21 @@ function calls_both(xa, more) {
 
 BEGIN {
     left = events
+    if (!outcome) outcome = "commit"
     print "threads = 1\nrms = 2\nstep = ["
     calls_both("xa_open", "")
-    while (left >= 27) {
+    while (left >= (undone ? 20 : 27)) {
         tx = ", tx = \"t" ++count "\""
         entry("do = \"begin\", thread = 0" tx)
         calls_both("xa_start", tx)
         calls_both("xa_end", tx ", flags = [\"TMSUCCESS\"]")
         calls_both("xa_prepare", tx)
-        entry("do = \"decide\"" tx ", outcome = \"commit\"")
+        entry("do = \"decide\"" tx ", outcome = \"" outcome "\"")
+        left -= 2
+        if (undone) continue
         calls_both("xa_commit", tx)
         entry("do = \"done\"" tx)
-        left -= 3
+        left--
     }
     for (; left > 0; left--) entry("do = \"hear\", thread = 0, rm = 0")
     print "]"

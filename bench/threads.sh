@@ -1,7 +1,6 @@
 # Two-phase commits a second of `xatm threads --log` over a new log in a file, with the start of the program and the reading of
 # the jobs, beside Bitronix with its journal on the same disk. Both force each decision to the disk. Below stands the same with
-# the log in memory, and what of the log programs do of which nothing is proved, where each transaction of the database has a
-# decision of each thread: one that makes the file and closes it too, and one without that.
+# the log in memory, and what the disk alone takes, where each write has a decision of each thread.
 
 # rate_of COMMAND..: how many of the jobs a second the command makes, with its start and its end.
 rate_of() {
@@ -27,16 +26,7 @@ figures() {
         ours=$(rate_of crates/xatm/out/xatm threads "$work/$threads.toml")
         all_committed
         echo "threads: $threads|ours, log in memory|$ours"
-        mkdir "$work/log"
-        alone=$(rate_of crates/benches/out/benches sql whole "$work/log/log.db" "$threads")
-        rm -r "$work/log"
-        echo "threads: $threads|sqlite alone, file made|$alone"
     done
-    mkdir "$work/log"
-    crates/benches/out/benches sql groups "$work/log/log.db" > "$work/printed"
-    rm -r "$work/log"
-    awk '/ decisions a second, [0-9]+ a transaction$/ { print "threads: " $(NF - 2) "|the crate sqlite alone|" $1 }' \
-        "$work/printed"
     if [ "$compiled" = 1 ]; then
         rate=$(disk_rate)
         for threads in 1 2 4 8; do echo "threads: $threads|the disk alone|$((threads * rate))"; done
@@ -45,7 +35,6 @@ figures() {
 
 on_disk
 ./xatm --help > /dev/null
-build benches
 . bench/bitronix.sh
 compiled=0
 if has "the C compiler cc" gcc command -v cc; then compiled=1; fi
@@ -57,4 +46,4 @@ for threads in 1 2 4 8; do
 votes = ["ok", "ok"]' | head -n $((2 * jobs))
     } > "$work/$threads.toml"
 done
-show $((16 + 6 * (sides - 1) + 4 * compiled)) "two-phase commits a second, log in a file"
+show $((8 + 6 * (sides - 1) + 4 * compiled)) "two-phase commits a second, log in a file"

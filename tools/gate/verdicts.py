@@ -14,6 +14,8 @@ GONE, UNSURE = "NOT SHOWN", "NOT TRIED"
 NO_LONGER = " (its answer no longer fits)"
 # How many answers that don't fit are asked of, and how often they are left out, each time those just found.
 TIMES = 4
+# Where so few edits name a goal, both is asked of it in one check: a second one for them alone takes longer than a copy does.
+FEW = 3
 
 
 class Seat:
@@ -75,25 +77,28 @@ class Question(Seat):
 
 class Inquiry:
     """What is asked of an edit until something refuses it: an open goal without an answer; or a goal whose answer is false, and which
-    is open without that too. Which one that is the edit may say (its goal): then both is asked first, one after the other, and all else only if
-    that doesn't refuse it."""
+    is open without that too. Which one that is the edit may say (its goal): then both is asked first, one after the other or in one check
+    (at_once), and all else only if that doesn't refuse it."""
 
     ALL = (None, True)
 
-    def __init__(self, edit, symbol, prover):
+    def __init__(self, edit, symbol, prover, at_once=False):
         self.edit, self.symbol, self.prover = edit, symbol, prover
         self.can_be_copied = prover.can_copy(edit.function)
         # What the next check is to ask, by goal and whether it has its answer; and which answers are false, once all goals were asked of.
         self.left, self.false = [(edit.goal, False) if edit.goal else self.ALL], None
+        if edit.goal and at_once and self.can_be_copied:
+            self.left.append((edit.goal, True))
 
     def is_settled(self):
         return bool(self.edit.kind) or not self.left
 
     def hear(self, question, trial):
         """Judges the edit by the open goals of its own function, or says what is to be asked next."""
-        if self.is_settled():
-            return
         place, goal, opened = question.place, question.goal, []
+        # What was asked in vain, as if an answer is false of a goal that is proved without it.
+        if self.is_settled() or (goal, question.has_answer) not in self.left:
+            return
         self.left.remove((goal, question.has_answer))
         for report, goals in own_goals(place, trial.found):
             file, names = answers_of(report.name), [it.name for it in goals]
@@ -162,10 +167,11 @@ def try_together(edits, prover):
     """Tries edits by checks of many, as long as there is something to ask. Yields those that a check has just settled, and returns those
     that are to be tried alone."""
     inquiries, left = [], []
+    at_once = sum(bool(it.goal) for it in edits) <= FEW
     for it in edits:
         symbol = prover.symbol(it)
         if symbol:
-            inquiries.append(Inquiry(it, symbol, prover))
+            inquiries.append(Inquiry(it, symbol, prover, at_once))
         else:
             left.append(it)
     # First those that are asked of again, which then stand in the same places: there a check begins with what the one before it kept.
