@@ -8,6 +8,8 @@
 #[cfg(test)]
 mod commands;
 #[cfg(test)]
+mod disks;
+#[cfg(test)]
 mod memory;
 #[cfg(test)]
 mod over_files;

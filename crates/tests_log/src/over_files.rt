@@ -1,11 +1,11 @@
 //! Logs in files in memory, which stop and which a crash leaves. What is done over a log is proved once for all logs: it names no
 //! store, and one function hands it a log in files.
 
+use crate::disks::{Stops, StopsAfter, blank, crashed, log_over, stopping};
 use sqlite::{FileStore, Files};
 use std::alloc::Global;
 use std::process::Abort;
 use std::test::Fail;
-use tests_disks::{Stops, StopsAfter, blank, crashed, log_over, stopping};
 use xa_log::{DecisionLog, MemLog};
 use xa_sql_log::SqlLog;
 

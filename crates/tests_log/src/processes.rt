@@ -5,6 +5,7 @@ mod chance;
 mod moves;
 mod told;
 
+use crate::disks::Stops;
 use crate::over_files::{Crashes, OverLog, over_stopping_files};
 use crate::processes::chance::Chance;
 use crate::processes::moves::{Notes, Player};
@@ -13,7 +14,6 @@ use crate::systems::{new_system, resumed_system, taken_log, takes_log};
 use std::alloc::Global;
 use std::process::Abort;
 use std::test::Fail;
-use tests_disks::Stops;
 use xa_base::{Side, Step};
 use xa_log::MemLog;
 use xa_rm::MemRm;

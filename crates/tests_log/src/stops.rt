@@ -1,14 +1,14 @@
 //! What a stop at each call of the one file leaves: of tables that are made or migrated, and of each call that changes a log.
 
+use crate::disks::{
+    BLANK, Change, EMPTY, MIGRATED, OLD, Reached, Seen, Stops, StopsAfter, VERSION_1, blank,
+    crash_after, files_after, run_in, stopping,
+};
 use sqlite::Files;
 use sqlite_disk::{Fuse, Memory};
 use std::alloc::Global;
 use std::process::Abort;
 use std::test::Fail;
-use tests_disks::{
-    BLANK, Change, EMPTY, MIGRATED, OLD, Reached, Seen, Stops, StopsAfter, VERSION_1, blank,
-    crash_after, files_after, run_in, stopping,
-};
 use xa_log::LogFault;
 
 /// What a log holds before a change: the transaction (1, 1) with one participant, and a heuristic end.

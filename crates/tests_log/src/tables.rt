@@ -1,11 +1,11 @@
 //! A log in the tables of a database, whose files are in memory.
 
 use crate::commands::{FIRST, answers_each_call, contains, participants, rows};
+use crate::disks::{Change, blank, files_after, run_in};
 use crate::over_files::{Crashes, OverLog, over_files};
 use std::alloc::Global;
 use std::process::Abort;
 use std::test::Fail;
-use tests_disks::{Change, blank, files_after, run_in};
 use xa_log::{DecisionLog, LogFault};
 
 /// Whether a log tells a thread that doesn't fit, wherever it reads the row, and nothing else.

@@ -1,8 +1,8 @@
 //! The tables of a log that a log refuses.
 
+use crate::disks::{Reached, VERSION_1, blank, files_after, look_in, run_in};
 use std::alloc::Global;
 use std::test::Fail;
-use tests_disks::{Reached, VERSION_1, blank, files_after, look_in, run_in};
 use xa_log::LogFault;
 
 /// Whether a log refuses the files of this version in which this statement has run, as of a version that isn't known, and they stay

@@ -40,4 +40,6 @@ mod systems;
 #[cfg(test)]
 mod words;
 #[cfg(test)]
+mod workers;
+#[cfg(test)]
 mod writers;

@@ -3,23 +3,9 @@
 use std::alloc::{AllocError, Global};
 use xa_base::{Answer, Call, Reply};
 
-fn name(call: &Call) -> &'static str {
-    match call {
-        Call::OpenRm => "xa_open",
-        Call::CloseRm => "xa_close",
-        Call::Start { .. } => "xa_start",
-        Call::End { .. } => "xa_end",
-        Call::Prepare { .. } => "xa_prepare",
-        Call::Commit { .. } => "xa_commit",
-        Call::Rollback { .. } => "xa_rollback",
-        Call::Forget { .. } => "xa_forget",
-        Call::Recover { .. } => "xa_recover",
-    }
-}
-
 /// A call and the number of its answer; behind that of a page the branches that it lists.
 fn answered(alloc: Global, how: &str, call: &Call, answer: &Answer) -> Result<String, AllocError> {
-    let mut text = format!(in alloc; "{how} {} {}", name(call), answer.number())?;
+    let mut text = format!(in alloc; "{how} {} {}", call.kind().name(), answer.number())?;
     if let Answer::Page(page) = answer {
         for branch in page.xids().iter().filter_map(|xid| xid.branch()) {
             let g = branch.gtrid;

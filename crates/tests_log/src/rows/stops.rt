@@ -1,5 +1,6 @@
 //! Each row, with a stop at each call of either file.
 
+use crate::disks::Stops;
 use crate::over_files::{Crashes, OverLog, over_stopping_files};
 use crate::rows::act::meets_stop;
 use crate::rows::recovery::{count_of, end_as_the_log_says};
@@ -11,7 +12,6 @@ use crate::systems::{new_system, taken_log, takes_log};
 use std::alloc::Global;
 use std::process::Abort;
 use std::test::Fail;
-use tests_disks::Stops;
 use xa_base::{Fate, How, Reply, Side, Step};
 use xa_log::DecisionLog;
 use xa_rm::MemRm;

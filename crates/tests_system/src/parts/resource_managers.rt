@@ -54,7 +54,7 @@ fn asks(rt: &impl Abort, rm: &mut MemRm, calls: &[Asked]) -> Result<(), Fail> {
             Ok(call) => rm.apply(0, &call)?,
             Err(code) => Answer::Ret(code),
         };
-        assert!(rt; answer.number() == *number, "{kind:?} {xid}: not {number}");
+        assert!(rt; answer.number() == *number);
     }
     Ok(())
 }
@@ -70,8 +70,8 @@ fn scans(rt: &impl Abort, alloc: Global, rm: &mut MemRm, pages: &[Scanned]) -> R
                 text.push_str(" ")?;
             }
         }
-        assert!(rt; answer.number() == *number, "{count} {flags}: not {number}");
-        assert!(rt; text.trim() == *listed, "{count} {flags}: {text}");
+        assert!(rt; answer.number() == *number);
+        assert!(rt; text.trim() == *listed);
     }
     Ok(())
 }
@@ -158,7 +158,7 @@ fn scans_while_branches_change(rt: HostRuntime) -> Result<(), Fail> {
         (B, Fate::Committed),
         (D, Fate::Prepared),
     ] {
-        assert!(rt; rm.fate(&Xid::parse(xid)?) == fate, "{xid}");
+        assert!(rt; rm.fate(&Xid::parse(xid)?) == fate);
     }
     Ok(())
 }

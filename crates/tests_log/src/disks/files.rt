@@ -1,7 +1,7 @@
 //! The two files of a log: a log over them, and what is done over a connection to them, which is closed then.
 
-use crate::seen::Seen;
-use crate::task::{Change, Done, Reached, Task, perform};
+use crate::disks::seen::Seen;
+use crate::disks::task::{Change, Done, Reached, Task, perform};
 use sqlite::{Connection, FileStore, Files, Options};
 use sqlite_disk::{Crash, Disk};
 use std::alloc::Global;
@@ -41,7 +41,7 @@ fn perform_in<D: Disk + Drop>(alloc: Global, files: Files<D>, task: Task<'_>) ->
 }
 
 /// The files once these statements have run. It is an `Err` where they don't open, or a statement is refused.
-pub fn files_after<D: Disk + Drop>(
+pub(crate) fn files_after<D: Disk + Drop>(
     alloc: Global,
     files: Files<D>,
     sql: &str,
@@ -53,7 +53,7 @@ pub fn files_after<D: Disk + Drop>(
 }
 
 /// What the tables in the files hold, and the files. It is an `Err` where they don't open.
-pub fn look_in<D: Disk + Drop>(
+pub(crate) fn look_in<D: Disk + Drop>(
     alloc: Global,
     files: Files<D>,
 ) -> Result<(Seen, Files<D>), LogFault> {
@@ -64,7 +64,7 @@ pub fn look_in<D: Disk + Drop>(
 }
 
 /// How far a log comes that takes the files and makes the change, if there is one, and the files.
-pub fn run_in<D: Disk + Drop>(
+pub(crate) fn run_in<D: Disk + Drop>(
     alloc: Global,
     files: Files<D>,
     change: Option<Change>,
@@ -76,14 +76,14 @@ pub fn run_in<D: Disk + Drop>(
 }
 
 /// The files as a crash leaves them.
-pub fn crashed<D: Crash + Drop>(mut files: Files<D>) -> Files<D> {
+pub(crate) fn crashed<D: Crash + Drop>(mut files: Files<D>) -> Files<D> {
     files.log.crash();
     files.db.crash();
     files
 }
 
 /// How far a run comes, what a crash after it leaves, and what the next log makes of that.
-pub fn crash_after<D: Crash + Drop>(
+pub(crate) fn crash_after<D: Crash + Drop>(
     alloc: Global,
     files: Files<D>,
     change: Option<Change>,
@@ -97,7 +97,10 @@ pub fn crash_after<D: Crash + Drop>(
 
 /// A log over the files, where they open and it can make its tables. With little room in the journal, so that the database file
 /// is written too.
-pub fn log_over<D: Disk + Drop>(alloc: Global, files: Files<D>) -> Option<SqlLog<FileStore<D>>> {
+pub(crate) fn log_over<D: Disk + Drop>(
+    alloc: Global,
+    files: Files<D>,
+) -> Option<SqlLog<FileStore<D>>> {
     if !files.may_be_used() {
         return None;
     }

@@ -1,7 +1,7 @@
 //! Runs whose gates hold workers back: that they work side by side, and in which order decisions and sweeps come.
 
-use crate::gates::{After, Closed, Lagging, Meeting};
-use crate::plans::{YES, end_at, fault_of, four_jobs, jobs, run, swept};
+use crate::workers::gates::{After, Closed, Lagging, Meeting};
+use crate::workers::plans::{YES, end_at, fault_of, four_jobs, jobs, run, swept};
 use std::alloc::Global;
 use std::process::Abort;
 use std::sync::Wait;

@@ -1,5 +1,5 @@
 use Rattle.std.proofs.Common.{◌≡◌}
-use Rattle.tests_workers.proofs.board.go_over.Given as goal
+use Rattle.tests_system.proofs.workers.board.go_over.Given as goal
 
 abbrev pub invariant-loop-slot : goal.invariant-loop-slot
 invariant-loop-slot l = l.seat.board ≡ l.board.table

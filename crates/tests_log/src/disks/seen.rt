@@ -3,7 +3,7 @@
 use sqlite::{Alter, Connection};
 
 /// A log of version 1 in its first incarnation, with the transaction (1, 1) and a branch of (1, 2).
-pub const VERSION_1: &str = "BEGIN; \
+pub(crate) const VERSION_1: &str = "BEGIN; \
     CREATE TABLE tm_meta (k INTEGER PRIMARY KEY CHECK (k = 1), version INTEGER NOT NULL, \
     incarnation INTEGER NOT NULL); \
     CREATE TABLE decision (inc INTEGER NOT NULL, seq INTEGER NOT NULL, PRIMARY KEY (inc, seq)); \
@@ -18,7 +18,7 @@ pub const VERSION_1: &str = "BEGIN; \
 /// The tables of a database, and how many rows they have. Of decisions and heuristics only the rows of `VERSION_1` count, and any
 /// other row counts as -1.
 #[derive(Clone, Copy, PartialEq, Eq)]
-pub struct Seen {
+pub(crate) struct Seen {
     pub tables: i64,
     pub version: i64,
     pub incarnation: i64,
@@ -27,7 +27,7 @@ pub struct Seen {
     pub participants: i64,
 }
 
-pub const BLANK: Seen = Seen {
+pub(crate) const BLANK: Seen = Seen {
     tables: 0,
     version: 0,
     incarnation: 0,
@@ -37,14 +37,14 @@ pub const BLANK: Seen = Seen {
 };
 
 /// A new log.
-pub const EMPTY: Seen = Seen {
+pub(crate) const EMPTY: Seen = Seen {
     tables: 4,
     version: 2,
     ..BLANK
 };
 
 /// The log of `VERSION_1`.
-pub const OLD: Seen = Seen {
+pub(crate) const OLD: Seen = Seen {
     tables: 3,
     version: 1,
     incarnation: 1,
@@ -54,7 +54,7 @@ pub const OLD: Seen = Seen {
 };
 
 /// The same log once it is migrated.
-pub const MIGRATED: Seen = Seen {
+pub(crate) const MIGRATED: Seen = Seen {
     tables: 4,
     version: 2,
     ..OLD
@@ -69,7 +69,7 @@ fn number<S: Alter>(conn: &mut Connection<S>, sql: &str) -> i64 {
 }
 
 /// What a connection shows.
-pub fn look<S: Alter>(conn: &mut Connection<S>) -> Seen {
+pub(crate) fn look<S: Alter>(conn: &mut Connection<S>) -> Seen {
     Seen {
         tables: number(
             conn,

@@ -1,7 +1,7 @@
 //! Runs over logs that fail.
 
-use crate::gates::Counting;
-use crate::plans::{YES, fault_of, four_jobs, jobs};
+use crate::workers::gates::Counting;
+use crate::workers::plans::{YES, fault_of, four_jobs, jobs};
 use std::sync::atomic::Ordering;
 use std::test::Fail;
 use xa_log::{FailLog, FailPlan, LogCall, MemLog};

@@ -3,7 +3,7 @@
 ghost use Rattle.std.specs.Prelude.{◌≡◌, ◌≤◌};
 ghost use Rattle.xa_log.specs.Contract.{FitsRow};
 
-use crate::seen::{Seen, look};
+use crate::disks::seen::{Seen, look};
 use sqlite::{Alter, Connection};
 use xa_base::{Branch, Gtrid, How};
 use xa_log::{DecisionLog, LogFault};
@@ -11,7 +11,7 @@ use xa_sql_log::SqlLog;
 
 /// A call that changes the log.
 #[derive(Clone, Copy)]
-pub enum Change {
+pub(crate) enum Change {
     Commit,
     Done,
     Note,
@@ -20,7 +20,7 @@ pub enum Change {
 
 /// How far a run of a log came.
 #[derive(Clone, Copy)]
-pub enum Reached {
+pub(crate) enum Reached {
     /// The files did not open.
     Nothing,
     /// The log refused them.

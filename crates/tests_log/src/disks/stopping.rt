@@ -6,7 +6,7 @@ use std::alloc::Global;
 use std::io;
 
 /// A disk that can be made to stop.
-pub trait StopsAfter: Crash + Drop + Sized {
+pub(crate) trait StopsAfter: Crash + Drop + Sized {
     /// A disk with the same bytes, all of them written for good, which stops after so many calls.
     fn after(&self, alloc: Global, calls: u64) -> io::Result<Self>;
 }
@@ -22,13 +22,13 @@ impl StopsAfter for Fuse<Memory> {
 
 /// Which of the two files stops.
 #[derive(Clone, Copy)]
-pub enum Stops {
+pub(crate) enum Stops {
     Journal,
     Database,
 }
 
 /// Empty files, of which none stops.
-pub fn blank(alloc: Global) -> Files<Fuse<Memory>> {
+pub(crate) fn blank(alloc: Global) -> Files<Fuse<Memory>> {
     Files {
         log: Fuse::new(Memory::new(alloc), u64::MAX),
         db: Fuse::new(Memory::new(alloc), u64::MAX),
@@ -36,7 +36,7 @@ pub fn blank(alloc: Global) -> Files<Fuse<Memory>> {
 }
 
 /// The same files, all of which is on the disk, of which the one stops after so many calls.
-pub fn stopping<D: StopsAfter>(
+pub(crate) fn stopping<D: StopsAfter>(
     alloc: Global,
     files: &Files<D>,
     which: Stops,

@@ -1,8 +1,8 @@
 //! How jobs end, and what the log then has.
 ghost use Rattle.std.specs.Prelude.{◌<◌};
 
-use crate::gates::Counting;
-use crate::plans::{
+use crate::workers::gates::Counting;
+use crate::workers::plans::{
     NO, READ_ONLY, YES, are_fates, branch, end_at, fault_of, four_jobs, gtrid, jobs, push_job, run,
     swept,
 };

@@ -1,7 +1,7 @@
 //! Runs over a log that lists what no log lists, or that fails late.
 
-use crate::gates::Counting;
-use crate::plans::{YES, branch, fault_of, four_jobs, gtrid, jobs};
+use crate::workers::gates::Counting;
+use crate::workers::plans::{YES, branch, fault_of, four_jobs, gtrid, jobs};
 use std::alloc::{AllocError, Global};
 use std::sync::atomic::Ordering;
 use std::test::Fail;
@@ -48,7 +48,7 @@ impl Unlawful {
 }
 
 impl DecisionLog for Unlawful {
-    ghost use Rattle.tests_workers.specs.Unlawful.{unlawful};
+    ghost use Rattle.tests_system.specs.Unlawful.{unlawful};
 
     ghost moment = { λ log. unlawful log.faults };
 
