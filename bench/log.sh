@@ -7,16 +7,16 @@ times=10
 
 # decided_with OUTCOME FOLDER: the microseconds of as many runs of the scenario, each over a new log in the folder.
 decided_with() {
-    micros=0
+    sum=0
     time=1
     while [ "$time" -le "$times" ]; do
         mkdir "$2/logs"
         took=$(micros crates/xatm/out/xatm run --log "$2/logs/log.db" "$work/$1.toml")
-        micros=$((micros + took))
+        sum=$((sum + took))
         rm -r "$2/logs"
         time=$((time + 1))
     done
-    echo "$micros"
+    echo "$sum"
 }
 
 # ours PLACE FOLDER: how many commits a second the log takes. The same transactions that are rolled back write nothing to it: so what they
@@ -27,20 +27,22 @@ ours() {
     echo "$1|ours|$((decided * times * 1000000 / (with - without)))"
 }
 
-# by_place WHO FILE: the figures of a program that tells its commits a second, and where.
-by_place() {
-    awk -v who="$1" '/ commits a second in memory$/ { print "in memory|" who "|" $1 }
-        / commits a second in a file$/ { print "in a file|" who "|" $1 }' "$2"
+# theirs PLACE FOLDER: how many the C library takes there.
+theirs() {
+    [ "$sides" = 2 ] || return 0
+    mkdir "$2/logs"
+    echo "$1|sqlite3 in C|$("$work/sqlite3_commits" "$2/logs/log.db")"
+    rm -r "$2/logs"
 }
 
 figures() {
-    if [ "$in_memory" ]; then ours "in memory" "$in_memory"; fi
+    if [ "$in_memory" ]; then
+        ours "in memory" "$in_memory"
+        theirs "in memory" "$in_memory"
+    fi
     ours "in a file" "$work"
+    theirs "in a file" "$work"
     if [ "$sides" = 2 ]; then
-        mkdir "$work/logs"
-        "$work/sqlite3_commits" "$work/logs/log.db" > "$work/commits"
-        rm -r "$work/logs"
-        by_place "sqlite3 in C" "$work/commits"
         echo "in a file|the disk alone|$(disk_rate)"
     fi
 }
@@ -64,4 +66,4 @@ if has "the C compiler cc" gcc command -v cc &&
     cc -O2 -o "$work/sqlite3_commits" bench/sqlite3_commits.c -lsqlite3
     sides=2
 fi
-show $((count + 3 * (sides - 1))) "commits a second"
+show $((count * sides + sides - 1)) "commits a second"
