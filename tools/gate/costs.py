@@ -8,18 +8,18 @@ from .edits import edits_of
 from .machine import BYTES_A_JOB, jobs_for, processors
 
 # Minutes of one processor, from nothing: of --quick, of what the whole gate does of it, and of all proofs of rt ci with the tests.
-QUICK, QUICK_PART, PROOFS = 15, 2, 155
+QUICK, QUICK_PART, PROOFS = 15, 2, 145
 # Processor seconds of an edit, and of all edits of the crates in which one takes much longer.
 EDIT = 6
 EDITS = {
     "xa_session": 640,
     "xa_sql_log": 470,
     "xa_server": 340,
-    "xa_scenario": 315,
     "xa_system": 250,
     "xa_workers": 240,
-    "xa_commands": 215,
-    "xa_display": 160,
+    "xa_scenario": 235,
+    "xa_commands": 180,
+    "xa_display": 145,
 }
 # Minutes at the end, in which processors are idle: where the program is built anew, and where all is kept.
 LAST, LAST_KEPT = 5, 1
