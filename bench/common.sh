@@ -52,6 +52,11 @@ build() {
     touch "$program"
 }
 
+# build_xatm: proves and builds the program xatm, where it isn't built. With other words ./xatm may do without a proof.
+build_xatm() {
+    ./xatm --is-built || ./xatm --prove >&2
+}
+
 # The temporary folder is to lie on a disk, where a write that is forced costs what it costs.
 on_disk() {
     kind=$(df -T "$work" | awk 'NR == 2 { print $2 }')

@@ -48,7 +48,7 @@ figures() {
 }
 
 on_disk
-./xatm --help > /dev/null
+build_xatm
 in_memory=
 count=1
 if has "a file system in memory at /dev/shm" mount sh -c 'df -T /dev/shm | grep tmpfs && test -w /dev/shm'; then

@@ -36,7 +36,7 @@ figures() {
 }
 
 on_disk
-./xatm --help > /dev/null
+build_xatm
 for events in 10000 2500 5000; do
     awk -v events="$events" -f bench/scenario.awk > "$work/calls.$events.toml"
     awk -v events="$events" -v single=1 -f bench/scenario.awk > "$work/events.$events.toml"

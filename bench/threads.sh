@@ -34,7 +34,7 @@ figures() {
 }
 
 on_disk
-./xatm --help > /dev/null
+build_xatm
 . bench/bitronix.sh
 compiled=0
 if has "the C compiler cc" gcc command -v cc; then compiled=1; fi
