@@ -7,10 +7,18 @@ use crate::commands::{FIRST, answers_each_call};
 use std::alloc::Global;
 use std::test::Fail;
 use xa_log::{Command, FailLog, FailPlan, LogCall, LogFault, MemLog, Told, run_commands};
+use xa_sql_log::SqlLog;
 
 #[test]
 fn answers_each_call_in_memory(rt: HostRuntime) -> Result<(), Fail> {
     let mut log = MemLog::new(rt.alloc());
+    assert!(rt; answers_each_call(&mut log, rt.alloc())?);
+    Ok(())
+}
+
+#[test]
+fn answers_each_call_in_a_database_in_memory(rt: HostRuntime) -> Result<(), Fail> {
+    let mut log = SqlLog::open_in_memory(rt.alloc())?;
     assert!(rt; answers_each_call(&mut log, rt.alloc())?);
     Ok(())
 }
