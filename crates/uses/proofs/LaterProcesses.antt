@@ -14,7 +14,7 @@ use Rattle.xa_model.specs.Protocol.{AllRight, RightOrigin}
 use Rattle.xa_model.specs.Trace.{Origin, Trace}
 use Rattle.xa_system.specs.NextProcess.{Leaves}
 use Rattle.xa_system.specs.SystemView.{AddsSteps, HoldsItsTrace, MayRestart, Observes, SystemView, observes, origin_in, trace_in}
-use Rattle.xa_system.specs.declared.remains.Remains.{Remains}
+use Rattle.xa_system.specs.declared.system.remains.Remains.{Remains}
 use Rattle.xa_system.specs.declared.system.TheConstants.{EVENT_LIMIT}
 use Rattle.xa_tm.specs.Slots.{honest_in, last_out, log_held, slot_moment}
 use Rattle.xa_sql_log.proofs.FoundDecisions.{some_is as there_is}

@@ -13,7 +13,7 @@ use Rattle.xa_model.specs.Replies.History.{AreAllowed, history, read}
 use Rattle.xa_model.specs.Trace.{Answer, Call, Name, Origin, Trace, line}
 use Rattle.xa_system.specs.NextProcess.{Leaves}
 use Rattle.xa_system.specs.SystemView.{MayRestart, Observes, SystemView, trace_in}
-use Rattle.xa_system.specs.declared.remains.Remains.{Remains}
+use Rattle.xa_system.specs.declared.system.remains.Remains.{Remains}
 use Rattle.xa_system.specs.declared.system.TheConstants.{EVENT_LIMIT}
 
 -- ** what a process did

@@ -4,8 +4,11 @@ ghost use Rattle.xa_system.specs.SystemView.{AreClear, IsUnclear};
 ghost use Rattle.xa_tm.specs.StartFaults.{IsToBlame};
 ghost use Rattle.xa_system.specs.declared.system.NewFault.{NewFault};
 
+mod remains;
+
 use crate::parts::Parts;
 use crate::start::start_parts;
+pub use remains::Remains;
 use std::alloc::{AllocError, Global};
 use std::marker::Model;
 use std::snapshot::Snapshot;
@@ -19,7 +22,6 @@ use xa_tm::{Slot, StartFault};
 pub const EVENT_LIMIT: usize = 10_000;
 
 /// All parts in one thread, with the events that leave them where they stand.
-#[derive(Drop)]
 pub struct System<R: ResourceManager + Drop, L: DecisionLog + Drop> {
     /// The log as it was handed in at the start, without a byte.
     pub(crate) first: Snapshot<L>,
@@ -27,6 +29,18 @@ pub struct System<R: ResourceManager + Drop, L: DecisionLog + Drop> {
     pub(crate) handed: Snapshot<L>,
     pub(crate) parts: Parts<R, Slot<L>>,
     pub(crate) events: Vec<Event>,
+}
+
+// It is written out, so that a function that owns a system does not prove again how each part is dropped.
+impl<R: ResourceManager + Drop, L: DecisionLog + Drop> Drop for System<R, L> {
+    fn drop(self) {
+        let System {
+            first: _,
+            handed: _,
+            parts: _,
+            events: _,
+        } = self;
+    }
 }
 
 impl<R: ResourceManager + Drop, L: DecisionLog + Drop> Model for System<R, L> {

@@ -7,8 +7,8 @@ ghost use Rattle.xa_system.specs.NextProcess.{Leaves};
 ghost use Rattle.xa_system.specs.SystemView.{MayRestart, observes, trace_in};
 ghost use Rattle.xa_tm.specs.Slots.{log_held, slot_moment};
 
+use super::System;
 use crate::site::Site;
-use crate::system::System;
 use xa_base::Part;
 use xa_log::DecisionLog;
 use xa_rm::ResourceManager;
@@ -55,7 +55,12 @@ impl<R: ResourceManager + Drop, L: DecisionLog + Drop> System<R, L> {
         let Ok(rms) = Vec::with_capacity(alloc, self.parts.sites.len()) else {
             return Err(self);
         };
-        let parts = self.parts;
+        let System {
+            first: _,
+            handed: _,
+            parts,
+            events: _,
+        } = self;
         let sites = parts.sites;
         let mut manager = parts.manager;
         manager.crash(Part::Manager);

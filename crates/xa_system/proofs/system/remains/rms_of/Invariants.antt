@@ -1,7 +1,7 @@
 use Rattle.std.proofs.Common.{◌≡◌, ◌++◌, map}
 use Rattle.std.specs.Vec.{vec_capacity}
 use Rattle.xa_system.specs.declared.site.Site.{Site}
-use Rattle.xa_system.proofs.remains.rms_of.Given as goal
+use Rattle.xa_system.proofs.system.remains.rms_of.Given as goal
 
 abbrev pub invariant-loop-site : goal.invariant-loop-site
 invariant-loop-site g l =
