@@ -1,8 +1,9 @@
 //! Logs in files in memory, which stop and which a crash leaves. What is done over a log is proved once for all logs: it names no
-//! store, and one function hands it a log in files.
+//! store, and one function hands it a log in any store. That files are a store is proved anew for each call that asks for one, so
+//! that a function makes one such call.
 
 use crate::disks::{Stops, StopsAfter, blank, crashed, log_over, stopping};
-use sqlite::{FileStore, Files};
+use sqlite::{Alter, FileStore, Files};
 use std::alloc::Global;
 use std::process::Abort;
 use std::test::Fail;
@@ -21,9 +22,15 @@ impl Crashes for MemLog {
     }
 }
 
-impl<D: StopsAfter> Crashes for SqlLog<FileStore<D>> {
-    fn reopened(self, alloc: Global, calls: u64) -> Option<SqlLog<FileStore<D>>> {
-        let files = crashed(self.into_connection().into_store().close());
+/// A store in which a crash leaves a log.
+pub(crate) trait LeavesLog: Alter + Drop + Sized {
+    /// The log in the store as a crash leaves that, opened again. It stops after so many calls of its journal.
+    fn log_after_crash(self, alloc: Global, calls: u64) -> Option<SqlLog<Self>>;
+}
+
+impl<D: StopsAfter> LeavesLog for FileStore<D> {
+    fn log_after_crash(self, alloc: Global, calls: u64) -> Option<SqlLog<FileStore<D>>> {
+        let files = crashed(self.close());
         match stopping(alloc, &files, Stops::Journal, calls) {
             Ok(files) => log_over(alloc, files),
             Err(_) => None,
@@ -31,10 +38,28 @@ impl<D: StopsAfter> Crashes for SqlLog<FileStore<D>> {
     }
 }
 
+impl<S: LeavesLog> Crashes for SqlLog<S> {
+    fn reopened(self, alloc: Global, calls: u64) -> Option<SqlLog<S>> {
+        self.into_connection()
+            .into_store()
+            .log_after_crash(alloc, calls)
+    }
+}
+
 /// What is done over a log.
 pub(crate) trait OverLog {
     /// Does it, and keeps what that comes to.
     fn over<L: Crashes>(&mut self, rt: &impl Abort, alloc: Global, log: L) -> Result<(), Fail>;
+}
+
+/// Does it over a log in a store.
+fn over_store<S: LeavesLog, W: OverLog>(
+    rt: &impl Abort,
+    alloc: Global,
+    log: SqlLog<S>,
+    work: &mut W,
+) -> Result<(), Fail> {
+    work.over(rt, alloc, log)
 }
 
 /// Opens a log in files, or makes it, and hands it over. Tells whether there was a log.
@@ -45,7 +70,7 @@ pub(crate) fn over_files<D: StopsAfter, W: OverLog>(
     work: &mut W,
 ) -> Result<bool, Fail> {
     match log_over(alloc, files) {
-        Some(log) => match work.over(rt, alloc, log) {
+        Some(log) => match over_store(rt, alloc, log, work) {
             Ok(()) => Ok(true),
             Err(fail) => Err(fail),
         },

@@ -1,5 +1,6 @@
-//! What is done over any log, and over one in files of any kind. Each step nearer to one kind of file makes a proof several times
-//! as long, so that a function does no more there than to call the one behind it.
+//! What is done over any log, over one in any store, and over one in files of any kind. Each step nearer to one kind of file makes
+//! a proof several times as long, and that files are a store is proved anew for each call that asks for one. So a function does no
+//! more there than to call the one behind it, once.
 
 ghost use Rattle.std.specs.List.{AllByRecursion};
 ghost use Rattle.xa_log.specs.Contract.{FitsRow};
@@ -19,8 +20,18 @@ use xa_log::{DecisionLog, LogFault};
 use xa_restore::{LogLines, restore_log};
 use xa_sql_log::SqlLog;
 
-/// Runs the jobs of a file over a log in files, which is closed then. Tells why the run ended early, or whether the log could be
-/// closed.
+/// Runs the jobs of a file over a log in a store, and gives the log back.
+fn run_jobs_over<S: Alter + Drop, T: Threads + Wait + Clock + Sync, W: Write>(
+    threads: &T,
+    alloc: Global,
+    text: &[u8],
+    log: SqlLog<S>,
+    out: &mut W,
+) -> Result<SqlLog<S>, RunFault> {
+    run_job_file(threads, alloc, text, log, out)
+}
+
+/// The same over a log in files, which is closed then. Tells why the run ended early, or whether the log could be closed.
 pub(crate) fn run_jobs_in_files<D: Disk + Drop, T: Threads + Wait + Clock + Sync, W: Write>(
     threads: &T,
     alloc: Global,
@@ -28,7 +39,7 @@ pub(crate) fn run_jobs_in_files<D: Disk + Drop, T: Threads + Wait + Clock + Sync
     log: SqlLog<FileStore<D>>,
     out: &mut W,
 ) -> Result<Result<(), LogFault>, RunFault> {
-    match run_job_file(threads, alloc, text, log, out) {
+    match run_jobs_over(threads, alloc, text, log, out) {
         Ok(log) => Ok(close_in_files(log)),
         Err(fault) => Err(fault),
     }
@@ -70,12 +81,17 @@ impl OverLog for Spent {
     }
 }
 
+/// Does it over a log in a store, and gives that back.
+fn work_over<S: Alter + Drop, W: OverLog>(log: SqlLog<S>, work: &mut W) -> SqlLog<S> {
+    work.over(log)
+}
+
 /// Does it over a log in files, and closes that.
 pub(crate) fn work_in_files<D: Disk + Drop, W: OverLog>(
     log: SqlLog<FileStore<D>>,
     work: &mut W,
 ) -> Result<(), LogFault> {
-    close_in_files(work.over(log))
+    close_in_files(work_over(log, work))
 }
 
 /// Copies the journal of a log into its file, and closes both.

@@ -1,6 +1,6 @@
 //! Runs of scenarios, over a log in memory and over the log at a path.
 
-use sqlite::FileStore;
+use sqlite::{Alter, FileStore};
 use sqlite_disk::Disk;
 use std::alloc::Global;
 use std::io::Write;
@@ -30,6 +30,17 @@ fn run_over<L: DecisionLog + Drop, W: Write>(
     }
 }
 
+/// The same over a log in a store.
+fn run_in_store<S: Alter + Drop, W: Write>(
+    alloc: Global,
+    texts: &[Vec<u8>],
+    log: SqlLog<S>,
+    with_trace: bool,
+    out: &mut W,
+) -> Result<Option<SqlLog<S>>, FileFault> {
+    run_over(alloc, texts, log, with_trace, out)
+}
+
 /// The same over a log in files, which is closed then. Tells why the run ended early, or whether the log could be closed.
 fn run_in_files<D: Disk + Drop, W: Write>(
     alloc: Global,
@@ -38,7 +49,7 @@ fn run_in_files<D: Disk + Drop, W: Write>(
     with_trace: bool,
     out: &mut W,
 ) -> Result<Result<(), LogFault>, FileFault> {
-    match run_over(alloc, texts, log, with_trace, out) {
+    match run_in_store(alloc, texts, log, with_trace, out) {
         Ok(Some(left)) => Ok(close_in_files(left)),
         Ok(None) => Ok(Ok(())),
         Err(fault) => Err(fault),

@@ -25,8 +25,8 @@ fn perform_over<D: Disk + Drop>(
     conn: Connection<FileStore<D>>,
     task: Task<'_>,
 ) -> (Done, Files<D>) {
-    let (done, conn) = perform(conn, task);
-    (done, conn.into_store().close())
+    let (done, store) = perform(conn, task);
+    (done, store.close())
 }
 
 /// The same over the files. The journal has room for all that the task writes.

@@ -107,7 +107,7 @@ fn run_on<S: Alter + Drop>(
     (reached, log.into_connection())
 }
 
-fn execute<S: Alter + Drop>(mut conn: Connection<S>, sql: &str) -> (Done, Connection<S>) {
+fn execute<S: Alter>(mut conn: Connection<S>, sql: &str) -> (Done, Connection<S>) {
     let done = match conn.execute_batch(sql) {
         Ok(()) => Done::Executed,
         Err(_) => Done::Nothing,
@@ -115,11 +115,14 @@ fn execute<S: Alter + Drop>(mut conn: Connection<S>, sql: &str) -> (Done, Connec
     (done, conn)
 }
 
+/// Does it, and gives the store back.
+pub(crate) fn perform<S: Alter + Drop>(conn: Connection<S>, task: Task<'_>) -> (Done, S) {
+    let (done, conn) = perform_on(conn, task);
+    (done, conn.into_store())
+}
+
 /// Does it, and gives the connection back.
-pub(crate) fn perform<S: Alter + Drop>(
-    mut conn: Connection<S>,
-    task: Task<'_>,
-) -> (Done, Connection<S>) {
+fn perform_on<S: Alter + Drop>(mut conn: Connection<S>, task: Task<'_>) -> (Done, Connection<S>) {
     match task {
         Task::Execute(sql) => execute(conn, sql),
         Task::Look => (Done::Seen(look(&mut conn)), conn),
