@@ -1,33 +1,52 @@
-"""About how long ./check takes here, by the number of processors and by what is kept."""
+"""About how long ./check takes here, by the processors, how many and how fast, and by what is kept."""
 
 import functools
 import os
+import time
 
 from .crates import CACHE, crates_of
 from .edits import edits_of
 from .machine import BYTES_A_JOB, jobs_for, processors
 
+# All that follows was measured on a machine that adds up so many squares in so many seconds.
+SQUARES, SECONDS = 200_000, 0.0115
 # Minutes of one processor, from nothing: of --quick, of what the whole gate does of it, and of all proofs of rt ci with the tests.
-QUICK, QUICK_PART, PROOFS = 15, 2, 145
+QUICK, QUICK_PART, PROOFS = 6, 4, 94
 # Processor seconds of an edit, and of all edits of the crates in which one takes much longer.
-EDIT = 6
+EDIT = 5
 EDITS = {
-    "xa_session": 640,
-    "xa_sql_log": 470,
-    "xa_server": 340,
-    "xa_system": 250,
-    "xa_workers": 240,
-    "xa_scenario": 235,
-    "xa_commands": 180,
-    "xa_display": 145,
+    "xa_session": 372,
+    "xa_sql_log": 261,
+    "xa_server": 202,
+    "xa_system": 182,
+    "xa_workers": 162,
+    "xa_scenario": 124,
+    "xa_commands": 116,
+    "xa_display": 66,
 }
 # Minutes at the end, in which processors are idle: where the program is built anew, and where all is kept.
-LAST, LAST_KEPT = 5, 1
+LAST, LAST_KEPT = 3, 1
 
 
 def seconds_of_edits(crate, count):
     """Of so many of its edits."""
     return EDITS.get(crate.name, EDIT * count)
+
+
+def seconds_of_squares():
+    """In how many seconds of a processor they are added up here: in the shortest of some tries."""
+
+    def once():
+        begun = time.process_time()
+        sum(it * it for it in range(SQUARES))
+        return time.process_time() - begun
+
+    return min(once() for _ in range(5))
+
+
+def slowness():
+    """How many times as long all takes here. On a machine that added up squares in 2.7 times as long, rt ci took 2.1 times as long."""
+    return (1 + 2 * seconds_of_squares() / SECONDS) / 3
 
 
 class Costs:
@@ -45,14 +64,14 @@ class Costs:
         return [it for it in self.crates if not os.path.isfile(f"{CACHE}/passed/{self.sums[it]}")]
 
     def quick(self):
-        minutes = QUICK / jobs_for(BYTES_A_JOB)
+        minutes = QUICK * slowness() / jobs_for(BYTES_A_JOB)
         return f"the quick part is done, and nothing is proved: at most about {self.rounded(minutes)}, {self.on()}"
 
     def whole(self):
         """By the lines of the crates that are left."""
         edits = sum(seconds_of_edits(it, len(edits_of(it)[0])) for it in self.left)
         parts = [self.part(self.left, self.crates) * PROOFS, edits / 60]
-        minutes = (QUICK_PART + sum(parts)) / jobs_for(BYTES_A_JOB) + (LAST if self.left else LAST_KEPT)
+        minutes = ((QUICK_PART + sum(parts)) / jobs_for(BYTES_A_JOB) + (LAST if self.left else LAST_KEPT)) * slowness()
         kept = f"of {len(self.crates)} crates {len(self.crates) - len(self.left)} have passed here as they are"
         return f"the quick part is done, and the whole gate: about {self.rounded(minutes)}, {self.on()}; {kept}"
 
