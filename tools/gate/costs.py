@@ -3,6 +3,7 @@
 import functools
 import os
 import time
+import timeit
 
 from .crates import CACHE, crates_of
 from .edits import edits_of
@@ -11,7 +12,7 @@ from .machine import BYTES_A_JOB, jobs_for, processors
 # All that follows was measured on a machine that adds up so many squares in so many seconds.
 SQUARES, SECONDS = 200_000, 0.0115
 # Minutes of one processor, from nothing: of --quick, of what the whole gate does of it, and of all proofs of rt ci with the tests.
-QUICK, QUICK_PART, PROOFS = 6, 4, 94
+QUICK, QUICK_PART, PROOFS = 8, 4, 94
 # Processor seconds of an edit, and of all edits of the crates in which one takes much longer.
 EDIT = 5
 EDITS = {
@@ -35,17 +36,11 @@ def seconds_of_edits(crate, count):
 
 def seconds_of_squares():
     """In how many seconds of a processor they are added up here: in the shortest of some tries."""
-
-    def once():
-        begun = time.process_time()
-        sum(it * it for it in range(SQUARES))
-        return time.process_time() - begun
-
-    return min(once() for _ in range(5))
+    return min(timeit.repeat(lambda: sum(it * it for it in range(SQUARES)), timer=time.process_time, repeat=5, number=1))
 
 
 def slowness():
-    """How many times as long all takes here. On a machine that added up squares in 2.7 times as long, rt ci took 2.1 times as long."""
+    """How many times as long all takes here: a machine that took 2.7 times as long for the squares took 2.1 times as long for rt ci."""
     return (1 + 2 * seconds_of_squares() / SECONDS) / 3
 
 
