@@ -2,6 +2,7 @@
 
 from __future__ import annotations
 
+import os
 import time
 from types import TracebackType
 from typing import TYPE_CHECKING, Any, Callable, Generator, Iterator, Optional, Type
@@ -37,6 +38,7 @@ class Branch:
         self._line = line
         self._connection = connection
         self._is_over = False
+        self._process = os.getpid()
 
     def __repr__(self) -> str:
         return f"<Branch {self.xid} at {self._line.rm.label}, {'active' if self.is_active else 'over'}>"
@@ -64,6 +66,8 @@ class Branch:
     def _work(self, step: Callable[[], Any]) -> Any:
         if self._is_over:
             raise TransactionOver(f"the branch at {self._line.rm.label} is over")
+        if os.getpid() != self._process:
+            raise TransactionOver(f"the branch is that of process {self._process}, of which this one was forked off")
         if self._line.connection is not self._connection:
             raise ConnectionLost(f"the connection to {self._line.rm.label} was lost")
         if self._is_late:

@@ -2,6 +2,7 @@
 
 from __future__ import annotations
 
+import contextlib
 import logging
 import os
 import random
@@ -15,21 +16,23 @@ from typing import (
     Callable,
     ContextManager,
     Dict,
+    Iterator,
+    List,
     Mapping,
     Optional,
     Sequence,
-    Set,
     Tuple,
     Type,
     TypeVar,
     Union,
 )
 
+from . import current
 from .adapters.base import Database, Options
 from .block import Block
 from .counts import Counts
 from .databases import NAME, Databases
-from .errors import CoordinatorGone, LogInUse, NestedTransaction, SetupError, XaError
+from .errors import CoordinatorGone, LogInUse, NestedTransaction, SetupError, TransactionOver, XaError
 from .coordinator import serve_command
 from .line import PAUSE
 from .logs import Names, free_log, is_new_log, names_for
@@ -49,12 +52,6 @@ MOST_THREADS = 1024
 NO_OPTIONS = Options()
 #: The first pause before work is tried again, in seconds, and the longest.
 FIRST_PAUSE, LAST_PAUSE = 0.02, 1.0
-
-
-class _Open(threading.local):
-    """The transaction in whose block a thread is."""
-
-    transaction: Optional[Transaction] = None
 
 
 class TransactionManager:
@@ -120,15 +117,13 @@ class TransactionManager:
         self._ended = ended
         self._process = os.getpid()
         self._lock = threading.Lock()
-        self._open = _Open()
         self._session: Optional[Session] = None
         # When a session was last tried in vain, and why.
         self._tried = 0.0, ""
         self._is_closed = False
         self._outcomes = Outcomes()
         self._counts = Counts()
-        # The threads of Python that have a transaction, each once.
-        self._busy: Set[int] = set()
+        self._looks: List[Callable[[Transaction], None]] = []
         try:
             self._current(is_first=True)
         except SetupError:
@@ -175,7 +170,7 @@ class TransactionManager:
         leaves it. Raises RolledBack, OutcomeUnknown or HeuristicEnd at the end of the block.
 
         `timeout` is for how many seconds it may do work (None: for ever); then it can only be rolled back. `isolation` is one of SQL's
-        levels, in lower case, and with `read_only` the databases refuse what writes. A thread that has a transaction already gets
+        levels, in lower case, and with `read_only` the databases refuse what writes. A thread or task that has a transaction already gets
         NestedTransaction, unless this one is to be `independent`: it commits whatever the other one does."""
         options = Options(isolation, read_only) if isolation or read_only else NO_OPTIONS
         return Block(self, options, self._timeout if isinstance(timeout, str) else timeout, independent)
@@ -225,8 +220,38 @@ class TransactionManager:
 
     @property
     def current(self) -> Optional[Transaction]:
-        """The transaction in whose block the thread is, if it is in one."""
-        return self._open.transaction
+        """The transaction in whose block the thread is, or the task of asyncio, if it is in one. A task or a thread that was started
+        within a block isn't in it, unless it is so by `within`."""
+        entry = current.innermost(self)
+        return entry.transaction if entry is not None and entry.is_mine else None
+
+    def require_current(self) -> Transaction:
+        """The same. Raises TransactionOver if there is none."""
+        entry = current.innermost(self)
+        if entry is None:
+            raise TransactionOver(
+                "there is no transaction here: neither this thread nor this task is in a block of the manager's transaction(), nor in"
+                " one of within(t)"
+            )
+        if not entry.is_mine:
+            raise TransactionOver(
+                f"the transaction {entry.transaction.gtrid} is that of another thread or task, within whose block this one was started:"
+                " work in it here needs `with xa.within(t):`"
+            )
+        return entry.transaction
+
+    @contextlib.contextmanager
+    def within(self, transaction: Transaction) -> Iterator[Transaction]:
+        """A `with` block in which a transaction is `current` that was begun by another thread or task, as in an endpoint of a web
+        framework whose dependency began it. The transaction goes on after it. One thread or task at a time is to work in it. Raises
+        TransactionOver if it is over."""
+        if transaction.outcome is not Outcome.OPEN:
+            raise TransactionOver(f"the transaction is over: {transaction.outcome.value}")
+        entry = current.enter(self, transaction)
+        try:
+            yield transaction
+        finally:
+            current.leave(entry)
 
     def database(self, key: Union[int, str]) -> Database:
         """A database, by its place or its name."""
@@ -238,7 +263,7 @@ class TransactionManager:
         back. Raises XaError, and does nothing, in a block of a transaction. In another process than its own does nothing."""
         if os.getpid() != self._process:
             return
-        if threading.get_ident() in self._busy:
+        if current.innermost(self) is not None:
             raise XaError("close() in the block of a transaction: it is to be left first")
         with self._lock:
             self._is_closed = True
@@ -252,27 +277,22 @@ class TransactionManager:
 
     # ** for the blocks of transactions
 
-    def take_python_thread(self, is_independent: bool) -> Optional[int]:
-        """Notes that this thread of Python has a transaction. Its number, unless it had one before."""
+    def before_each_commit(self, look: Callable[[Transaction], None]) -> None:
+        """Has a function called with each transaction before it is committed. If it raises an XaError, the transaction is rolled back."""
+        self._looks.append(look)
+
+    def look_before_commit(self, transaction: Transaction) -> None:
+        """Calls these functions."""
+        for look in self._looks:
+            look(transaction)
+
+    def see_may_begin(self, is_independent: bool) -> None:
+        """Sees that a block may be entered here. Raises NestedTransaction, or XaError in another process."""
         if os.getpid() != self._process:
             raise self._forked()
-        mine = threading.get_ident()
-        if mine not in self._busy:
-            self._busy.add(mine)
-            return mine
-        if not is_independent:
-            raise NestedTransaction("this thread has a transaction already: independent=True is for one that commits by itself")
-        return None
-
-    def give_back_python_thread(self, mine: Optional[int]) -> None:
-        """Its transaction is over."""
-        if mine is not None:
-            self._busy.discard(mine)
-
-    def set_current(self, transaction: Optional[Transaction]) -> Optional[Transaction]:
-        """Makes this the transaction in whose block the thread is. The one before."""
-        before, self._open.transaction = self.current, transaction
-        return before
+        entry = current.innermost(self)
+        if entry is not None and entry.is_mine and not is_independent:
+            raise NestedTransaction("this thread or task has a transaction already: independent=True is for one that commits by itself")
 
     def begin(self) -> Tuple[Session, int, str]:
         """A transaction that has begun, in the session that is up, or else in the next one: with its thread and its name."""

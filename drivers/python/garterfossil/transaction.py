@@ -3,6 +3,7 @@
 from __future__ import annotations
 
 import logging
+import os
 import time
 from types import TracebackType
 from typing import TYPE_CHECKING, Callable, Dict, List, Optional, Set, Type, Union
@@ -38,6 +39,7 @@ class _Commits:
     def __init__(self, session: Session, thread: int, branches: List[Completion]):
         self._session = session
         self._thread = thread
+        self._process = os.getpid()
         self._branches = branches
 
     @property
@@ -75,6 +77,7 @@ class Transaction:
         self._limit = None if timeout is None else self.begun + timeout
         self._session = session
         self._thread = thread
+        self._process = os.getpid()
         self._branches: Dict[int, Completion] = {}
         self._looks: List[Callable[[], None]] = []
         # Why it can only be rolled back, where that isn't a branch's own matter.
@@ -167,6 +170,8 @@ class Transaction:
         self._roll_back()
 
     def _require_open(self) -> None:
+        if os.getpid() != self._process:
+            raise TransactionOver(f"the transaction is that of process {self._process}, of which this one was forked off")
         if self.outcome is not Outcome.OPEN:
             raise TransactionOver(f"the transaction is over: {self.outcome.value}")
 
