@@ -13,15 +13,19 @@ rolled back there is taken back at once, by a savepoint."""
 from __future__ import annotations
 
 import functools
+import threading
 import weakref
-from typing import Any, Callable, Dict, List, Optional, Type, Union
+from typing import Any, Callable, Dict, List, Optional, Set, Type, Union
 
 import sqlalchemy
+import sqlalchemy.event
+from sqlalchemy import orm
 from sqlalchemy.dialects import registry
 from sqlalchemy.engine import make_url
 from sqlalchemy.engine.default import DefaultDialect
 from sqlalchemy.pool import NullPool
 
+from . import current
 from .adapters.base import Connection as DriverConnection
 from .branch import Branch
 from .errors import EndRefused, SetupError, TransactionOver, XaError
@@ -38,15 +42,65 @@ def create_engine(manager: TransactionManager, database: Union[int, str] = 0, **
         raise SetupError(f"SQLAlchemy has no dialect for {manager.database(database)!r}: the adapter's SQLALCHEMY names none")
 
     def connect() -> _Connection:
-        transaction = manager.current
-        if transaction is None:
-            raise TransactionOver("SQLAlchemy has a connection within a block of the manager's transaction() alone")
-        return _Connection(_Works.of(transaction, database))
+        return _Connection(_Works.of(manager.require_current(), database))
 
     engine: sqlalchemy.engine.Engine = sqlalchemy.create_engine(
         _Entry.url_of(dialect), creator=connect, poolclass=NullPool, pool_reset_on_return=None, **options
     )
+    _SESSIONS.add_engine(engine, manager)
     return engine
+
+
+class _Sessions:
+    """The Sessions that have begun something, each with who did that and in which transactions: what one of them hasn't flushed as the
+    block ends was never sent, although the program takes it for done."""
+
+    def __init__(self) -> None:
+        self._lock = threading.Lock()
+        self._engines: weakref.WeakKeyDictionary[sqlalchemy.engine.Engine, TransactionManager] = weakref.WeakKeyDictionary()
+        self._managers: weakref.WeakSet[TransactionManager] = weakref.WeakSet()
+        self._began: weakref.WeakKeyDictionary[orm.Session, Set[object]] = weakref.WeakKeyDictionary()
+        sqlalchemy.event.listen(orm.Session, "after_transaction_create", self._note)
+
+    def add_engine(self, engine: sqlalchemy.engine.Engine, manager: TransactionManager) -> None:
+        """An engine is the manager's: before each commit its Sessions are looked at."""
+        with self._lock:
+            self._engines[engine] = manager
+            if manager in self._managers:
+                return
+            self._managers.add(manager)
+        manager.before_each_commit(self._require_flushed)
+
+    def _note(self, session: orm.Session, _: Any) -> None:
+        with self._lock:
+            managers = list(self._managers)
+            began = self._began.setdefault(session, set())
+            began.clear()
+            began.add(current.owner())
+            for manager in managers:
+                entry = current.innermost(manager)
+                if entry is not None:
+                    began.add(entry.transaction.gtrid)
+
+    def _require_flushed(self, transaction: Transaction) -> None:
+        with self._lock:
+            mine = {transaction.gtrid, current.owner()}
+            sessions = [session for session, began in self._began.items() if began & mine]
+        for session in sessions:
+            for one in (*session.new, *session.dirty, *session.deleted):
+                if self._is_here(session, one):
+                    raise XaError(f"a Session of SQLAlchemy has a {type(one).__name__} that it never flushed: commit it, or close it")
+
+    def _is_here(self, session: orm.Session, one: object) -> bool:
+        """Whether an object is written by an engine of a manager."""
+        try:
+            bind = session.get_bind(sqlalchemy.inspect(one).mapper)
+        except sqlalchemy.exc.SQLAlchemyError:
+            return False
+        return bind.engine in self._engines
+
+
+_SESSIONS = _Sessions()
 
 
 class _Work:

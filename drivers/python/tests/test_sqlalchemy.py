@@ -5,6 +5,7 @@ import os
 import sys
 import tempfile
 import unittest
+from concurrent.futures import ThreadPoolExecutor
 
 from garterfossil import EndRefused, RolledBack, TransactionManager, TransactionOver
 
@@ -132,6 +133,42 @@ class Sqlalchemy(unittest.TestCase):
                 session.flush()
         session.close()
         self.assertEqual(self.found(), [[100], []])
+
+    def test_what_a_session_never_flushed_rolls_everything_back(self):
+        with self.assertRaisesRegex(RolledBack, "Order that it never flushed"):
+            with self.xa.transaction():
+                a, b = self.Session(), self.Session()
+                a.get(Account, 1).balance -= 10
+                b.add(Order(text="tea"))
+                a.commit()
+        self.assertEqual(self.found(), [[100], []])
+        b.close()
+
+    def test_an_object_that_was_added_before_the_block_and_never_flushed(self):
+        session = self.Session()
+        session.add(Order(text="tea"))
+        with self.assertRaisesRegex(RolledBack, "never flushed"):
+            with self.xa.transaction() as t:
+                t[0].execute("UPDATE account SET balance = 0")
+        session.close()
+        self.assertEqual(self.found(), [[100], []])
+
+    def test_what_another_engine_never_flushed_is_no_matter_of_the_transaction(self):
+        plain = sa.create_engine(f"sqlite:///{self.paths[0]}")
+        with orm.Session(plain) as session, self.xa.transaction() as t:
+            session.add(Account(id=2, balance=0))
+            t[1].execute("INSERT INTO orders (text) VALUES ('bread')")
+        plain.dispose()
+        self.assertEqual(self.found(), [[100], ["bread"]])
+
+    def test_the_sessions_of_other_threads_are_no_matter_of_the_transaction(self):
+        with self.xa.transaction() as t:
+            with ThreadPoolExecutor(1) as pool:
+                session = self.Session()
+                pool.submit(session.add, Order(text="tea")).result()
+            t[1].execute("INSERT INTO orders (text) VALUES ('bread')")
+        session.close()
+        self.assertEqual(self.found(), [[100], ["bread"]])
 
     def test_a_session_that_is_closed_without_a_commit_is_taken_back(self):
         with self.xa.transaction() as t:
