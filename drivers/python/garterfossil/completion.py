@@ -77,7 +77,9 @@ class Completion:
         """The code of its vote against the transaction, or of its fault, if it has one."""
         if self._is_over:
             return self._vote
-        return Code.RBCOMMFAIL if self._is_lost else self._connection.fault
+        if self._is_lost:
+            return Code.RBPROTO if self._connection.is_ended_by_statement else Code.RBCOMMFAIL
+        return self._connection.fault
 
     @property
     def _is_lost(self) -> bool:

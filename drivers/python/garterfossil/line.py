@@ -10,7 +10,7 @@ from .adapters.base import Connection
 from .calls import Answer, Call
 from .codes import Code
 from .coordinator import AND, Coordinator, Reply
-from .errors import ConnectionLost, TransactionOver, Unanswered
+from .errors import ConnectionLost, HeuristicEnd, TransactionOver, Unanswered
 from .resource_manager import ResourceManager
 from .xid import Xid
 
@@ -233,7 +233,7 @@ class Line:
             return connection.work(xid, step)
         except BaseException as error:
             # After an interrupt nobody knows what the connection would say next.
-            is_unknown = isinstance(error, ConnectionLost) or not isinstance(error, Exception)
+            is_unknown = isinstance(error, (ConnectionLost, HeuristicEnd)) or not isinstance(error, Exception)
             if is_unknown and connection.is_active(xid) and self.connection is connection:
                 self.lose()
             raise

@@ -7,10 +7,12 @@ from typing import Iterator, Optional, Pattern, Set
 
 from .errors import EndRefused
 
+#: What may stand between two words: comments, too.
+BETWEEN = r"(?:\s|--[^\n\r]*|\#[^\n]*|/\*.*\*/)+"
 #: What begins, ends or prepares a transaction, as the first words of a statement. A rollback to a savepoint ends nothing, and
 #: `BEGIN NOT ATOMIC` begins a block of statements of MariaDB.
 ENDS = re.compile(
-    r"COMMIT\b|END\b|ABORT\b|XA\b|START\s+TRANSACTION\b|PREPARE\s+TRANSACTION\b"
+    rf"COMMIT\b|END\b|ABORT\b|XA\b|(?:START|PREPARE){BETWEEN}TRANSACTION\b"
     r"|BEGIN\b(?!\s+NOT\s+ATOMIC\b)|ROLLBACK\b(?!(\s+(WORK|TRANSACTION))?\s+TO\b)"
     r"|SET\b.*\bAUTOCOMMIT\b",
     re.IGNORECASE | re.DOTALL,
@@ -23,14 +25,21 @@ BEFORE = re.compile(r"[\s(;]+")
 LONG, MOST_SEEN = 2000, 1000
 
 
-class Texts:
-    """The texts of statements, as a kind of database reads them: `quoted` matches all of a text in quotes or of a comment."""
+#: Where a comment between /* and */ begins or ends, if one may hold others.
+NESTED = re.compile(r"/\*|\*/")
 
-    def __init__(self, quoted: str, comment: str):
+
+class Texts:
+    """The texts of statements, as a kind of database reads them: `quoted` matches all of a text in quotes or of another word in which no
+    statement ends, and `comment` all of a comment. If comments `nest`, those between /* and */ are looked through apart from that."""
+
+    def __init__(self, quoted: str, comment: str, nest: bool = False):
         self._comment: Pattern[str] = re.compile(comment, re.DOTALL)
+        self._nest = nest
         # Texts of which it was seen that they end nothing: programs say the same again and again.
         self._seen: Set[str] = set()
-        self._parts: Pattern[str] = re.compile(f"(?P<skipped>{quoted}|{comment})|;", re.DOTALL)
+        nested = r"|(?P<nested>/\*)" if nest else ""
+        self._parts: Pattern[str] = re.compile(f"(?P<skipped>{quoted}|{comment}){nested}|;", re.DOTALL)
 
     def refuse_ends(self, text: str) -> None:
         """Raises EndRefused if one of the statements in the text ends a transaction or begins one."""
@@ -60,22 +69,46 @@ class Texts:
     def _first_word(self, text: str, begin: int) -> int:
         while True:
             found = BEFORE.match(text, begin) or self._comment.match(text, begin)
-            if found is None:
+            if found is not None:
+                begin = found.end()
+            elif self._nest and text.startswith("/*", begin):
+                begin = self._end_of_nested(text, begin)
+            else:
                 return begin
-            begin = found.end()
 
     def _end(self, text: str, begin: int) -> Optional[int]:
         """Where the semicolon stands that ends the statement."""
-        for found in self._parts.finditer(text, begin):
-            if found.group("skipped") is None:
+        while True:
+            found = self._parts.search(text, begin)
+            if found is None:
+                return None
+            if self._nest and found.group("nested"):
+                begin = self._end_of_nested(text, found.start())
+            elif found.group("skipped"):
+                begin = found.end()
+            else:
                 return found.start()
-        return None
+
+    @staticmethod
+    def _end_of_nested(text: str, begin: int) -> int:
+        """Where a comment ends that may hold others. The database would refuse one that never ends."""
+        depth = 0
+        for found in NESTED.finditer(text, begin):
+            depth += 1 if found.group() == "/*" else -1
+            if depth == 0:
+                return found.end()
+        return len(text)
 
 
-#: PostgreSQL: a comment may hold others. Strings with E have backslashes, and those between dollars anything.
+#: A letter as PostgreSQL takes it in a name: all that isn't ASCII is one.
+LETTER = "A-Za-z_\x80-\U0010ffff"
+#: PostgreSQL: a comment may hold others. Strings with E have backslashes, and those between dollars anything; but a dollar within a name
+#: begins none. A line ends with a carriage return, too.
 POSTGRESQL = Texts(
-    r"\b[eE]'(?:[^'\\]|\\.|'')*'|'(?:[^']|'')*'|\"(?:[^\"]|\"\")*\"|\$(?P<tag>(?:[^\W\d]\w*)?)\$.*?\$(?P=tag)\$",
-    r"--[^\n]*|/\*(?:[^*/]|\*(?!/)|/(?!\*)|/\*(?:[^*]|\*(?!/))*\*/)*\*/",
+    r"[eE]'(?:[^'\\]|\\.|'')*'|'(?:[^']|'')*'|\"(?:[^\"]|\"\")*\""
+    rf"|[{LETTER}][{LETTER}0-9$]*|\$(?P<tag>(?:[{LETTER}][{LETTER}0-9]*)?)\$.*?\$(?P=tag)\$",
+    r"--[^\n\r]*",
+    nest=True,
 )
 #: MariaDB: what stands in a comment that begins with an exclamation mark is a statement all the same.
 MARIADB = Texts(

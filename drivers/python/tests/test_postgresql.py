@@ -11,7 +11,7 @@ from garterfossil.adapters.base import Options, Place
 from garterfossil.adapters.postgresql import PostgreSQL
 from garterfossil.calls import Call
 from garterfossil.codes import Code
-from garterfossil.errors import ConnectionLost, SetupError, Unanswered
+from garterfossil.errors import ConnectionLost, HeuristicEnd, SetupError, Unanswered
 
 XID = "7:00000000000000010000000000000001:0000000000000000"
 OTHER = "7:00000000000000010000000000000002:0000000000000000"
@@ -39,7 +39,7 @@ class Link:
     """A connection. `says` has, for the beginning of a statement, its tag, its rows, or an error."""
 
     def __init__(self):
-        self.says = {"SHOW": [("64",)], "SELECT pg_current": [("700",)]}
+        self.says = {"SHOW": [("64",)], "SELECT pg_current": [("700", "it is there")]}
         self.statements = []
         self.notices = ["WARNING:  of the connection's start\n"]
         self.status, self.closed = IDLE, 0
@@ -88,7 +88,7 @@ class Cursor:
             raise said
         if isinstance(said, list):
             self.description, self.rows = ["column"], said
-        if statement == "BEGIN":
+        if statement.startswith("BEGIN"):
             self.link.status = IN_TRANSACTION
         elif statement.startswith(("COMMIT", "ROLLBACK", "PREPARE")):
             self.link.status = IDLE
@@ -155,7 +155,7 @@ class PostgreSQLs(unittest.TestCase):
             self.assertFalse(self.connection.has_branch)
 
     def test_a_branch_that_only_read_is_committed_at_once(self):
-        self.link.says["SELECT pg_current"] = [(None,)]
+        self.link.says["SELECT pg_current"] = [(None, "it is there")]
         self.worked()
         self.assertIs(self.do(f"xa_prepare {XID}"), Code.RDONLY)
         self.assertEqual(self.link.statements[-1], "COMMIT")
@@ -189,8 +189,15 @@ class PostgreSQLs(unittest.TestCase):
 
     def test_a_statement_that_ended_the_transaction(self):
         self.do(f"xa_start {XID}")
-        with self.assertRaises(ConnectionLost):
+        with self.assertRaises(HeuristicEnd):
             self.connection.execute("COMMIT")
+
+    def test_a_statement_that_ended_the_transaction_and_began_another_one(self):
+        self.worked()
+        self.link.says["SELECT pg_current"] = [("700", "")]
+        with self.assertRaises(HeuristicEnd):
+            self.do(f"xa_prepare {XID}")
+        self.assertEqual([it for it in self.link.statements if it.startswith("PREPARE")], [])
 
     def test_pages_are_in_order_and_leave_out_other_names(self):
         self.link.says["SELECT gid"] = [(OTHER,), ("somebody else's",), (XID,)]
@@ -235,7 +242,7 @@ class PostgreSQLs(unittest.TestCase):
     def test_how_a_transaction_is_to_run_is_said_as_it_begins(self):
         self.connection.options = Options("serializable", True)
         self.do(f"xa_start {XID}")
-        self.assertEqual(self.link.statements[-1], "BEGIN ISOLATION LEVEL SERIALIZABLE, READ ONLY")
+        self.assertEqual(self.link.statements[-1].split(";")[0], "BEGIN ISOLATION LEVEL SERIALIZABLE, READ ONLY")
 
     def test_the_databases_error_is_kept_with_the_vote(self):
         self.worked()

@@ -29,7 +29,7 @@ from typing import (
 
 from ..calls import Answer, Call
 from ..codes import Code
-from ..errors import ConnectionLost, TransactionOver, Unanswered, XaError
+from ..errors import ConnectionLost, HeuristicEnd, TransactionOver, Unanswered, XaError
 from ..statements import Texts
 from ..watch import Wire
 from ..xid import FORMAT, Xid
@@ -206,6 +206,8 @@ class Connection(abc.ABC):
         self._is_refused = False
         #: The database's own error because of which it can, or because of which the last branch was rolled back.
         self.reason: Optional[BaseException] = None
+        #: Whether a statement of the program has ended its branch.
+        self.is_ended_by_statement = False
         #: What the pages of a scan are yet to list, in the order of the identifiers. None where no scan is open.
         self._unscanned: Optional[List[Xid]] = None
 
@@ -440,7 +442,13 @@ class Connection(abc.ABC):
         return None
 
     def _see_branch(self) -> None:
-        """Sees that a step of work has left the branch as it was. Raises ConnectionLost if it hasn't."""
+        """Sees that a step of work has left the branch as it was. Raises HeuristicEnd if it hasn't."""
+
+    def _ended_by_statement(self) -> HeuristicEnd:
+        """What is raised where a statement has ended the branch's transaction: what was done before may stand, whatever becomes of the
+        branches at other databases."""
+        self.is_ended_by_statement = True
+        return HeuristicEnd("a statement ended the branch's transaction, which is for the coordinator: what it had done may stand")
 
     @abc.abstractmethod
     def _start(self, xid: Xid) -> Code:

@@ -24,6 +24,8 @@ VOTES = {
 }
 NO_SUCH_BRANCH = "42704"
 OTHER_DATABASE, OTHER_USER = "0A000", "42501"
+#: A setting by which a branch's transaction is known.
+MARK = "garterfossil.branch"
 #: libpq's PQTRANS_IDLE and PQTRANS_INERROR.
 IDLE, IN_ERROR = 0, 3
 
@@ -203,13 +205,15 @@ class PostgreSQLConnection(Connection):
 
     def _see_branch(self) -> None:
         if self._is_idle():
-            raise ConnectionLost("a statement ended the branch's transaction, which is for the coordinator")
+            raise self._ended_by_statement()
 
     # ** calls
 
     def _start(self, xid: Xid) -> Code:
-        # An identifier that is in use is found as the branch is prepared.
-        self.run(" ".join(["BEGIN", ", ".join(self.options.modes)]).strip())
+        # An identifier that is in use is found as the branch is prepared. The setting ends with the transaction, so that one which a
+        # statement began in its place is told from it.
+        begin = " ".join(["BEGIN", ", ".join(self.options.modes)]).strip()
+        self.run(f"{begin}; SET LOCAL {MARK} = 'it is there'")
         return Code.OK
 
     def _end(self, xid: Xid) -> None:
@@ -217,7 +221,7 @@ class PostgreSQLConnection(Connection):
 
     def _prepare(self, xid: Xid) -> Code:
         try:
-            if self.fault is None and not self._has_written():
+            if self.fault is None and not self._see_state():
                 return Code.RDONLY if self.run("COMMIT").tag == "COMMIT" else Code.RBROLLBACK
             # Of a transaction that failed PREPARE TRANSACTION makes a rollback, which only its tag tells.
             tag = self.run("PREPARE TRANSACTION %s", [str(xid)]).tag
@@ -227,8 +231,12 @@ class PostgreSQLConnection(Connection):
             return vote_of(error)
         return Code.OK if tag == "PREPARE TRANSACTION" else self._fault or Code.RBROLLBACK
 
-    def _has_written(self) -> bool:
-        return self.run("SELECT pg_current_xact_id_if_assigned()").rows != [(None,)]
+    def _see_state(self) -> bool:
+        """Sees that the branch's transaction is the one that goes on. Whether it has written."""
+        (written, mark), = self.run(f"SELECT pg_current_xact_id_if_assigned(), current_setting('{MARK}', true)").rows
+        if not mark:
+            raise self._ended_by_statement()
+        return written is not None
 
     def _see_rolled_back(self) -> None:
         """A PREPARE TRANSACTION or COMMIT that fails has rolled back; a statement before it leaves that to be done."""
