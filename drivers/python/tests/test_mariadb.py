@@ -45,6 +45,8 @@ class Server:
         #: By its name, the connection that holds a lock.
         self.locks = {}
         self.is_in_cluster = False
+        #: What XA RECOVER lists besides, of other programs.
+        self.others = []
 
     def connect(self, **parameters):
         link = Link(self, len(self.links) + 1)
@@ -126,7 +128,7 @@ class Cursor:
             raise self.server.fails[statement]
         xa = re.fullmatch(r"XA (\w+) (X'.*?',X'.*?',7)( ONE PHASE)?", statement)
         if statement == "XA RECOVER FORMAT='SQL'":
-            self.rows = [(7, 16, 8, text) for text, (state, _) in self.server.branches.items() if state == "PREPARED"]
+            self.rows = self.server.others + [(7, 16, 8, text) for text, (state, _) in self.server.branches.items() if state == "PREPARED"]
         elif statement == "SHOW VARIABLES LIKE 'wsrep_on'":
             self.rows = [("wsrep_on", "ON" if self.server.is_in_cluster else "OFF")]
         elif statement.startswith("SELECT GET_LOCK("):
@@ -291,6 +293,16 @@ class MariaDBs(unittest.TestCase):
         self.do(f"xa_prepare {XID}")
         answer = self.connection.do(Call.parse("xa_recover 32 TMSTARTRSCAN"))
         self.assertEqual([str(xid) for xid in answer.page], [XID])
+
+    def test_branches_of_other_programs_are_listed_as_what_they_are(self):
+        # As MariaDB 10.11 writes them: a format of 1 and an empty part are left out, and plain text stands as it is.
+        self.server.others = [
+            (1, 15, 0, "'another program'"), (5, 1, 1, "'g','b',5"), (1, 2, 1, "X'00ff',X'62'"), (4, 2, 1, "X'2278',X'79',4"),
+        ]  # fmt: skip
+        self.worked()
+        self.do(f"xa_prepare {XID}")
+        self.assertEqual([str(xid) for xid in self.connection.all_listed()], ["1:00ff:62", "4:2278:79", "5:67:62", XID])
+        self.assertEqual([str(xid) for xid in self.connection.listed()], [XID])
 
     def test_a_connection_that_is_lost(self):
         self.worked()

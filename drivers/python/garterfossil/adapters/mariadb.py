@@ -3,6 +3,7 @@
 from __future__ import annotations
 
 import math
+import re
 import time
 from typing import Any, Collection, Iterable, List, Optional, Sequence, Set, Tuple, Type
 
@@ -11,7 +12,7 @@ from ..codes import Code
 from ..errors import ConnectionLost, SetupError, Unanswered
 from ..statements import MARIADB
 from ..xid import Xid
-from .base import Connection, Database, Parameters, Place, Result, xids_in
+from .base import Connection, Database, Parameters, Place, Result
 
 #: Errors of MariaDB by their number.
 NO_SUCH_BRANCH, IN_ANOTHER_STATE, IN_USE = 1397, 1399, 1440
@@ -276,7 +277,7 @@ class MariaDBConnection(Connection):
         return True
 
     def _listed(self) -> List[Xid]:
-        return xids_in(text_of(row) for row in self.run("XA RECOVER FORMAT='SQL'"))
+        return [xid for xid in map(xid_of, self.run("XA RECOVER FORMAT='SQL'")) if xid is not None]
 
     def is_replicated(self) -> Optional[bool]:
         return self.run("SHOW VARIABLES LIKE 'wsrep_on'").rows == [("wsrep_on", "ON")]
@@ -343,7 +344,20 @@ def text_in_xa(xid: Xid) -> str:
     return f"X'{xid.gtrid.hex()}',X'{xid.bqual.hex()}',{xid.format}"
 
 
-def text_of(row: Tuple[Any, ...]) -> str:
-    """The text of an identifier that XA RECOVER FORMAT='SQL' lists, as in X'0a',X'01',7."""
-    gtrid, bqual, number = row[3].split(",")
-    return f"{number}:{gtrid[2:-1].lower()}:{bqual[2:-1].lower()}"
+#: How XA RECOVER FORMAT='SQL' writes an identifier: in hexadecimal, or as plain text if nothing in it stands against that. It leaves
+#: out an empty part, and a format of 1.
+LISTED = re.compile(r"(X?)'([^']*)'(?:,X?'([^']*)')?(?:,-?[0-9]+)?")
+
+
+def xid_of(row: Tuple[Any, ...]) -> Optional[Xid]:
+    """The identifier that a row of XA RECOVER FORMAT='SQL' lists. None if it is none of XA's, as with an empty part: then it is another
+    program's."""
+    found = LISTED.fullmatch(row[3])
+    if found is None:
+        return None
+    parts = [found.group(2), found.group(3) or ""]
+    try:
+        gtrid, bqual = (bytes.fromhex(part) if found.group(1) else part.encode("ascii") for part in parts)
+        return Xid(int(row[0]), gtrid, bqual)
+    except ValueError:
+        return None
