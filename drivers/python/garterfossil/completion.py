@@ -81,6 +81,11 @@ class Completion:
             return Code.RBPROTO if self._connection.is_ended_by_statement else Code.RBCOMMFAIL
         return self._connection.fault
 
+    def see_whether_it_was_ended(self) -> None:
+        """Notes it if a statement of the program has ended the branch."""
+        if self._connection.is_ended_by_statement and self.oddity is None:
+            self.oddity = f"{self.xid}: a statement of the program has ended it, and what it had done may stand"
+
     @property
     def _is_lost(self) -> bool:
         """Whether it was started on a connection that the line has no more."""
@@ -163,8 +168,7 @@ class Completion:
         code = self._told(self._commit, None)
         if code is not Code.OK:
             self.line.see_heard()
-        if code.is_heuristic:
-            self.oddity = code.name
+        self._note(code, Code.HEURCOM)
 
     def roll_back(self) -> None:
         """xa_rollback, unless the branch is over. One that wasn't asked for its vote ended with its connection: that it did is
@@ -174,9 +178,13 @@ class Completion:
         self._is_over = True
         if self._is_lost and not self._was_asked:
             raise ConnectionLost(f"the connection to {self.line.rm.label} was lost")
-        code = self._told(Call("xa_rollback", self.xid), ROLLBACK_PATIENCE)
-        if code.is_heuristic:
-            log.error("%s was to be rolled back: %s", self.xid, code.name)
+        self._note(self._told(Call("xa_rollback", self.xid), ROLLBACK_PATIENCE), Code.HEURRB)
+
+    def _note(self, code: Code, wanted: Code) -> None:
+        """Notes how the branch ended, if that may be otherwise than it was to."""
+        if code.is_heuristic and code is not wanted:
+            how = "somebody has ended it by hand, one way or the other" if code is Code.HEURHAZ else "its database has ended it by itself"
+            self.oddity = f"{self.xid}: {code.name}, {how}"
 
     def _told(self, call: Call, patience: Optional[float]) -> Code:
         """The answer to a call that ends the branch. One that ended by itself is forgotten, once the coordinator has heard

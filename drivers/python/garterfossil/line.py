@@ -58,6 +58,10 @@ class Line:
     def lose(self) -> None:
         """Gives the connection up, and tells the coordinator that it is lost, before anything else on the line."""
         connection, self.connection = self.connection, None
+        for call in self._waiting:
+            if call.ends_a_prepared_branch:
+                # It may have been made: that the branch isn't there is an answer from now on.
+                self.rm.prepared.discard(call.branch)
         self._waiting.clear()
         if connection is not None:
             self.rm.drop(connection)
@@ -165,8 +169,28 @@ class Line:
         except BaseException:
             self.lose()
             raise
+        if call.xid is not None:
+            answer = Answer(self._told(call, call.xid, answer.code))
         self._tell(call, answer)
         return answer
+
+    def _told(self, call: Call, xid: Xid, code: Code) -> Code:
+        """What an answer is told as, where XA's branch state table has no place for it ("How answers are reported", docs/SERVE.md)."""
+        is_prepared = xid in self.rm.prepared
+        if call.name == "xa_prepare" and code is Code.OK:
+            self.rm.prepared.add(xid)
+        if call.name == "xa_forget" and code is Code.NOTA:
+            return Code.OK
+        if not call.ends_a_prepared_branch:
+            return code
+        if code is not Code.RETRY:
+            self.rm.prepared.discard(xid)
+        if is_prepared and code is Code.NOTA:
+            # Nobody but this session was to end it, and it hasn't done that.
+            return Code.HEURHAZ
+        if call.name == "xa_commit" and code.is_rollback:
+            return Code.HEURRB
+        return Code.OK if is_prepared and code.is_rollback else code
 
     def insist(self, call: Call, patience: Optional[float] = None) -> Code:
         """A call on a prepared branch, issued unless it waits already, and made again until it is answered by something else

@@ -215,8 +215,9 @@ class TransactionManager:
         """How many transactions have `begun` and are `open`, how many were `committed` and `rolled_back`, or are `unknown`, how many of
         them ended otherwise in a database (`heuristic`), how many ends of branches are `owed` to databases, and for how many
         `seconds` transactions were open, all together."""
-        session = self._session
-        return {**self._counts.shown(), "owed": 0 if session is None else session.debts.count()}
+        session, counts = self._session, self._counts.shown()
+        counts["heuristic"] += self._outcomes.odd
+        return {**counts, "owed": 0 if session is None else session.debts.count()}
 
     @property
     def current(self) -> Optional[Transaction]:

@@ -25,6 +25,8 @@ class Outcomes:
         # By transaction, the incarnation that was deciding it.
         self._asked: Dict[str, int] = {}
         self._found: Dict[str, Outcome] = {}
+        # How many branches a recovery found ended by somebody else.
+        self._odd = 0
 
     def ask(self, gtrid: str) -> None:
         """The session of the transaction has ended while it decided that."""
@@ -40,6 +42,17 @@ class Outcomes:
                 del self._asked[gtrid]
                 if asked == incarnation - 1:
                     self._found.setdefault(gtrid, Outcome.ROLLED_BACK)
+
+    def note_odd(self) -> None:
+        """A recovery found a branch that somebody else had ended, of a transaction that was told its outcome before."""
+        with self._lock:
+            self._odd += 1
+
+    @property
+    def odd(self) -> int:
+        """How many such branches were found."""
+        with self._lock:
+            return self._odd
 
     def of(self, gtrid: str) -> Outcome:
         """How it ended, if that was found."""

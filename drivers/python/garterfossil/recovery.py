@@ -74,6 +74,8 @@ def pay(session: Session, line: Line, call: Call) -> None:
         line.see_heard()
         log.info("recovery of %s: %s answered %s", line.rm.label, call, code.name)
         if code.is_heuristic:
+            log.error("%s: %s answered %s: somebody has ended it by hand; compare the databases", line.rm.label, call, code.name)
+            session.outcomes.note_odd()
             line.call(Call("xa_forget", call.xid))
     except Refused as refused:
         # The coordinator has forgotten the transaction: all its branches are over.

@@ -30,6 +30,9 @@ class ResourceManager:
         self.label = label
         #: Whether something may be in doubt there that no transaction of the session will end.
         self.is_recovery_due = True
+        #: The branches that this session has prepared, of which no end was lost on its way: if one of them isn't there, somebody else
+        #: has ended it.
+        self.prepared: Set[Xid] = set()
         self._database = database
         self._lock = threading.Lock()
         self._kept: Set[int] = set()

@@ -153,12 +153,13 @@ class Transaction:
                 call = branches[0].issue_commit_in_one_phase()
             else:
                 self._collect_votes(branches)
-        except RolledBack:
+        except RolledBack as error:
             self._roll_back()
+            if self.is_heuristic:
+                error.args = (f"{error}; {self._odd('rolled back')}",)
             raise
         except XaError as error:
-            self._roll_back()
-            raise RolledBack(str(error)) from error
+            raise self._rolled_back_for(error) from error
         if len(branches) == 1:
             self._commit_in_one_phase(branches[0], call)
         else:
@@ -279,8 +280,7 @@ class Transaction:
             raise OutcomeUnknown(f"{self.gtrid}: {error}") from error
         except XaError as error:
             # It was refused, and nothing has changed.
-            self._roll_back()
-            raise RolledBack(str(error)) from error
+            raise self._rolled_back_for(error) from error
         self.outcome = Outcome.COMMITTED
         # What can't be sent ahead is asked for again.
         self._each(prepared, Completion.send_commit, [])
@@ -289,12 +289,24 @@ class Transaction:
         self._try(lambda: self._session.post(self._thread))
         if prepared and told == prepared:
             self._session.rows.add(self.gtrid)
-        odd = [f"{branch.line.rm.label}: {branch.oddity}" for branch in prepared if branch.oddity]
-        if odd:
-            self.is_heuristic = True
-            text = f"{self.gtrid} is committed, but not everywhere: {'; '.join(odd)}"
-            log.error("%s: look at what each database holds, and do by hand what is missing", text)
-            raise HeuristicEnd(text)
+        if self._see_oddities("committed"):
+            raise HeuristicEnd(self._odd("committed"))
+
+    def _rolled_back_for(self, error: XaError) -> RolledBack:
+        """Rolls it back because of an error: what is to be raised."""
+        self._roll_back()
+        return RolledBack(f"{error}; {self._odd('rolled back')}" if self.is_heuristic else str(error))
+
+    def _see_oddities(self, how: str) -> bool:
+        """Sees whether a branch has ended otherwise than the transaction, or may have."""
+        self.is_heuristic = any(branch.oddity for branch in self._branches.values())
+        if self.is_heuristic:
+            log.error("%s: look at what each database holds, and do by hand what is missing", self._odd(how))
+        return self.is_heuristic
+
+    def _odd(self, how: str) -> str:
+        odd = [f"{branch.line.rm.label}: {branch.oddity}" for branch in self._branches.values() if branch.oddity]
+        return f"{self.gtrid} is {how}, but not everywhere: {'; '.join(odd)}"
 
     def _roll_back(self) -> None:
         """Ends each branch by a rollback. Nothing of it is in the log."""
@@ -307,6 +319,9 @@ class Transaction:
         told = [branch for branch in branches if self._is_done("xa_rollback", branch, branch.roll_back)]
         for branch in told:
             self._is_done("xa_rollback", branch, branch.line.see_heard)
+        for branch in branches:
+            branch.see_whether_it_was_ended()
+        self._see_oddities("rolled back")
 
     def _note_codes(self, branches: List[Completion]) -> None:
         codes = {branch.code for branch in branches}

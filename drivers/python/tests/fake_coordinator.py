@@ -22,6 +22,8 @@ class Coordinator:
         # The rows that it found: those of its own incarnation aren't owed.
         self.found = {gtrid: list(xids) for gtrid, xids in self.log["rows"].items()}
         self.sequence = 0
+        #: Branches that voted to commit, of which no end was lost with its line.
+        self.prepared = set()
         self.live, self.rolled_back, self.votes, self.waiting, self.pages = set(), set(), {}, {}, {}
         self.save()
 
@@ -71,7 +73,13 @@ class Coordinator:
         waiting = self.waiting[thread, rm]
         if not waiting or waiting[0].split(" ")[0] != name:
             return "error another call waits first"
+        if name in ("xa_commit", "xa_rollback") and words[-1] == "-4" and words[0] in self.prepared:
+            return "error the branch is in no such state"
         call = waiting.pop(0)
+        if name in ("xa_commit", "xa_rollback"):
+            self.prepared.discard(words[0])
+            if words[-1] in "5678":
+                self.log.setdefault("heuristics", []).append(f"{words[0]} {words[-1]}")
         if name == "xa_recover":
             if self.rolled_back.intersection(words[1:]):
                 waiting.insert(0, call)
@@ -81,6 +89,7 @@ class Coordinator:
         if name == "xa_rollback" and words[1] == "0":
             self.rolled_back.add(words[0])
         if name == "xa_prepare" and words[1] == "0":
+            self.prepared.add(words[0])
             self.votes.setdefault(words[0].split(":")[1][-32:], []).append(words[0])
         return f"heard {name} {words[-1]}"
 
@@ -120,6 +129,8 @@ class Coordinator:
         return " ".join(["owed", str(len(xids)), *xids])
 
     def do_crash(self, part, thread, rm):
+        ends = [call for call in self.waiting.get((thread, rm), []) if call.startswith(("xa_commit ", "xa_rollback "))]
+        self.prepared.difference_update(call.split(" ")[1] for call in ends)
         self.waiting[thread, rm] = []
         return "crashed"
 

@@ -2,7 +2,7 @@
 
 import unittest
 
-from garterfossil import CoordinatorGone, OutcomeUnknown, Overdue, RolledBack, XaError
+from garterfossil import CoordinatorGone, HeuristicEnd, OutcomeUnknown, Overdue, RolledBack, XaError
 from garterfossil.adapters.base import Place
 from garterfossil.codes import Code
 from garterfossil.errors import ConnectionLost, Unanswered
@@ -75,6 +75,53 @@ class Transactions(Case):
                         t[1].execute("wrong")
         self.assertEqual(self.written(), ([], []))
         self.assertFalse([call for call in self.left.calls if call.startswith("prepare")])
+
+    # ** branches that somebody ends by hand
+
+    def test_a_branch_that_was_ended_by_hand_before_its_commit(self):
+        with self.manager() as xa:
+            self.left.before["commit_prepared"] = self.right.prepared.clear
+            with self.assertLogs("garterfossil", "ERROR"), self.assertRaisesRegex(HeuristicEnd, "by hand"):
+                with xa.transaction() as t:
+                    t[0].execute("take")
+                    t[1].execute("give")
+            self.assertIs(t.outcome, Outcome.COMMITTED)
+            self.assertEqual((t.is_heuristic, xa.counts()["heuristic"]), (True, 1))
+        # The log has a record of it, and the row is over.
+        self.assertEqual([line.split(" ")[1] for line in self.in_the_log()["heuristics"]], ["8"])
+        self.assertEqual(self.requests("done"), [f"done {t.gtrid}"])
+        self.assertEqual(len([line for line in self.requests("answer") if "xa_forget" in line and line.endswith(" 0")]), 1)
+
+    def test_a_branch_that_was_ended_by_hand_before_its_rollback(self):
+        self.right.next["prepare"] = Code.RBINTEGRITY
+        self.right.before["prepare"] = self.left.prepared.clear
+        with self.manager() as xa:
+            with self.assertLogs("garterfossil", "ERROR"), self.assertRaisesRegex(RolledBack, "voted RBINTEGRITY.*by hand"):
+                with xa.transaction() as t:
+                    t[0].execute("take")
+                    t[1].execute("give")
+            self.assertEqual((t.is_heuristic, xa.counts()["heuristic"]), (True, 1))
+        self.assertEqual([line.split(" ")[1] for line in self.in_the_log()["heuristics"]], ["8"])
+
+    def test_an_end_that_was_lost_may_have_been_made(self):
+        with self.manager() as xa:
+            self.right.next["commit_prepared"] = "lost"
+            t = self.move(xa)
+            self.assertEqual((t.is_heuristic, xa.counts()["heuristic"]), (False, 0))
+        self.assertNotIn("heuristics", self.in_the_log())
+
+    def test_a_branch_that_its_database_committed_by_itself_is_committed(self):
+        with self.manager() as xa:
+            self.right.next["commit_prepared"] = Code.HEURCOM
+            t = self.move(xa)
+            self.assertFalse(t.is_heuristic)
+
+    def test_a_branch_that_is_rolled_back_against_its_vote(self):
+        with self.manager() as xa:
+            self.right.next["commit_prepared"] = Code.RBOTHER
+            with self.assertRaisesRegex(HeuristicEnd, "HEURRB"):
+                self.move(xa)
+        self.assertEqual([line.split(" ")[1] for line in self.in_the_log()["heuristics"]], ["6"])
 
     # ** connections that are lost
 
