@@ -60,21 +60,28 @@ final class Hooks {
         });
     }
 
-    /** The connection. At MariaDB xa_end and xa_prepare are one statement: it has what comes before the one and after the other. */
+    /** The connection, whose statements have what comes before and after the calls that they make. */
     private Connection hooked(Connection plain) {
         return proxy(Connection.class, plain, (method, words) -> {
             Object made = direct(plain, method, words);
             return method.getName().equals("createStatement") ? proxy(Statement.class, (Statement) made, (inner, text) -> {
-                boolean isBoth = inner.getName().equals("execute") && ((String) text[0]).startsWith("BEGIN NOT ATOMIC XA END");
-                return isBoth ? both((Statement) made, inner, text, plain) : direct(made, inner, text);
+                String[] calls = inner.getName().equals("execute") ? calls((String) text[0]) : new String[0];
+                return calls.length > 0 ? hooked((Statement) made, calls, inner, text, plain) : direct(made, inner, text);
             }) : made;
         });
     }
 
-    private Object both(Statement statement, Method method, Object[] text, Connection plain) throws Throwable {
-        reach("before end", plain);
+    /** The first call that a statement makes, and the last; none, if it makes none. MariaDB gets xa_end and xa_prepare by one. */
+    private static String[] calls(String text) {
+        return text.startsWith("BEGIN NOT ATOMIC XA END") ? new String[] {"end", "prepare"}
+            : text.startsWith("PREPARE TRANSACTION") ? new String[] {"prepare", "prepare"}
+            : text.startsWith("COMMIT PREPARED") ? new String[] {"commit", "commit"} : new String[0];
+    }
+
+    private Object hooked(Statement statement, String[] calls, Method method, Object[] text, Connection plain) throws Throwable {
+        reach("before " + calls[0], plain);
         Object answer = direct(statement, method, text);
-        reach("after prepare", plain);
+        reach("after " + calls[1], plain);
         return answer;
     }
 

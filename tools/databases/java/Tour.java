@@ -15,6 +15,7 @@ import javax.sql.DataSource;
 import javax.sql.XADataSource;
 import javax.transaction.RollbackException;
 import javax.transaction.Transaction;
+import javax.transaction.xa.XAResource;
 
 /**
  * Stories over two databases, by JTA over drivers/java: how a transaction ends where all goes well, and where something goes wrong at each
@@ -279,10 +280,8 @@ public class Tour {
             });
             List<String> moments = new ArrayList<>(List.of("before end", "after end", "before prepare", "after prepare"));
             moments.addAll(List.of("before commit", "after commit"));
-            if (!isPostgreSQL(one)) {
-                // MariaDB gets both calls by one request.
-                moments.removeAll(List.of("after end", "before prepare"));
-            }
+            // PostgreSQL has no xa_end, and MariaDB gets both calls by one request.
+            moments.removeAll(isPostgreSQL(one) ? List.of("before end", "after end") : List.of("after end", "before prepare"));
             for (String moment : moments) {
                 story("the connection to database " + one + " is lost " + moment, moment.endsWith("commit") || moment.equals("after prepare") ? ENDED : UNDONE,
                     token -> {
@@ -326,6 +325,48 @@ public class Tour {
         story("all goes well again", ENDED, this::writeBoth);
     }
 
+    /** One that a driver before this one prepared, in an earlier session: PostgreSQL's own driver named it, in base64. */
+    private static boolean isOlderBranchEnded(Path folder, String program, XADataSource source) throws Exception {
+        JdbcResource resource = JdbcResource.of("older", source);
+        Manager.Builder builder = Manager.over(folder.resolve("older.db")).name("older").program(program).resource(resource);
+        Manager first = builder.start();
+        byte[] name = first.name().getBytes("US-ASCII"), gtrid = java.util.Arrays.copyOf(name, name.length + 16);
+        gtrid[name.length + 7] = 1;
+        gtrid[name.length + 15] = 1;
+        first.close();
+        prepare(source, new OlderXid(gtrid, new byte[] {0, 0, 0, 1, 0, 0, 0, 0}));
+        long before = prepared(source);
+        builder.start().close();
+        System.out.println("Java: a branch named in base64: " + before + " prepared, and " + prepared(source) + " after a start");
+        return before == 1 && prepared(source) == 0;
+    }
+
+    private static void prepare(XADataSource source, OlderXid xid) throws Exception {
+        javax.sql.XAConnection xa = source.getXAConnection();
+        try {
+            Connection connection = xa.getConnection();
+            xa.getXAResource().start(xid, XAResource.TMNOFLAGS);
+            try (Statement statement = connection.createStatement()) {
+                statement.execute("INSERT INTO alone VALUES ('older')");
+            }
+            xa.getXAResource().end(xid, XAResource.TMSUCCESS);
+            xa.getXAResource().prepare(xid);
+        } finally {
+            xa.close();
+        }
+    }
+
+    private static long prepared(XADataSource source) throws Exception {
+        javax.sql.XAConnection xa = source.getXAConnection();
+        try (Statement statement = xa.getConnection().createStatement()) {
+            ResultSet rows = statement.executeQuery("SELECT COUNT(*) FROM pg_prepared_xacts WHERE gid LIKE '7\\_%'");
+            rows.next();
+            return rows.getLong(1);
+        } finally {
+            xa.close();
+        }
+    }
+
     private long inDoubt() throws SQLException {
         long count = 0;
         for (int database = 0; database < 2; database++) {
@@ -341,6 +382,8 @@ public class Tour {
         tour.connectionsAreLost();
         tour.coordinatorEnds();
         tour.manager.close();
+        boolean isEnded = isOlderBranchEnded(Path.of(words[0]), words[1], tour.plain[tour.isPostgreSQL(0) ? 0 : 1]);
+        tour.wrong += isEnded ? 0 : 1;
         long doubt = tour.inDoubt();
         System.out.println("Java: " + tour.stories + " stories, " + tour.wrong + " wrong, " + doubt + " in doubt at the end");
         System.exit(tour.wrong + doubt > 0 ? 1 : 0);

@@ -48,6 +48,11 @@ enum Dialect {
             execute(connection, "SELECT pg_terminate_backend(" + number + ")");
         }
 
+        @Override
+        XAResource xaResource(Resource owner, XAResource inner, Connection connection) {
+            return new PostgreSqlXaResource(owner, this, inner, connection);
+        }
+
         // Of the driver's class that was met last.
         private volatile Method stateOf;
 

@@ -44,7 +44,7 @@ class JdbcXaResource implements OwnedXaResource {
         inner.commit(xid, isOnePhase);
     }
 
-    private void seeWhole(Xid xid) throws XAException {
+    final void seeWhole(Xid xid) throws XAException {
         boolean isGivenUp;
         try {
             isGivenUp = dialect.isGivenUp(connection);
@@ -52,7 +52,7 @@ class JdbcXaResource implements OwnedXaResource {
             throw failed(XAException.XAER_RMFAIL, error);
         }
         if (isGivenUp) {
-            inner.rollback(xid);
+            rollback(xid);
             throw failed(XAException.XA_RBROLLBACK, new SQLException("a statement had failed, and the database has given the transaction up"));
         }
     }

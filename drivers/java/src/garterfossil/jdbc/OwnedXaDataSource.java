@@ -39,16 +39,33 @@ final class OwnedXaDataSource {
         Dialect dialect = owner.dialect(first);
         long number = dialect.number(first, owner.label());
         XAResource resource = dialect.xaResource(owner, xa.getXAResource(), first);
+        Connection given = resource instanceof PostgreSqlXaResource ? guarded(first, (PostgreSqlXaResource) resource) : first;
         open.add(number);
         return (XAConnection) Proxy.newProxyInstance(getClass().getClassLoader(), new Class<?>[] {XAConnection.class}, (proxy, method, words) -> {
             switch (method.getName()) {
                 case "getXAResource": return resource;
                 // A new one would shut the first.
-                case "getConnection": return first;
+                case "getConnection": return given;
                 case "close": open.remove(number); return direct(xa, method, words);
                 case "equals": return proxy == words[0];
                 case "hashCode": return System.identityHashCode(proxy);
                 default: return direct(xa, method, words);
+            }
+        });
+    }
+
+    /** The connection, whose transaction isn't the program's to end while it has a branch: other drivers see to that themselves. */
+    private static Connection guarded(Connection plain, PostgreSqlXaResource resource) {
+        return (Connection) Proxy.newProxyInstance(OwnedXaDataSource.class.getClassLoader(), new Class<?>[] {Connection.class}, (proxy, method, words) -> {
+            String name = method.getName();
+            boolean isEnd = name.equals("commit") || name.equals("rollback") && words == null || name.equals("setAutoCommit") && (boolean) words[0];
+            if (isEnd && resource.hasBranch()) {
+                throw new SQLException(name + " isn't for a connection that has a branch", "2D000");
+            }
+            switch (name) {
+                case "equals": return proxy == words[0];
+                case "hashCode": return System.identityHashCode(proxy);
+                default: return direct(plain, method, words);
             }
         });
     }
