@@ -8,36 +8,49 @@ import java.util.List;
 final class Completions {
     private final List<Completion> plain = new ArrayList<>(), interposed = new ArrayList<>();
 
-    void add(Completion completion, boolean isInterposed) {
+    synchronized void add(Completion completion, boolean isInterposed) {
         (isInterposed ? interposed : plain).add(completion);
+    }
+
+    /** One of them by its place, or null. */
+    private synchronized Completion at(List<Completion> of, int place) {
+        return place < of.size() ? of.get(place) : null;
     }
 
     /** Before the end, as long as the transaction may still be committed. One may register others. */
     void before(GlobalTransaction transaction) {
         try {
-            for (int at = 0; at < plain.size() && transaction.fault() == null; at++) {
-                plain.get(at).before();
-            }
-            for (int at = 0; at < interposed.size() && transaction.fault() == null; at++) {
-                interposed.get(at).before();
-            }
-        } catch (RuntimeException error) {
-            transaction.setRollbackOnly("a synchronization failed before its end: " + error);
+            beforeEach(plain, transaction);
+            beforeEach(interposed, transaction);
+        } catch (RuntimeException | Error error) {
+            transaction.fail("a synchronization failed before its end: " + error, error);
+        }
+    }
+
+    private void beforeEach(List<Completion> of, GlobalTransaction transaction) {
+        int place = 0;
+        for (Completion it = at(of, place); it != null && transaction.fault() == null; it = at(of, place)) {
+            it.before();
+            place++;
         }
     }
 
     /** After the end, once. */
     void after(GlobalTransaction transaction) {
+        for (Completion completion : taken()) {
+            try {
+                completion.after(transaction.outcome());
+            } catch (RuntimeException | Error error) {
+                Manager.LOG.log(Level.WARNING, "a synchronization failed after the end of " + transaction, error);
+            }
+        }
+    }
+
+    private synchronized List<Completion> taken() {
         List<Completion> all = new ArrayList<>(interposed);
         all.addAll(plain);
         interposed.clear();
         plain.clear();
-        for (Completion completion : all) {
-            try {
-                completion.after(transaction.outcome());
-            } catch (RuntimeException error) {
-                Manager.LOG.log(Level.WARNING, "a synchronization failed after the end of " + transaction, error);
-            }
-        }
+        return all;
     }
 }

@@ -62,15 +62,26 @@ public final class Gate {
         }
     }
 
+    /** An interrupt waits: it isn't work that goes on. */
     private boolean isLeft(long patience) {
+        long until = System.nanoTime() + patience * 1_000_000;
+        boolean isInterrupted = false;
         try {
-            if (lock.tryLock(patience, TimeUnit.MILLISECONDS)) {
-                lock.unlock();
-                return true;
+            while (true) {
+                try {
+                    boolean isFree = lock.tryLock(until - System.nanoTime(), TimeUnit.NANOSECONDS);
+                    if (isFree) {
+                        lock.unlock();
+                    }
+                    return isFree;
+                } catch (InterruptedException error) {
+                    isInterrupted = true;
+                }
             }
-        } catch (InterruptedException error) {
-            Thread.currentThread().interrupt();
+        } finally {
+            if (isInterrupted) {
+                Thread.currentThread().interrupt();
+            }
         }
-        return false;
     }
 }

@@ -31,6 +31,9 @@ public final class GlobalTransaction {
         }
     }
 
+    /** After a time-out its thread has so long to ask for its end, and to be told. Then the synchronizations are called all the same. */
+    private static final Duration TO_HEAR = Duration.ofSeconds(5);
+
     private final Manager manager;
     private final ReentrantLock lock = new ReentrantLock();
     private final Branches branches;
@@ -42,7 +45,9 @@ public final class GlobalTransaction {
     private Future<?> alarm;
     private volatile Outcome outcome = Outcome.ACTIVE;
     private volatile String fault;
-    private volatile boolean isGivenUp;
+    // What made that so, if it was an exception, or a call of setRollbackOnly.
+    private volatile Throwable cause;
+    private volatile boolean isGivenUp, isEnded;
 
     GlobalTransaction(Manager manager, Duration timeout) {
         this.manager = manager;
@@ -81,6 +86,11 @@ public final class GlobalTransaction {
         return fault;
     }
 
+    /** Whether somebody called for its end, and it is over. One that is rolled back by its time-out isn't ended: its program is to hear of it. */
+    public boolean isEnded() {
+        return isEnded;
+    }
+
     /** How long it may still go on. */
     public Duration left() {
         return Duration.ofNanos(Math.max(0, deadline - System.nanoTime()));
@@ -101,14 +111,37 @@ public final class GlobalTransaction {
         completions.add(completion, isInterposed);
     }
 
+    /** Who called setRollbackOnly. */
+    private static final class Marked extends Exception {
+        private static final long serialVersionUID = 1;
+
+        Marked(String why) {
+            super(why + ", by thread '" + Thread.currentThread().getName() + "'");
+        }
+    }
+
     /** It can only be rolled back from now on. */
     public void setRollbackOnly(String why) {
+        mark(why, fault == null ? new Marked(why) : null);
+    }
+
+    private synchronized void mark(String why, Throwable because) {
         if (fault == null) {
             fault = why;
+            cause = because;
         }
         if (outcome == Outcome.ACTIVE) {
             outcome = Outcome.MARKED_ROLLBACK;
         }
+    }
+
+    /** The same since something failed. That is told also where it had called setRollbackOnly before. */
+    synchronized void fail(String why, Throwable because) {
+        if (cause == null || cause instanceof Marked) {
+            fault = why;
+            cause = because;
+        }
+        mark(why, because);
     }
 
     private void requireOpen() throws Fault.Unavailable {
@@ -129,7 +162,7 @@ public final class GlobalTransaction {
             return;
         }
         String why = "it took longer than its time-out of " + timeout.toSeconds() + " s";
-        setRollbackOnly(why);
+        mark(why, null);
         if (!lock.tryLock()) {
             branches.cancelWork();
             alarm = manager.later(this::timeOut, Duration.ofMillis(200));
@@ -145,6 +178,8 @@ public final class GlobalTransaction {
             Manager.LOG.log(Level.WARNING, () -> this + ": " + error.getMessage());
         } finally {
             leave();
+            // Mostly its own thread hears of it before that.
+            manager.later(this::callAfter, TO_HEAR);
         }
     }
 
@@ -195,7 +230,7 @@ public final class GlobalTransaction {
             return branches.begin(rm, brought);
         } catch (Fault | RuntimeException | Error error) {
             if (branches.all().size() > count) {
-                setRollbackOnly("no branch at " + rm + ": " + error.getMessage());
+                mark("no branch at " + rm + ": " + error.getMessage(), error);
             }
             throw error;
         }
@@ -210,7 +245,7 @@ public final class GlobalTransaction {
         Optional<Branch> found = branches.of(xaResource);
         if (found.isPresent() && isFailed) {
             found.get().fail();
-            setRollbackOnly("work at " + found.get().rm() + " failed, as its end by TMFAIL says");
+            mark("work at " + found.get().rm() + " failed, as its end by TMFAIL says", null);
         }
         return found.isPresent();
     }
@@ -221,7 +256,7 @@ public final class GlobalTransaction {
             throw new Fault.Unavailable(this + " can only be rolled back: " + fault);
         }
         if (branches.isSessionOver()) {
-            setRollbackOnly("the coordinator ended");
+            mark("the coordinator ended", null);
             throw new Fault.Unavailable(this + " can only be rolled back: " + fault);
         }
     }
@@ -230,20 +265,42 @@ public final class GlobalTransaction {
 
     /** Commits it. Once this returns the decision is in the log, and whatever ends then, each branch is committed. */
     public void commit() throws Fault {
-        requireOpen();
-        completions.before(this);
+        requireNotEnded();
+        if (outcome.isOpen()) {
+            completions.before(this);
+        }
+        lock.lock();
         try {
-            lock.lock();
-            try {
-                requireOpen();
-                commitLocked();
-            } catch (RuntimeException | Error error) {
-                outcome = Outcome.UNKNOWN;
-                giveUp(error);
-                throw error;
-            } finally {
-                leave();
+            requireNotEnded();
+            if (outcome == Outcome.ROLLED_BACK) {
+                throw rolledBack();
             }
+            requireOpen();
+            commitLocked();
+        } catch (RuntimeException | Error error) {
+            outcome = Outcome.UNKNOWN;
+            giveUp(error);
+            throw error;
+        } finally {
+            end();
+        }
+    }
+
+    private void requireNotEnded() throws Fault.Unavailable {
+        if (isEnded) {
+            throw new Fault.Unavailable(this + " is " + outcome);
+        }
+    }
+
+    private Fault.RolledBack rolledBack() {
+        return new Fault.RolledBack(this + " is rolled back: " + fault, cause);
+    }
+
+    /** Somebody called for its end. */
+    private void end() {
+        isEnded = outcome.isOver();
+        try {
+            leave();
         } finally {
             callAfter();
         }
@@ -251,16 +308,16 @@ public final class GlobalTransaction {
 
     private void commitLocked() throws Fault {
         if (fault == null && branches.isSessionOver()) {
-            setRollbackOnly("the coordinator ended");
+            mark("the coordinator ended", null);
         }
         for (Branch branch : branches.all()) {
             if (branch.isLost()) {
-                setRollbackOnly("the connection to " + branch.rm() + " was lost");
+                mark("the connection to " + branch.rm() + " was lost", null);
             }
         }
         if (fault != null) {
             rollBack();
-            throw new Fault.RolledBack(this + " is rolled back: " + fault, null);
+            throw rolledBack();
         }
         if (branches.all().isEmpty()) {
             outcome = Outcome.COMMITTED;
@@ -289,11 +346,13 @@ public final class GlobalTransaction {
     public void rollback() throws Fault {
         lock.lock();
         try {
-            requireOpen();
-            rollBack();
+            requireNotEnded();
+            if (outcome != Outcome.ROLLED_BACK) {
+                requireOpen();
+                rollBack();
+            }
         } finally {
-            leave();
-            callAfter();
+            end();
         }
     }
 
@@ -317,7 +376,7 @@ public final class GlobalTransaction {
             return;
         }
         String why = "the coordinator ended: roll " + this + " back";
-        setRollbackOnly("the coordinator ended");
+        mark("the coordinator ended", null);
         branches.shut(why);
         boolean isMine = false;
         try {
@@ -348,9 +407,15 @@ public final class GlobalTransaction {
         }
     }
 
+    /** It is no thread's any more, so that one of them may begin another. */
     private void callAfter() {
         if (outcome.isOver()) {
+            GlobalTransaction before = manager.current();
+            manager.associate(null);
             completions.after(this);
+            if (before != null && before != this && manager.current() == null) {
+                manager.associate(before);
+            }
         }
     }
 }

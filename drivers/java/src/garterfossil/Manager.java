@@ -352,14 +352,23 @@ public final class Manager implements AutoCloseable {
         return transaction;
     }
 
-    /** The transaction of this thread, or null. */
+    /** The transaction of this thread, or null. One that was ended, by whichever thread, is no thread's any more. */
     public GlobalTransaction current() {
-        return current.get();
+        GlobalTransaction transaction = current.get();
+        if (transaction != null && transaction.isEnded()) {
+            current.remove();
+            return null;
+        }
+        return transaction;
     }
 
     /** Gives this thread a transaction, or none (null). */
     public void associate(GlobalTransaction transaction) {
-        current.set(transaction);
+        if (transaction == null) {
+            current.remove();
+        } else {
+            current.set(transaction);
+        }
     }
 
     /** How many branches and recoveries wait for a resource that can't be reached. */

@@ -52,7 +52,7 @@ final class ResourceManager {
     /** A connection, of the pool or a new one. Waits for a place. */
     Lease borrow(Duration patience) throws Fault {
         try {
-            if (!places.tryAcquire(patience.toNanos(), TimeUnit.NANOSECONDS)) {
+            if (!places.tryAcquire() && !places.tryAcquire(patience.toNanos(), TimeUnit.NANOSECONDS)) {
                 throw new Fault.Unavailable("all " + resource.maxConnections() + " connections to " + this + " are in use for "
                     + patience.toSeconds() + " s. Let the pool have more, or end transactions sooner");
             }

@@ -199,12 +199,14 @@ final class Session {
     Slot take(Duration patience) throws Fault {
         seeWhole();
         try {
-            Slot slot = free.pollFirst(patience.toMillis(), TimeUnit.MILLISECONDS);
+            Slot slot = free.pollFirst();
+            slot = slot != null ? slot : free.pollFirst(patience.toMillis(), TimeUnit.MILLISECONDS);
             if (slot != null) {
                 return slot;
             }
         } catch (InterruptedException error) {
             Thread.currentThread().interrupt();
+            throw new Fault.Unavailable("interrupted, while all " + threads + " transactions that may run at once do so");
         }
         throw new Fault.Unavailable("all " + threads + " transactions that may run at once do so, for " + patience.toSeconds()
             + " s. Give the manager more threads; a REQUIRES_NEW in a transaction needs a second one while the first waits");

@@ -11,7 +11,8 @@ final class Usage {
     /** A branch begins. Waits while a recovery has the resource. */
     synchronized void enter(Duration patience) throws Fault.Unavailable {
         if (!isSo(() -> !isWanted && !isHeld, patience)) {
-            throw new Fault.Unavailable("the recovery of the resource takes too long");
+            throw new Fault.Unavailable(Thread.currentThread().isInterrupted() ? "interrupted, while the resource was recovered"
+                : "the recovery of the resource takes too long");
         }
         branches++;
     }

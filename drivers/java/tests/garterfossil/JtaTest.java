@@ -159,6 +159,197 @@ public class JtaTest {
         jta.commit();
     }
 
+    /** A transaction over both, with synchronizations, that its time-out has rolled back. */
+    private JtaTransaction timedOut() throws Exception {
+        seen.clear();
+        jta.setTransactionTimeout(1);
+        jta.begin();
+        jta.setTransactionTimeout(0);
+        enlistBoth();
+        registry.registerInterposedSynchronization(noting("interposed"));
+        jta.getTransaction().registerSynchronization(noting("ordinary"));
+        JtaTransaction transaction = jta.getTransaction();
+        World.eventually(() -> transaction.getStatus() == Status.STATUS_ROLLEDBACK);
+        return transaction;
+    }
+
+    @Test
+    public void synchronizationsOfATimeOut() throws Exception {
+        List<String> wanted = List.of("interposed after, 4", "ordinary after, 4");
+        JtaTransaction transaction = timedOut();
+        assertThrows(RollbackException.class, jta::commit);
+        assertEquals(wanted, seen);
+        assertThrows(IllegalStateException.class, transaction::commit);
+        timedOut();
+        jta.rollback();
+        assertEquals(wanted, seen);
+        // And if its program asks for neither.
+        timedOut();
+        World.eventually(() -> seen.size() == 2);
+        assertThrows(RollbackException.class, jta::commit);
+        assertEquals(wanted, seen);
+    }
+
+    @Test
+    public void aTimeOutInASynchronization() throws Exception {
+        jta.setTransactionTimeout(1);
+        jta.begin();
+        enlistBoth();
+        JtaTransaction transaction = jta.getTransaction();
+        transaction.registerSynchronization(new Synchronization() {
+            @Override
+            public void beforeCompletion() {
+                try {
+                    World.eventually(() -> transaction.getStatus() == Status.STATUS_ROLLEDBACK);
+                } catch (InterruptedException error) {
+                    throw new AssertionError(error);
+                }
+            }
+
+            @Override
+            public void afterCompletion(int status) {
+                seen.add("after, " + status);
+            }
+        });
+        assertThrows(RollbackException.class, jta::commit);
+        assertEquals(List.of("after, 4"), seen);
+    }
+
+    /** A synchronization that fails by an error of the Java machine, at one of its moments. */
+    private static Synchronization failing(boolean isBefore) {
+        return new Synchronization() {
+            @Override
+            public void beforeCompletion() {
+                if (isBefore) {
+                    throw new StackOverflowError("before");
+                }
+            }
+
+            @Override
+            public void afterCompletion(int status) {
+                if (!isBefore) {
+                    throw new StackOverflowError("after");
+                }
+            }
+        };
+    }
+
+    @Test
+    public void errorsOfSynchronizations() throws Exception {
+        jta.begin();
+        enlistBoth();
+        jta.getTransaction().registerSynchronization(failing(true));
+        jta.getTransaction().registerSynchronization(noting("it"));
+        RollbackException error = assertThrows(RollbackException.class, jta::commit);
+        assertEquals(StackOverflowError.class, error.getCause().getClass());
+        assertEquals(List.of("it after, 4"), seen);
+        assertEquals(1, world.a.rolledBack.size());
+        seen.clear();
+        jta.begin();
+        enlistBoth();
+        registry.registerInterposedSynchronization(failing(false));
+        jta.getTransaction().registerSynchronization(noting("it"));
+        jta.commit();
+        assertEquals(List.of("it before, 0", "it after, 3"), seen);
+        assertEquals(1, world.a.committed.size());
+    }
+
+    @Test
+    public void aSynchronizationBeginsAnother() throws Exception {
+        jta.begin();
+        jta.getTransaction().registerSynchronization(new Synchronization() {
+            @Override
+            public void beforeCompletion() {
+            }
+
+            @Override
+            public void afterCompletion(int status) {
+                try {
+                    jta.begin();
+                    seen.add("begun, " + jta.getStatus());
+                    jta.commit();
+                } catch (Exception error) {
+                    seen.add(error.toString());
+                }
+            }
+        });
+        jta.commit();
+        assertEquals(List.of("begun, 0"), seen);
+        assertEquals(Status.STATUS_NO_TRANSACTION, jta.getStatus());
+    }
+
+    @Test
+    public void oneThatIsOver() throws Exception {
+        jta.begin();
+        Transaction transaction = jta.suspend();
+        transaction.rollback();
+        assertThrows(IllegalStateException.class, transaction::rollback);
+        assertThrows(IllegalStateException.class, transaction::commit);
+        assertThrows(InvalidTransactionException.class, () -> jta.resume(transaction));
+        jta.begin();
+        JtaTransaction mine = jta.getTransaction();
+        Thread other = new Thread(() -> {
+            try {
+                mine.commit();
+            } catch (Exception error) {
+                throw new AssertionError(error);
+            }
+        });
+        other.start();
+        other.join();
+        assertEquals(Status.STATUS_NO_TRANSACTION, jta.getStatus());
+        jta.begin();
+        jta.getTransaction().commit();
+        jta.begin();
+        jta.rollback();
+    }
+
+    @Test
+    public void whyItIsRolledBack() throws Exception {
+        jta.begin();
+        jta.setRollbackOnly();
+        Throwable marked = assertThrows(RollbackException.class, jta::commit).getCause();
+        assertTrue(marked.toString(), marked.getMessage().contains(Thread.currentThread().getName()));
+        assertTrue(List.of(marked.getStackTrace()).stream().anyMatch(it -> it.getMethodName().equals("whyItIsRolledBack")));
+        // A flush that calls setRollbackOnly, and then throws what went wrong.
+        jta.begin();
+        jta.getTransaction().registerSynchronization(new Synchronization() {
+            @Override
+            public void beforeCompletion() {
+                registry.setRollbackOnly();
+                throw new IllegalArgumentException("a key is there twice");
+            }
+
+            @Override
+            public void afterCompletion(int status) {
+            }
+        });
+        RollbackException error = assertThrows(RollbackException.class, jta::commit);
+        assertEquals(IllegalArgumentException.class, error.getCause().getClass());
+        assertTrue(error.getMessage(), error.getMessage().contains("a key is there twice"));
+    }
+
+    @Test
+    public void aThreadThatIsInterrupted() throws Exception {
+        jta.begin();
+        enlistBoth();
+        Thread.currentThread().interrupt();
+        jta.commit();
+        jta.begin();
+        enlistBoth();
+        jta.commit();
+        assertTrue(Thread.interrupted());
+        assertEquals(2, world.a.committed.size());
+        for (int count = 0; count < 4; count++) {
+            world.begin().enlist(world.a);
+        }
+        Thread.currentThread().interrupt();
+        GlobalTransaction fifth = world.begin();
+        Fault.Unavailable error = assertThrows(Fault.Unavailable.class, () -> fifth.enlist(world.a));
+        assertTrue(Thread.interrupted());
+        assertTrue(error.getMessage(), error.getMessage().contains("interrupted"));
+    }
+
     @Test
     public void heuristicEnds() throws Exception {
         jta.begin();

@@ -6,6 +6,7 @@ import java.io.FilterOutputStream;
 import java.io.IOException;
 import java.io.InputStream;
 import java.io.InputStreamReader;
+import java.io.InterruptedIOException;
 import java.io.OutputStream;
 import java.io.PipedInputStream;
 import java.io.PipedOutputStream;
@@ -499,13 +500,31 @@ final class StandInCoordinator extends Process {
         return new FilterInputStream(output) {
             @Override
             public int read(byte[] bytes, int from, int count) throws IOException {
-                int came = super.read(bytes, from, count);
+                int came = readInAnyCase(bytes, from, count);
                 Map.Entry<String, Error> told = reading;
                 if (told != null && came > 0 && new String(bytes, from, came, StandardCharsets.ISO_8859_1).contains(told.getKey())) {
                     reading = null;
                     throw told.getValue();
                 }
                 return came;
+            }
+
+            /** An interrupt ends no read of a process' pipe. */
+            private int readInAnyCase(byte[] bytes, int from, int count) throws IOException {
+                boolean isInterrupted = false;
+                try {
+                    while (true) {
+                        try {
+                            return super.read(bytes, from, count);
+                        } catch (InterruptedIOException error) {
+                            isInterrupted = true;
+                        }
+                    }
+                } finally {
+                    if (isInterrupted) {
+                        Thread.currentThread().interrupt();
+                    }
+                }
             }
         };
     }

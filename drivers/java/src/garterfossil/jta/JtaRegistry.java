@@ -54,7 +54,8 @@ public final class JtaRegistry implements TransactionSynchronizationRegistry {
 
     @Override
     public boolean getRollbackOnly() {
-        return required().outcome() == Outcome.MARKED_ROLLBACK;
+        Outcome outcome = required().outcome();
+        return outcome == Outcome.MARKED_ROLLBACK || outcome == Outcome.ROLLING_BACK || outcome == Outcome.ROLLED_BACK;
     }
 
     private GlobalTransaction required() {

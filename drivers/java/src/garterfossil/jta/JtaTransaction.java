@@ -48,39 +48,47 @@ public final class JtaTransaction implements Transaction {
 
     @Override
     public void commit() throws RollbackException, HeuristicMixedException, HeuristicRollbackException, SystemException {
-        if (inner.settled() == Outcome.ROLLED_BACK) {
-            throw new RollbackException(inner + " is rolled back: " + inner.fault());
-        }
-        requireOpen();
+        requireNotEnded();
         GlobalTransaction before = manager.current();
         // What a synchronization does before the end belongs to the transaction.
         manager.associate(inner);
         try {
             inner.commit();
         } catch (Fault.RolledBack fault) {
-            throw caused(new RollbackException(fault.getMessage()), fault);
+            throw caused(new RollbackException(fault.getMessage()), fault.getCause() == null ? fault : fault.getCause());
         } catch (Fault.Heuristic fault) {
             if (fault.isAllRolledBack) {
                 throw caused(new HeuristicRollbackException(fault.getMessage()), fault);
             }
             throw caused(new HeuristicMixedException(fault.getMessage()), fault);
+        } catch (Fault.Unavailable fault) {
+            throw new IllegalStateException(fault.getMessage(), fault);
         } catch (Fault fault) {
             throw JtaTransactionManager.system(fault);
         } finally {
-            manager.associate(before);
+            GlobalTransaction after = manager.current();
+            // What a synchronization begins behind the end stays.
+            if (after == inner || after == null) {
+                manager.associate(before == inner ? null : before);
+            }
         }
     }
 
     @Override
     public void rollback() throws SystemException {
-        if (inner.settled() == Outcome.ROLLED_BACK) {
-            return;
-        }
-        requireOpen();
+        requireNotEnded();
         try {
             inner.rollback();
+        } catch (Fault.Unavailable fault) {
+            throw new IllegalStateException(fault.getMessage(), fault);
         } catch (Fault fault) {
             throw JtaTransactionManager.system(fault);
+        }
+    }
+
+    private void requireNotEnded() {
+        if (inner.isEnded()) {
+            throw new IllegalStateException(inner + " is " + inner.outcome() + ": it is over");
         }
     }
 

@@ -42,12 +42,7 @@ public final class JtaTransactionManager implements TransactionManager, UserTran
 
     @Override
     public void commit() throws RollbackException, HeuristicMixedException, HeuristicRollbackException, SystemException {
-        JtaTransaction transaction = required();
-        try {
-            transaction.commit();
-        } finally {
-            manager.associate(null);
-        }
+        required().commit();
     }
 
     @Override
@@ -56,7 +51,9 @@ public final class JtaTransactionManager implements TransactionManager, UserTran
         try {
             transaction.rollback();
         } finally {
-            manager.associate(null);
+            if (manager.current() == transaction.inner()) {
+                manager.associate(null);
+            }
         }
     }
 
@@ -106,6 +103,9 @@ public final class JtaTransactionManager implements TransactionManager, UserTran
         }
         if (!(transaction instanceof JtaTransaction) || !((JtaTransaction) transaction).isOf(manager)) {
             throw new InvalidTransactionException("no transaction of this manager: " + transaction);
+        }
+        if (((JtaTransaction) transaction).inner().isEnded()) {
+            throw new InvalidTransactionException(transaction + " is over");
         }
         manager.associate(((JtaTransaction) transaction).inner());
     }
