@@ -23,9 +23,20 @@ final class Decisions {
         expected.remove(gtrid);
     }
 
-    /** A session begins: these are the transactions that were decided to commit. No others were. */
-    void find(Set<String> committed) {
-        expected.forEach((gtrid, found) -> found.complete(committed.contains(gtrid)));
+    /**
+     * The session of an incarnation begins: these are the transactions that were decided to commit and have a row. No others of the
+     * incarnation before were. Of an older one a session in between may have ended what was decided, and removed its row.
+     */
+    void find(long incarnation, Set<String> committed) {
+        expected.forEach((gtrid, found) -> {
+            if (committed.contains(gtrid)) {
+                found.complete(true);
+            } else if (Long.parseUnsignedLong(gtrid.substring(0, 16), 16) + 1 == incarnation) {
+                found.complete(false);
+            } else {
+                found.completeExceptionally(new IllegalStateException("a session in between may have ended it"));
+            }
+        });
     }
 
     /** Whether it was decided to commit; null if that isn't known in time. */

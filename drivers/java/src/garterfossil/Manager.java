@@ -189,7 +189,7 @@ public final class Manager implements AutoCloseable {
     private void start(Coordinator coordinator) throws Fault {
         Session next = new Session(coordinator, names.manager, List.copyOf(rms), made.threads);
         try {
-            decisions.find(next.owed());
+            decisions.find(next.incarnation, next.owed());
             session = next;
             next.recover();
         } catch (Fault error) {

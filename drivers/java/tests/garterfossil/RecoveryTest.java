@@ -6,14 +6,18 @@ import static org.junit.Assert.assertNotEquals;
 import static org.junit.Assert.assertThrows;
 import static org.junit.Assert.assertTrue;
 
+import java.io.IOException;
+import java.io.UncheckedIOException;
 import java.nio.file.Files;
 import java.time.Duration;
 import java.util.HashSet;
+import java.util.List;
 import java.util.Map;
 import java.util.Set;
 import java.util.concurrent.CountDownLatch;
 import java.util.concurrent.FutureTask;
 import java.util.concurrent.TimeUnit;
+import java.util.concurrent.atomic.AtomicInteger;
 import javax.transaction.xa.XAException;
 import org.junit.Rule;
 import org.junit.Test;
@@ -45,6 +49,45 @@ public class RecoveryTest {
         nothingIsLeft();
         assertEquals(1, world.a.committed.size());
         assertEquals(1, world.b.committed.size());
+    }
+
+    /** The session of a standby, over the same log, ends what was decided and removes its row. */
+    private void standBy() {
+        try {
+            List<String> rows = Files.readAllLines(world.folder.resolve("rows"));
+            for (StandInResource at : List.of(world.a, world.b)) {
+                for (BranchXid xid : List.copyOf(at.branches.keySet())) {
+                    assertTrue(xid.toString().contains(rows.get(0).split(" ")[0]));
+                    at.branches.remove(xid);
+                    at.committed.add(xid);
+                }
+            }
+            world.put("rows", "");
+            world.put("incarnation", "2");
+        } catch (IOException error) {
+            throw new UncheckedIOException(error);
+        }
+    }
+
+    @Test
+    public void aStandbyEndsWhatWasDecidedBeforeTheNextSession() throws Exception {
+        world.manager.close();
+        world.put("incarnation", "0");
+        AtomicInteger starts = new AtomicInteger();
+        try (Manager manager = world.builder().starter(words -> {
+            if (!words.get(1).equals("log") && starts.incrementAndGet() == 2) {
+                standBy();
+            }
+            return StandInCoordinator.of(world.folder, words);
+        }).start()) {
+            GlobalTransaction transaction = manager.begin(Duration.ofSeconds(20));
+            transaction.enlist(world.a);
+            transaction.enlist(world.b);
+            world.dieAt("decided");
+            assertThrows(Fault.OutcomeUnknown.class, transaction::commit);
+            assertEquals(1, world.a.committed.size());
+            assertEquals(1, world.b.committed.size());
+        }
     }
 
     @Test
