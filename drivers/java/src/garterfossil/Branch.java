@@ -62,6 +62,11 @@ final class Branch {
         return may == PREPARED && !isOver;
     }
 
+    /** Whether the program can work past the gate, until the connection is closed. */
+    boolean isLetOut() {
+        return link() != null && link().isLetOut();
+    }
+
     private String name() {
         return xid.transaction();
     }
@@ -394,7 +399,8 @@ final class Branch {
         }
         boolean isQuiet = gate.shut(why, 0);
         isLost = true;
-        if (isQuiet && isUndone && (may & (ACTIVE | IDLE | ROLLBACK_ONLY)) != 0 && !isOver) {
+        // Behind a rollback a connection is an ordinary one again, and so must not be the program's any more.
+        if (isQuiet && isUndone && (may & (ACTIVE | IDLE | ROLLBACK_ONLY)) != 0 && !isOver && !isLetOut()) {
             undo();
         }
         if (lease != null) {

@@ -13,6 +13,14 @@ public interface Link {
     /** Whether it still works, as the resource says. */
     boolean isUsable();
 
+    /**
+     * Whether the program has got what lies under it, as by {@code Connection.unwrap}: work on that goes past the gate, and is only ended by
+     * closing the connection.
+     */
+    default boolean isLetOut() {
+        return false;
+    }
+
     /** Makes it as it was when new, before another transaction uses it. False if that can't be done. */
     boolean reset();
 

@@ -119,7 +119,7 @@ final class ResourceManager {
             isOver = true;
             boolean isKept = false;
             try {
-                isKept = link.reset() && keep();
+                isKept = !link.isLetOut() && link.reset() && keep();
             } finally {
                 leave(isKept);
             }

@@ -37,6 +37,9 @@ final class Rollback {
     private int answerOf(Branch branch) {
         Session session = branches.session();
         boolean wasPrepared = branch.isPrepared();
+        if (branch.isLetOut() && !branch.isOver()) {
+            branch.giveUp("its connection was unwrapped, and so is closed");
+        }
         try {
             if (!branch.isOver() && !branch.isLost()) {
                 branch.endToRollBack();

@@ -2,6 +2,8 @@ package garterfossil;
 
 import static org.junit.Assert.assertEquals;
 import static org.junit.Assert.assertFalse;
+import static org.junit.Assert.assertNotEquals;
+import static org.junit.Assert.assertSame;
 import static org.junit.Assert.assertThrows;
 import static org.junit.Assert.assertTrue;
 
@@ -126,6 +128,89 @@ public class DataSourceTest {
         }
         assertEquals(1, database.done.stream().distinct().count());
         assertFalse(database.resource.calls.contains("start"));
+    }
+
+    /** The number of the connection by which something was done last. */
+    private String last() {
+        return database.done.get(database.done.size() - 1).split(" ")[0];
+    }
+
+    @Test
+    public void aConnectionThatIsUnwrapped() throws Exception {
+        for (boolean isTimeOut : new boolean[] {true, false}) {
+            transaction = manager.begin(isTimeOut ? Duration.ofMillis(300) : Duration.ofSeconds(20));
+            manager.associate(transaction);
+            Connection connection = source.getConnection();
+            StandInDatabase.Plain plain = connection.unwrap(StandInDatabase.Plain.class);
+            plain.does("past the gate");
+            String used = last();
+            if (isTimeOut) {
+                World.eventually(() -> transaction.outcome() == Outcome.ROLLED_BACK);
+                // Behind xa_rollback its connection would be an ordinary one, and the program has it still. So it is closed first.
+                World.eventually(() -> manager.owing() == 0);
+                assertFalse(database.resource.callsByLink.contains(used + " rollback"));
+                assertThrows(Fault.RolledBack.class, transaction::commit);
+            } else {
+                transaction.commit();
+            }
+            begin();
+            source.getConnection().createStatement().executeUpdate("another's");
+            assertNotEquals(used, last());
+            transaction.rollback();
+        }
+    }
+
+    @Test
+    public void noWayPastTheGate() throws Exception {
+        begin();
+        Connection connection = source.getConnection();
+        Statement statement = connection.createStatement();
+        assertSame(connection, statement.getConnection());
+        assertSame(statement, statement.getResultSet().getStatement());
+        transaction.rollback();
+    }
+
+    @Test
+    public void statementsAreClosed() throws Exception {
+        begin();
+        Connection connection = source.getConnection();
+        for (int count = 0; count < 3; count++) {
+            connection.createStatement();
+        }
+        assertEquals(3, database.open.get());
+        // They were left open, and rows of theirs would be read in the next transaction.
+        transaction.commit();
+        assertEquals(0, database.open.get());
+    }
+
+    @Test
+    public void aConnectionOfNoTransactionUsedInOne() throws Exception {
+        try (Connection connection = source.getConnection(); Statement statement = connection.createStatement()) {
+            statement.executeUpdate("before");
+            begin();
+            SQLException error = assertThrows(SQLException.class, () -> statement.executeUpdate("inside"));
+            assertTrue(error.getMessage(), error.getMessage().contains("got outside of any transaction"));
+            assertThrows(SQLException.class, () -> connection.prepareStatement("inside"));
+            assertThrows(SQLException.class, connection::commit);
+            transaction.rollback();
+            statement.executeUpdate("after");
+        }
+        assertEquals(2, database.done.size());
+    }
+
+    @Test
+    public void aConnectionOfASuspendedTransaction() throws Exception {
+        begin();
+        GlobalTransaction outer = transaction;
+        Statement statement = source.getConnection().createStatement();
+        begin();
+        SQLException error = assertThrows(SQLException.class, () -> statement.executeUpdate("of the outer one"));
+        assertTrue(error.getMessage(), error.getMessage().contains("takes part in " + outer));
+        transaction.rollback();
+        manager.associate(outer);
+        statement.executeUpdate("of the outer one");
+        outer.commit();
+        assertEquals(1, database.done.size());
     }
 
     @Test

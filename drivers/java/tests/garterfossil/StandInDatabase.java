@@ -5,18 +5,27 @@ import java.lang.reflect.Proxy;
 import java.sql.Connection;
 import java.sql.DatabaseMetaData;
 import java.sql.PreparedStatement;
+import java.sql.ResultSet;
 import java.sql.SQLException;
 import java.sql.Statement;
 import java.util.ArrayList;
 import java.util.Collections;
 import java.util.List;
 import java.util.Map;
+import java.util.concurrent.atomic.AtomicInteger;
 import javax.sql.XAConnection;
 import javax.sql.XADataSource;
 
 /** A stand-in for a database with a JDBC driver: it notes each statement, and by which connection it was done. */
 final class StandInDatabase {
+    /** What lies under a connection, as the driver's own. */
+    interface Plain {
+        void does(String text);
+    }
+
     final StandInResource resource = new StandInResource("inner");
+    /** How many statements are open. */
+    final AtomicInteger open = new AtomicInteger();
     /** What was done: the number of the connection, and the text. */
     final List<String> done = Collections.synchronizedList(new ArrayList<>());
 
@@ -53,14 +62,29 @@ final class StandInDatabase {
                 return null;
             },
             "getAutoCommit", (proxy, method, words) -> true,
+            "unwrap", (proxy, method, words) -> (Plain) text -> done.add(number + " " + text),
             "isValid", (proxy, method, words) -> true));
     }
 
     private <S extends Statement> S statement(Class<S> face, long number) {
-        return of(face, Map.of("executeUpdate", (proxy, method, words) -> {
-            done.add(number + " " + (words == null ? "" : words[0]));
-            return 1;
-        }));
+        open.incrementAndGet();
+        S[] made = arrayOf(face);
+        made[0] = of(face, Map.of(
+            "executeUpdate", (proxy, method, words) -> {
+                done.add(number + " " + (words == null ? "" : words[0]));
+                return 1;
+            },
+            "getResultSet", (proxy, method, words) -> of(ResultSet.class, Map.of("getStatement", (inner, asked, none) -> made[0])),
+            "close", (proxy, method, words) -> {
+                open.decrementAndGet();
+                return null;
+            }));
+        return made[0];
+    }
+
+    @SuppressWarnings("unchecked")
+    private static <S> S[] arrayOf(Class<S> face) {
+        return (S[]) java.lang.reflect.Array.newInstance(face, 1);
     }
 
     /** An object of these methods; all others do nothing. */

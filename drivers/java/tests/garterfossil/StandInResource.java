@@ -20,6 +20,8 @@ final class StandInResource implements Resource {
     enum State { ACTIVE, IDLE, ROLLBACK_ONLY, PREPARED }
 
     final List<String> calls = Collections.synchronizedList(new ArrayList<>());
+    /** The same, behind the number of the connection. */
+    final List<String> callsByLink = Collections.synchronizedList(new ArrayList<>());
     final Map<BranchXid, State> branches = new ConcurrentHashMap<>();
     /** The branches that were committed, and those that were rolled back. */
     final List<BranchXid> committed = Collections.synchronizedList(new ArrayList<>()), rolledBack = Collections.synchronizedList(new ArrayList<>());
@@ -143,6 +145,7 @@ final class StandInResource implements Resource {
         int make(String call, Xid xid, Does does) throws XAException {
             before.run();
             calls.add(call);
+            callsByLink.add(number + " " + call);
             int told = toldFor(call);
             if (isDown || isLost || told == LOST_BEFORE) {
                 isLost = true;

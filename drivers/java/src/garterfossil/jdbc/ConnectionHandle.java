@@ -3,46 +3,48 @@ package garterfossil.jdbc;
 import garterfossil.Fault;
 import garterfossil.Gate;
 import garterfossil.GlobalTransaction;
+import garterfossil.Manager;
 import java.lang.reflect.InvocationHandler;
 import java.lang.reflect.InvocationTargetException;
 import java.lang.reflect.Method;
 import java.lang.reflect.Proxy;
-import java.sql.CallableStatement;
 import java.sql.Connection;
-import java.sql.DatabaseMetaData;
-import java.sql.PreparedStatement;
-import java.sql.ResultSet;
 import java.sql.SQLException;
 import java.sql.Statement;
 import java.util.ArrayList;
-import java.util.List;
+import java.util.Collections;
+import java.util.IdentityHashMap;
+import java.util.Set;
 
 /** A connection as a program has it. All its work goes through a gate, which is shut as the transaction ends. */
 final class ConnectionHandle implements InvocationHandler {
-    private static final Gate.Work NOTHING = () -> { };
+    static final Gate.Work NOTHING = () -> { };
 
+    private final Manager manager;
     private final JdbcLink link;
     private final Gate gate;
     // The transaction, or null outside of any.
     private final GlobalTransaction transaction;
     private final Runnable whenClosed;
-    // Those that were made on it: they are closed with it.
-    private final List<Statement> statements = new ArrayList<>();
-    private boolean isClosed;
+    // Those that are open on it: they are closed with it.
+    private final Set<Statement> statements = Collections.synchronizedSet(Collections.newSetFromMap(new IdentityHashMap<>()));
+    private final Children children = new Children(this);
+    private volatile boolean isClosed;
 
-    private ConnectionHandle(JdbcLink link, Gate gate, GlobalTransaction transaction, Runnable whenClosed) {
+    private ConnectionHandle(Manager manager, JdbcLink link, Gate gate, GlobalTransaction transaction, Runnable whenClosed) {
+        this.manager = manager;
         this.link = link;
         this.gate = gate;
         this.transaction = transaction;
         this.whenClosed = whenClosed;
     }
 
-    static Connection inTransaction(JdbcLink link, Gate gate, GlobalTransaction transaction) {
-        return proxy(new ConnectionHandle(link, gate, transaction, () -> { }));
+    static Connection inTransaction(Manager manager, JdbcLink link, Gate gate, GlobalTransaction transaction) {
+        return proxy(new ConnectionHandle(manager, link, gate, transaction, () -> { }));
     }
 
-    static Connection alone(JdbcLink link, Gate gate, Runnable whenClosed) {
-        return proxy(new ConnectionHandle(link, gate, null, whenClosed));
+    static Connection alone(Manager manager, JdbcLink link, Runnable whenClosed) {
+        return proxy(new ConnectionHandle(manager, link, new Gate(), null, whenClosed));
     }
 
     private static Connection proxy(ConnectionHandle handle) {
@@ -55,12 +57,12 @@ final class ConnectionHandle implements InvocationHandler {
             case "equals": return proxy == words[0];
             case "hashCode": return System.identityHashCode(proxy);
             case "toString": return "a connection of " + (transaction == null ? "no transaction" : transaction);
-            case "isClosed": return isClosed || gate.isShut();
-            case "isValid": return !isClosed && !gate.isShut() && (boolean) through(method, words, NOTHING);
+            case "isClosed": return isOver();
+            case "isValid": return !isOver() && (boolean) through(link.connection(), method, words, NOTHING);
             case "close": return close();
-            case "abort": isClosed = true; link.suspect(); return through(method, words, NOTHING);
+            case "abort": isClosed = true; link.suspect(); return through(link.connection(), method, words, NOTHING);
             case "isWrapperFor": return ((Class<?>) words[0]).isInstance(proxy) || ((Class<?>) words[0]).isInstance(link.connection());
-            case "unwrap": return ((Class<?>) words[0]).isInstance(proxy) ? proxy : through(method, words, NOTHING);
+            case "unwrap": return ((Class<?>) words[0]).isInstance(proxy) ? proxy : unwrapped(link.connection(), method, words);
             default: return inner(proxy, method, words);
         }
     }
@@ -69,7 +71,8 @@ final class ConnectionHandle implements InvocationHandler {
         if (!isClosed) {
             isClosed = true;
             try {
-                for (Statement statement : statements) {
+                for (Statement statement : new ArrayList<>(statements)) {
+                    closed(statement);
                     statement.close();
                 }
             } finally {
@@ -80,14 +83,20 @@ final class ConnectionHandle implements InvocationHandler {
     }
 
     private Object inner(Object proxy, Method method, Object[] words) throws Throwable {
-        if (isClosed) {
-            throw new SQLException("the connection is closed", "08003");
+        seeOpen();
+        if (!isHarmless(method.getName())) {
+            seeOwn();
         }
         if (transaction != null && isOfTransaction(method, words)) {
             return ownTransaction(method, words);
         }
         rememberSetting(method);
-        return wrapped(proxy, through(method, words, NOTHING));
+        return children.wrapped((Connection) proxy, through(link.connection(), method, words, NOTHING));
+    }
+
+    /** Whether it does no work, or undoes it. */
+    private static boolean isHarmless(String name) {
+        return name.startsWith("get") || name.startsWith("is") || name.equals("clearWarnings") || name.equals("rollback");
     }
 
     private static boolean isOfTransaction(Method method, Object[] words) {
@@ -130,11 +139,47 @@ final class ConnectionHandle implements InvocationHandler {
         }
     }
 
-    private Object through(Method method, Object[] words, Gate.Work work) throws Throwable {
-        return through(link.connection(), method, words, work);
+    // ** what its statements need of it
+
+    boolean isOver() {
+        return isClosed || gate.isShut();
     }
 
-    private Object through(Object target, Method method, Object[] words, Gate.Work work) throws Throwable {
+    void seeOpen() throws SQLException {
+        if (isClosed) {
+            throw new SQLException("the connection is closed", "08003");
+        }
+    }
+
+    /** Sees that work on it is of the thread's transaction, if that has one: else it would stay, or not, whatever becomes of that. */
+    void seeOwn() throws SQLException {
+        GlobalTransaction current = manager.current();
+        if (current == null || current == transaction) {
+            return;
+        }
+        throw new SQLException("this connection " + (transaction == null ? "was got outside of any transaction" : "takes part in " + transaction)
+            + ", and so its work would be no part of " + current + ", which the thread has: get one from the DataSource now that this has begun", "25000");
+    }
+
+    void opened(Statement statement) {
+        statements.add(statement);
+        link.opened(statement);
+    }
+
+    void closed(Statement statement) {
+        statements.remove(statement);
+        link.closed(statement);
+    }
+
+    /** What lies under a thing, if it has such a face. Work on that goes past the gate. */
+    Object unwrapped(Object target, Method method, Object[] words) throws Throwable {
+        Object found = through(target, method, words, NOTHING);
+        link.letOut();
+        return found;
+    }
+
+    /** Has work done, if the gate is open. */
+    Object through(Object target, Method method, Object[] words, Gate.Work work) throws Throwable {
         try {
             gate.enter(work);
         } catch (Fault.Unavailable fault) {
@@ -150,43 +195,11 @@ final class ConnectionHandle implements InvocationHandler {
         }
     }
 
-    private static Object direct(Object target, Method method, Object[] words) throws Throwable {
+    static Object direct(Object target, Method method, Object[] words) throws Throwable {
         try {
             return method.invoke(target, words);
         } catch (InvocationTargetException error) {
             throw error.getCause();
         }
-    }
-
-    private Object wrapped(Object proxy, Object made) throws SQLException {
-        if (made instanceof Statement) {
-            statements.add((Statement) made);
-            Class<?> face = made instanceof CallableStatement ? CallableStatement.class
-                : made instanceof PreparedStatement ? PreparedStatement.class : Statement.class;
-            return child(proxy, face, made, ((Statement) made)::cancel);
-        }
-        return made instanceof DatabaseMetaData ? child(proxy, DatabaseMetaData.class, made, NOTHING) : made;
-    }
-
-    /** A statement, or what it gives where that can change rows. */
-    private Object child(Object connection, Class<?> face, Object target, Gate.Work work) {
-        return Proxy.newProxyInstance(ConnectionHandle.class.getClassLoader(), new Class<?>[] {face}, (proxy, method, words) -> {
-            switch (method.getName()) {
-                case "equals": return proxy == words[0];
-                case "hashCode": return System.identityHashCode(proxy);
-                case "toString": return target.toString();
-                case "getConnection": return connection;
-                // Neither does work, so both may come at any time.
-                case "cancel": case "close": return direct(target, method, words);
-                case "isClosed": return isClosed || gate.isShut() || (boolean) direct(target, method, words);
-                default:
-            }
-            if (isClosed) {
-                throw new SQLException("the connection is closed", "08003");
-            }
-            Object made = through(target, method, words, work);
-            boolean canChange = made instanceof ResultSet && ((ResultSet) made).getConcurrency() == ResultSet.CONCUR_UPDATABLE;
-            return canChange ? child(connection, ResultSet.class, made, NOTHING) : made;
-        });
     }
 }

@@ -3,8 +3,12 @@ package garterfossil.jdbc;
 import garterfossil.Link;
 import java.sql.Connection;
 import java.sql.SQLException;
+import java.sql.Statement;
 import java.util.ArrayList;
+import java.util.Collections;
+import java.util.IdentityHashMap;
 import java.util.List;
+import java.util.Set;
 import javax.sql.XAConnection;
 import javax.transaction.xa.XAResource;
 
@@ -18,9 +22,12 @@ final class JdbcLink implements Link {
     private final XAConnection xa;
     private final Connection connection;
     private final List<Undo> undos = new ArrayList<>();
+    // Those that are open on it, under the monitor of this object.
+    private final Set<Statement> statements = Collections.newSetFromMap(new IdentityHashMap<>());
     private final XAResource resource;
     private final long number;
     private boolean isSuspect;
+    private volatile boolean isLetOut;
 
     JdbcLink(XAConnection xa, JdbcResource owner) throws SQLException {
         this.xa = xa;
@@ -49,6 +56,36 @@ final class JdbcLink implements Link {
         isSuspect = true;
     }
 
+    /** The program gets what lies under it. */
+    void letOut() {
+        isLetOut = true;
+    }
+
+    @Override
+    public boolean isLetOut() {
+        return isLetOut;
+    }
+
+    synchronized void opened(Statement statement) {
+        statements.add(statement);
+    }
+
+    synchronized void closed(Statement statement) {
+        statements.remove(statement);
+    }
+
+    /** Rows that are still read would be read in the next transaction, and fail there. */
+    private void closeStatements() throws SQLException {
+        List<Statement> open;
+        synchronized (this) {
+            open = new ArrayList<>(statements);
+            statements.clear();
+        }
+        for (Statement statement : open) {
+            statement.close();
+        }
+    }
+
     @Override
     public XAResource xaResource() {
         return resource;
@@ -71,6 +108,7 @@ final class JdbcLink implements Link {
     @Override
     public boolean reset() {
         try {
+            closeStatements();
             for (int at = undos.size() - 1; at >= 0; at--) {
                 undos.get(at).run();
             }

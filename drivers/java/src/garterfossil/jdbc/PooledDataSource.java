@@ -2,7 +2,6 @@ package garterfossil.jdbc;
 
 import garterfossil.Borrowed;
 import garterfossil.Fault;
-import garterfossil.Gate;
 import garterfossil.GlobalTransaction;
 import garterfossil.Manager;
 import java.io.PrintWriter;
@@ -37,7 +36,7 @@ final class PooledDataSource implements DataSource {
                 return ofNoTransaction();
             }
             GlobalTransaction.Enlisted branch = transaction.enlist(resource);
-            return ConnectionHandle.inTransaction((JdbcLink) branch.link(), branch.gate(), transaction);
+            return ConnectionHandle.inTransaction(manager, (JdbcLink) branch.link(), branch.gate(), transaction);
         } catch (Fault fault) {
             throw new SQLException(fault.getMessage(), "08001", fault);
         }
@@ -45,7 +44,7 @@ final class PooledDataSource implements DataSource {
 
     private Connection ofNoTransaction() throws Fault {
         Borrowed borrowed = manager.borrow(resource, Duration.ofSeconds(30));
-        return ConnectionHandle.alone((JdbcLink) borrowed.link(), new Gate(), borrowed::giveBack);
+        return ConnectionHandle.alone(manager, (JdbcLink) borrowed.link(), borrowed::giveBack);
     }
 
     @Override

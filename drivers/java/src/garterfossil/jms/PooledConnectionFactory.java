@@ -11,6 +11,7 @@ import javax.jms.ConnectionFactory;
 import javax.jms.ExceptionListener;
 import javax.jms.IllegalStateException;
 import javax.jms.JMSException;
+import javax.jms.Session;
 
 /**
  * Connections to a broker. A session that is made in a transaction takes part in it; outside of any it is an ordinary one, of another
@@ -82,11 +83,11 @@ final class PooledConnectionFactory implements ConnectionFactory {
         private Object session(Method method, Object[] words) throws Throwable {
             GlobalTransaction transaction = manager.current();
             if (transaction == null) {
-                return direct(alone(), method, words);
+                return OutsideSession.of(manager, (Session) direct(alone(), method, words));
             }
             try {
                 GlobalTransaction.Enlisted branch = transaction.enlist(resource);
-                return SessionHandle.of((JmsLink) branch.link(), branch.gate(), transaction.toString());
+                return SessionHandle.of(manager, (JmsLink) branch.link(), branch.gate(), transaction);
             } catch (Fault fault) {
                 JMSException error = new JMSException(fault.getMessage());
                 error.initCause(fault);

@@ -2,6 +2,8 @@ package garterfossil.jms;
 
 import garterfossil.Fault;
 import garterfossil.Gate;
+import garterfossil.GlobalTransaction;
+import garterfossil.Manager;
 import java.lang.reflect.Method;
 import java.lang.reflect.Proxy;
 import java.util.ArrayList;
@@ -18,20 +20,22 @@ import javax.jms.TransactionInProgressException;
 final class SessionHandle {
     private static final Gate.Work NOTHING = () -> { };
 
+    private final Manager manager;
     private final JmsLink link;
     private final Gate gate;
-    private final String transaction;
+    private final GlobalTransaction transaction;
     private final List<Gate.Work> open = new ArrayList<>();
     private boolean isClosed;
 
-    private SessionHandle(JmsLink link, Gate gate, String transaction) {
+    private SessionHandle(Manager manager, JmsLink link, Gate gate, GlobalTransaction transaction) {
+        this.manager = manager;
         this.link = link;
         this.gate = gate;
         this.transaction = transaction;
     }
 
-    static Session of(JmsLink link, Gate gate, String transaction) {
-        SessionHandle handle = new SessionHandle(link, gate, transaction);
+    static Session of(Manager manager, JmsLink link, Gate gate, GlobalTransaction transaction) {
+        SessionHandle handle = new SessionHandle(manager, link, gate, transaction);
         return (Session) Proxy.newProxyInstance(SessionHandle.class.getClassLoader(), new Class<?>[] {Session.class}, handle::invoke);
     }
 
@@ -68,7 +72,17 @@ final class SessionHandle {
         return null;
     }
 
+    /** Sees that it isn't used in another transaction, as while its own is suspended. */
+    private void seeOwn() throws IllegalStateException {
+        GlobalTransaction current = manager.current();
+        if (current != null && current != transaction) {
+            throw new IllegalStateException("this session takes part in " + transaction + ", and not in " + current
+                + ", which the thread has: make one now that this has begun");
+        }
+    }
+
     private Object through(Object target, Method method, Object[] words, Gate.Work work) throws Throwable {
+        seeOwn();
         try {
             gate.enter(work);
         } catch (Fault.Unavailable fault) {
