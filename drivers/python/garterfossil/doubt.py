@@ -12,7 +12,7 @@ from typing import Dict, FrozenSet, Iterable, List, Optional, Tuple
 from .adapters.base import Database, Place
 from .configuration import Configuration
 from .errors import LogInUse, SetupError, XaError
-from .logs import Names, is_log_in_use, logs_of_workers, names_at_work, printed_log
+from .logs import HEADS, Names, is_log_in_use, logs_of_workers, names_at_work, printed_log
 from .xid import FORMAT, Xid
 
 
@@ -49,7 +49,7 @@ class Log:
         except SetupError as error:
             return cls(fault=str(error), names=given)
         # Of a log that keeps names these come first.
-        lines = [line for line in printed if line and not line.startswith(("name ", "rm "))]
+        lines = [line for line in printed if line and not line.startswith(HEADS)]
         heuristics = tuple(line for line in lines if ":" in line)
         decided = frozenset(line.split(" ")[0] for line in lines if ":" not in line)
         return cls(decided, heuristics, _incarnation_of(path), names=Names.printed(printed))

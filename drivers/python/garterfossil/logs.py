@@ -14,7 +14,7 @@ import subprocess
 import time
 import urllib.parse
 from dataclasses import dataclass
-from typing import IO, List, Optional, Sequence, Tuple
+from typing import IO, FrozenSet, List, Optional, Sequence, Tuple
 
 from .errors import LogInUse, SetupError
 
@@ -27,6 +27,10 @@ LETTERS, DRAWN = string.ascii_lowercase + string.digits, 12
 #: How the text that made a log's table of participants ends, if the log keeps names: the manager's, which may be empty, and those of
 #: its resource managers.
 KEPT = re.compile(r" /\* ([A-Za-z0-9_ -]*) \*/\)$")
+#: A look at a log that takes longer than so many seconds is given up.
+LONGEST_LOOK = 60
+#: How the lines begin that `xatm log` prints before what is decided.
+HEADS = ("name ", "rm ", "incarnation ")
 #: What stands for the number of a worker in the path of a log, and the most workers.
 WORKER, MOST_WORKERS = "{worker}", 1024
 
@@ -55,9 +59,13 @@ class Names:
 def printed_log(program: str, path: str) -> List[str]:
     """The lines that `xatm log` prints of the log at a path. A look changes nothing. Raises LogInUse or SetupError."""
     try:
-        done = subprocess.run([program, "log", path], stdin=subprocess.DEVNULL, capture_output=True, text=True, check=False)
+        done = subprocess.run(
+            [program, "log", path], stdin=subprocess.DEVNULL, capture_output=True, text=True, check=False, timeout=LONGEST_LOOK
+        )
     except OSError as error:
         raise SetupError(f"the program {program} can't be run, which program= may give: {error.strerror}") from error
+    except subprocess.TimeoutExpired as error:
+        raise SetupError(f"{program} says nothing of the log {path} for {LONGEST_LOOK} seconds") from error
     # The status is 0 as well where the program takes the statuses of all its children itself.
     if done.returncode == 0 and not done.stderr.startswith("xatm: "):
         return done.stdout.splitlines()
@@ -66,21 +74,31 @@ def printed_log(program: str, path: str) -> List[str]:
     raise SetupError(f"{program} can't read the log {path}: {done.stderr.strip() or f'status {done.returncode}'}")
 
 
-def kept_names(program: str, path: str, patience: float) -> Optional[Names]:
-    """The names that the log at a path keeps. None where there is no log yet, or one that nobody can read: the coordinator says why.
-    While another program has it, looks again for so many seconds, and then raises LogInUse."""
+def _printed_in_time(program: str, path: str, patience: float) -> Optional[List[str]]:
+    """The lines of the log at a path. None where there is no log yet. While another program has it, looks again for so many seconds, and
+    then raises LogInUse. Raises SetupError if it can't be read."""
     until = time.monotonic() + patience
     while not is_new_log(path):
         try:
-            return Names.printed(printed_log(program, path))
+            return printed_log(program, path)
         except LogInUse:
             if time.monotonic() >= until:
                 raise
             time.sleep(0.1)
-        except SetupError:
+        except SetupError as error:
             if not is_log_in_use(path):
-                return None
+                fault = fault_of_log(path)
+                if fault is None:
+                    raise
+                raise SetupError(f"the log {path}: {fault} ({error})") from error
     return None
+
+
+def kept_names(program: str, path: str, patience: float) -> Optional[Names]:
+    """The names that the log at a path keeps. None where there is no log yet. While another program has it, looks again for so many
+    seconds, and then raises LogInUse. Raises SetupError if it can't be read."""
+    lines = _printed_in_time(program, path, patience)
+    return None if lines is None else Names.printed(lines)
 
 
 def names_at_work(path: str) -> Names:
@@ -95,14 +113,29 @@ def names_at_work(path: str) -> Names:
     return Names(manager, tuple(rms))
 
 
-def kept_incarnation(program: str, path: str, patience: float) -> int:
-    """How often a coordinator has started over the log at a path: 0 where there is no log yet. While another program has it, looks again
-    for so many seconds. Raises LogInUse or SetupError."""
-    if kept_names(program, path, patience) is None:
-        if is_new_log(path):
-            return 0
-        raise SetupError(f"the log {path} can't be read, so nobody knows whether it is older than its mirror")
+@dataclass(frozen=True)
+class KeptLog:
+    """What a log holds, as far as a driver has to know that before a coordinator starts."""
+
+    #: How often a coordinator has started over it.
+    incarnation: int = 0
+    #: The transactions that are decided to commit.
+    decided: FrozenSet[str] = frozenset()
+
+
+def kept_log(program: str, path: str, patience: float) -> KeptLog:
+    """What the log at a path holds: of a new one, nothing. While another program has it, looks again for so many seconds. Raises
+    LogInUse or SetupError."""
+    lines = _printed_in_time(program, path, patience)
+    if lines is None:
+        return KeptLog()
+    numbers = [int(line.split(" ")[1]) for line in lines if line.startswith("incarnation ")]
+    rows = [line for line in lines if line and not line.startswith(HEADS) and ":" not in line]
     # The look has brought all that a coordinator which was killed has left into the one file.
+    return KeptLog(numbers[0] if numbers else _incarnation_in(path), frozenset(line.split(" ")[0] for line in rows))
+
+
+def _incarnation_in(path: str) -> int:
     try:
         with contextlib.closing(sqlite3.connect(f"file:{urllib.parse.quote(path)}?immutable=1", uri=True)) as it:
             return int(it.execute("SELECT incarnation FROM tm_meta").fetchone()[0])

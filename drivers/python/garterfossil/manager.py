@@ -105,12 +105,11 @@ class TransactionManager:
 
         def settings() -> Settings:
             if command is not None:
-                return Settings(
-                    command, all_databases, path, threads, patience, Names(name or "", tuple(all_databases.names)), mirror, program
-                )
+                names = Names(name or "", tuple(all_databases.names))
+                return Settings(command, all_databases, path, threads, patience, names, mirror, program if mirror is not None else None)
             names = names_for(program, path, name, all_databases.names, patience)
             words = serve_command(program, path, names, threads, len(all_databases))
-            return Settings(words, all_databases, path, threads, patience, names, mirror, program)
+            return Settings(words, all_databases, path, threads, patience, names, mirror, program, name is None)
 
         self._settings = settings()
         self._timeout = timeout

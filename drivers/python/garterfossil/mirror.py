@@ -8,12 +8,12 @@ import logging
 import os
 import threading
 from dataclasses import dataclass
-from typing import Dict, Iterator, List, Mapping, Optional, Sequence, Tuple
+from typing import Dict, Iterator, List, Mapping, Optional, Sequence, Set, Tuple
 
 from .adapters.base import Connection, Database, Place
 from .databases import MOST
 from .errors import ConnectionLost, CoordinatorGone, SetupError, XaError
-from .logs import Names
+from .logs import KeptLog, Names
 from .xid import Xid
 
 log = logging.getLogger("garterfossil")
@@ -118,6 +118,11 @@ class Tables:
         """Sets the incarnation of the manager."""
         connection.run("UPDATE garterfossil_manager SET incarnation = %s WHERE name = %s", [incarnation, self._place.manager])
 
+    def decisions(self, connection: Connection) -> Dict[str, List[str]]:
+        """The manager's transactions that are decided to commit, each with its branches."""
+        rows = connection.run("SELECT gtrid, branches FROM garterfossil_decision WHERE name = %s", [self._place.manager]).rows
+        return {gtrid: branches.split() for gtrid, branches in rows}
+
     def take_over(self) -> Mirrored:
         """What the mirror holds of the manager. From now on the session that had it can't decide any more: its incarnation is over."""
         with self.at_once() as connection:
@@ -125,11 +130,10 @@ class Tables:
             if before is None:
                 raise SetupError(f"the mirror knows no manager {self._place.manager}")
             self.set_incarnation(connection, before + MARGIN)
-            where = "WHERE name = %s", [self._place.manager]
-            path, rms = connection.run(f"SELECT log, rms FROM garterfossil_manager {where[0]}", where[1]).rows[0]
-            rows = connection.run(f"SELECT gtrid, branches FROM garterfossil_decision {where[0]}", where[1]).rows
-        names = Names(self._place.manager, tuple(rms.split()))
-        return Mirrored(names, path, before + MARGIN, {gtrid: branches.split() for gtrid, branches in rows})
+            statement = "SELECT log, rms FROM garterfossil_manager WHERE name = %s"
+            path, rms = connection.run(statement, [self._place.manager]).rows[0]
+            decisions = self.decisions(connection)
+        return Mirrored(Names(self._place.manager, tuple(rms.split())), path, before + MARGIN, decisions)
 
 
 @contextlib.contextmanager
@@ -154,25 +158,61 @@ class Mirror:
         self._removing = Tables(database, names.manager, patience)
         self._lock = threading.Lock()
         self._incarnation = 0
+        # Of what the mirror holds and the log doesn't, what is surely over.
+        self._over: Set[str] = set()
 
-    def look(self, started: int) -> None:
-        """Looks, before the coordinator starts, whether a session may begin over a log that has been started so often. A start that is
-        refused behind that has raised the log's incarnation, and after a few of them an older log would pass for a newer one. Raises
-        SetupError if the log is older than the mirror, and CoordinatorGone if the mirror can't be had. Makes its tables."""
+    def look(self, kept: KeptLog, listings: Sequence[Optional[Sequence[Xid]]], is_name_drawn: bool) -> None:
+        """Looks, before the coordinator starts, whether a session may begin over the log, of which this is known, and over databases
+        that list these branches. A start that is refused behind that has raised the log's incarnation, and after a few of them an older log
+        would pass for a newer one. Raises SetupError if the log is older than the mirror, and CoordinatorGone if the mirror can't be
+        had. Makes its tables."""
         with _as_gone():
             self._adding.make()
             with self._adding.at_once() as connection:
                 before = self._adding.incarnation(connection)
-                if before is not None and before > started:
-                    raise self._older(started, before)
-                if before is not None and before < started:
+                if before is None and kept.incarnation == 0 and is_name_drawn:
+                    self._see_no_other(connection)
+                if before is not None and before > kept.incarnation:
+                    raise self._older(kept.incarnation, before)
+                if before is not None and before < kept.incarnation:
                     # Starts that the mirror wasn't told of: so there is never more than one.
-                    self._adding.set_incarnation(connection, started)
+                    self._adding.set_incarnation(connection, kept.incarnation)
+                self._over = self._see_decisions(self._adding.decisions(connection), kept, listings)
         self._adding.close()
 
-    def begin(self, incarnation: int, decisions: Mapping[str, Sequence[Xid]]) -> None:
-        """A session begins, over a log that has these decisions: the mirror has just them then. Raises SetupError if another machine has
-        taken over since it was looked at, and CoordinatorGone if the mirror can't be had."""
+    def _see_no_other(self, connection: Connection) -> None:
+        """Sees that the new log isn't at the place of one that a lost machine had. Raises SetupError."""
+        rows = connection.run("SELECT name FROM garterfossil_manager WHERE log = %s", [self._path]).rows
+        if rows:
+            raise SetupError(
+                f"there is no log at {self._path}, and the mirror knows the manager {rows[0][0]}, whose log was there: make it anew by"
+                " `python -m garterfossil failover`; or give this manager a name of its own (name=), if it is another one"
+            )
+
+    def _see_decisions(
+        self, mirrored: Mapping[str, Sequence[str]], kept: KeptLog, listings: Sequence[Optional[Sequence[Xid]]]
+    ) -> Set[str]:
+        """Of what the mirror holds and the log doesn't, the transactions that are surely over: their rows left the log as they left it, and
+        only the mirror wasn't told. Raises SetupError if a database still lists a branch of one: then the log is the older one."""
+        over = set()
+        listed = {str(xid) for listing in listings for xid in listing or ()}
+        for gtrid, xids in mirrored.items():
+            if gtrid in kept.decided:
+                continue
+            if listed.intersection(xids):
+                raise SetupError(
+                    f"the log {self._path} is older than its mirror, which has decided to commit {gtrid}, of which the log knows nothing: put"
+                    " the right one back, or make it of the mirror (python -m garterfossil failover)"
+                )
+            places = [int(xid[-8:], 16) for xid in xids]
+            if all(place < len(listings) and listings[place] is not None for place in places):
+                over.add(gtrid)
+        return over
+
+    def begin(self, incarnation: int, decisions: Mapping[str, Sequence[Xid]]) -> Set[str]:
+        """A session begins, over a log that has these decisions: the mirror has them then. What else it keeps: transactions that are
+        decided by it alone, of which not all databases could be looked at. Raises SetupError if another machine has taken over since it
+        was looked at, and CoordinatorGone if the mirror can't be had."""
         with _as_gone(), self._adding.at_once() as connection:
             if connection.is_replicated() is False:
                 log.warning("the mirror has no synchronous standby, and is no cluster: it is lost with its own machine")
@@ -180,10 +220,15 @@ class Mirror:
             if before is not None and before >= incarnation:
                 raise self._older(incarnation, before)
             self._note(connection, incarnation, before is None)
-            connection.run("DELETE FROM garterfossil_decision WHERE name = %s", [self._names.manager])
-            if decisions:
-                self._adding.insert(connection, list(decisions.items()), incarnation)
+            held = set(self._adding.decisions(connection))
+            for gtrid in held & self._over - set(decisions):
+                words = [self._names.manager, gtrid]
+                connection.run("DELETE FROM garterfossil_decision WHERE name = %s AND gtrid = %s", words)
+            new = [decision for decision in decisions.items() if decision[0] not in held]
+            if new:
+                self._adding.insert(connection, new, incarnation)
         self._incarnation = incarnation
+        return held - self._over - set(decisions)
 
     def _older(self, incarnation: int, before: int) -> SetupError:
         return SetupError(

@@ -58,6 +58,24 @@ def see_known(session: Session, line: Line) -> None:
         )
 
 
+def see_not_later(rm: ResourceManager, incarnation: int, path: str) -> None:
+    """Sees, before a session, that a database lists no branch of a session that the log at a path hasn't had. Raises SetupError: no
+    coordinator is started then, so that it is refused however often the program is started again."""
+    later = [xid for xid in rm.listed or () if int.from_bytes(xid.gtrid[-16:-8], "big") > incarnation]
+    if not later:
+        return
+    if incarnation == 0:
+        raise SetupError(
+            f"the log is new, and {rm.label} lists {len(later)} branches of an earlier one, as {later[0]}: put that log back."
+            " What another log has decided would be rolled back"
+        )
+    raise SetupError(
+        f"the log {path} has had {incarnation} sessions, and {rm.label} lists {len(later)} branches of later ones, as {later[0]}: it is"
+        " older than they are, or another one. Put the right one back; what it had decided would be rolled back. If it is lost, end these"
+        " branches by hand first, after a look at all databases"
+    )
+
+
 def scan_until_done(session: Session, line: Line) -> None:
     """Scans, and once more where something was found: a call that was put off is listed again."""
     until = time.monotonic() + session.patience

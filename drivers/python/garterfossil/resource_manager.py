@@ -8,7 +8,8 @@ import time
 from typing import List, Optional, Set
 
 from .adapters.base import Connection, Database, Place
-from .errors import ConnectionLost, SetupError
+from .errors import ConnectionLost
+from .identities import Identities
 from .xid import Xid
 
 log = logging.getLogger("garterfossil")
@@ -24,8 +25,9 @@ GLANCE = 0.5
 class ResourceManager:
     """A database under its number, with the connections that the session's lines have to it."""
 
-    def __init__(self, database: Database, place: Place, label: str):
+    def __init__(self, database: Database, place: Place, label: str, identities: Optional[Identities] = None):
         self.place = place
+        self._identities = identities
         #: What messages call it.
         self.label = label
         #: Whether something may be in doubt there that no transaction of the session will end.
@@ -47,6 +49,8 @@ class ResourceManager:
         self._is_back = False
         #: What was found against it before the session.
         self.objection: Optional[Exception] = None
+        #: The branches of the manager that it listed then; None if nobody knows.
+        self.listed: Optional[List[Xid]] = None
 
     @property
     def number(self) -> int:
@@ -61,17 +65,28 @@ class ResourceManager:
                 # Another thread has waited for it meanwhile.
                 raise ConnectionLost(self._failure)
             try:
-                if self._has_strays:
-                    self._end_strays()
                 connection = self._database.connect(self.place)
+                try:
+                    self._see_identity(connection, keep=True)
+                    if self._has_strays:
+                        self._end_strays(connection)
+                except BaseException:
+                    connection.close()
+                    raise
             except ConnectionLost as error:
                 self._failed, self._failure = time.monotonic(), str(error)
                 raise
             self._kept.add(connection.number)
             return connection
 
-    def _end_strays(self) -> None:
-        ended = self._database.end_connections(self._kept, self.place)
+    def _see_identity(self, connection: Connection, keep: bool) -> None:
+        """Sees that it is the database that the log belongs to."""
+        if self._identities is not None:
+            with connection.timed(self.place.patience):
+                self._identities.see(self.number, self.label, self._database, connection, keep)
+
+    def _end_strays(self, new: Connection) -> None:
+        ended = self._database.end_connections(self._kept | {new.number}, self.place)
         self._has_strays = False
         if ended:
             log.warning("%d connections to %s were ended, which this manager or an earlier run of it had left", ended, self.label)
@@ -117,29 +132,19 @@ class ResourceManager:
             log.error("%s: %s", self.label, text)
             self._failure = text
 
-    def look(self, is_new: bool) -> None:
-        """Looks, before a session, whether a connection is to be had, and if the log is new, that the database lists nothing of the
-        manager's. What is against it is then in `objection`."""
-        self.objection = None
+    def look(self) -> None:
+        """Looks, before a session, whether a connection is to be had, whether the database is the one that the log belongs to, and what it
+        lists of the manager's, which is then in `listed`. What is against it is in `objection`."""
+        self.objection, self.listed = None, None
         try:
-            if not is_new:
-                self._database.connect(self.place).close()
-                return
-            listed = self._unknown_branches()
-            if listed:
-                self.objection = SetupError(
-                    f"the log is new, and {self.label} lists {len(listed)} branches of an earlier one, as {listed[0]}: put that log back."
-                    " What another log has decided would be rolled back"
-                )
+            connection = self._database.connect(self.place)
+            try:
+                self._see_identity(connection, keep=False)
+                with connection.timed(self.place.patience):
+                    self.listed = connection.listed()
+            finally:
+                connection.close()
         except Exception as error:
             self.objection = error
             # Until a while from now there is none to be had either.
             self._tried = time.monotonic()
-
-    def _unknown_branches(self) -> List[Xid]:
-        connection = self._database.connect(self.place)
-        try:
-            with connection.timed(self.place.patience):
-                return connection.listed()
-        finally:
-            connection.close()

@@ -6,7 +6,7 @@ import logging
 import threading
 import time
 from dataclasses import dataclass
-from typing import Dict, List, Optional, Sequence
+from typing import Dict, List, Optional, Sequence, Set
 
 from .adapters.base import Database
 from .calls import Call
@@ -15,11 +15,12 @@ from .coordinator import AND, Coordinator, Reply
 from .databases import Databases
 from .debts import Debts
 from .errors import ConnectionLost, CoordinatorGone, Overdue, Refused, RequestError, SetupError, XaError
+from .identities import Identities
 from .line import Line
-from .logs import Names, is_new_log, kept_incarnation
+from .logs import KeptLog, Names, is_new_log, kept_log
 from .mirror import Mirror
 from .outcomes import Outcomes
-from .recovery import recover
+from .recovery import recover, see_not_later
 from .resource_manager import GLANCE, ResourceManager
 from .rows import Rows
 from .threads import Threads
@@ -43,8 +44,10 @@ class Settings:
     names: Names = Names()
     #: Where its decisions are mirrored, if they are.
     mirror: Optional[Database] = None
-    #: The program that reads the log while no coordinator has it.
-    program: str = "xatm"
+    #: The program that reads the log while no coordinator has it. Where the command is the program's own nobody reads it.
+    program: Optional[str] = "xatm"
+    #: Whether the manager was given no name, so that a new log draws one.
+    is_name_drawn: bool = False
 
 
 class Session:
@@ -58,15 +61,16 @@ class Session:
         self.name = settings.names.manager.encode("ascii")
         self.threads = Threads(settings.threads)
         self.debts = Debts()
+        self.identities = Identities(settings.log, settings.names.manager, is_new_log(settings.log))
+        self.identities.see_open()
         self._rms = [
-            ResourceManager(database, place, settings.databases.label(place.number))
+            ResourceManager(database, place, settings.databases.label(place.number), self.identities)
             for database, place in settings.databases.placed(settings.names.manager, settings.threads, settings.patience)
         ]
-        self._look(is_new_log(settings.log), is_first)
+        #: The transactions that the mirror says are decided, and the log doesn't know.
+        self.unknown_to_log: Set[str] = set()
         self.mirror: Optional[Mirror] = None
-        if settings.mirror is not None:
-            self.mirror = Mirror(settings.mirror, settings.names, settings.log, settings.patience)
-            self.mirror.look(kept_incarnation(settings.program, settings.log, settings.patience))
+        self._look(settings, is_first)
         self.coordinator = Coordinator.start(settings.command, settings.patience, settings.log)
         self.commits = Commits(self.coordinator, self.mirror)
         self._lines = [[Line(self.coordinator, thread, rm, self.patience) for rm in self._rms] for thread in range(settings.threads)]
@@ -84,22 +88,45 @@ class Session:
                 self.mirror.close()
             raise
 
-    def _look(self, is_new: bool, is_first: bool) -> None:
-        """Looks at the databases before the coordinator starts, which begins a new incarnation. If the log is new, all of them have to
-        be looked at. How a database is set up is said at the first start."""
-        looks = [threading.Thread(target=rm.look, args=[is_new], daemon=True) for rm in self._rms]
+    def _look(self, settings: Settings, is_first: bool) -> None:
+        """Looks at the databases, at the log and at the mirror before the coordinator starts: each start raises the log's incarnation, so
+        that after some of them an older log would pass for a newer one. If the log is new, all databases have to be looked at. How a
+        database is set up is said at the first start."""
+        looks = [threading.Thread(target=rm.look, daemon=True) for rm in self._rms]
         for look in looks:
             look.start()
         for look in looks:
             look.join()
+        # It is read behind the databases, so that it knows all that they list, if it is the right one.
+        is_new = is_new_log(settings.log)
         for rm in self._rms:
-            if rm.objection is None:
-                continue
-            if is_new and isinstance(rm.objection, ConnectionLost):
-                raise ConnectionLost(f"the log is new, so {rm.label} has to be there once: {rm.objection}") from rm.objection
-            if is_new or is_first and not isinstance(rm.objection, ConnectionLost):
-                raise rm.objection
-            log.warning("%s can't be used now: %s", rm.label, rm.objection)
+            self._see_objection(rm, is_new, is_first)
+        kept = None
+        if settings.program is not None:
+            kept = kept_log(settings.program, settings.log, settings.patience)
+        elif is_new:
+            kept = KeptLog()
+        if kept is not None:
+            for rm in self._rms:
+                see_not_later(rm, kept.incarnation, settings.log)
+        if settings.mirror is not None:
+            assert kept is not None
+            self.mirror = Mirror(settings.mirror, settings.names, settings.log, settings.patience)
+            self.mirror.look(kept, self._listings(), settings.is_name_drawn)
+
+    def _see_objection(self, rm: ResourceManager, is_new: bool, is_first: bool) -> None:
+        error = rm.objection
+        if error is None:
+            return
+        if is_new and isinstance(error, ConnectionLost):
+            raise ConnectionLost(f"the log is new, so {rm.label} has to be there once: {error}") from error
+        if is_new or is_first and not isinstance(error, ConnectionLost):
+            raise error
+        log.warning("%s can't be used now: %s", rm.label, error)
+
+    def _listings(self) -> List[Optional[List[Xid]]]:
+        """What each database listed before the session; None of one that couldn't be looked at."""
+        return [rm.listed for rm in self._rms]
 
     def _take_over(self, is_first: bool) -> None:
         """Ends what earlier sessions have left in doubt."""
@@ -111,7 +138,7 @@ class Session:
         rows = self.debts.transactions()
         if self.mirror is not None:
             # Before the first transaction begins, and before anything is ended.
-            self.mirror.begin(self.coordinator.incarnation, decisions)
+            self.unknown_to_log = self.mirror.begin(self.coordinator.incarnation, decisions)
         self.outcomes.note_rows(self.coordinator.incarnation, rows)
         log.info("session %d began: the log has %d decisions to commit", self.coordinator.incarnation, len(rows))
         self.recover_what_is_due(is_first)
@@ -166,7 +193,8 @@ class Session:
     def knows(self, xid: Xid) -> bool:
         """Whether the branch may be of the log's: it is of an earlier incarnation, or of a transaction that has begun in this one."""
         incarnation, sequence = int.from_bytes(xid.gtrid[-16:-8], "big"), int.from_bytes(xid.gtrid[-8:], "big")
-        return (incarnation, sequence) <= (self.coordinator.incarnation, max(self._last))
+        is_of_mirror_alone = xid.transaction in self.unknown_to_log
+        return (incarnation, sequence) <= (self.coordinator.incarnation, max(self._last)) and not is_of_mirror_alone
 
     def post(self, thread: int) -> None:
         """Posts what is to be posted on the lines of a thread, by one line of requests."""

@@ -26,6 +26,8 @@ class FakeDatabase(Database):
         self.refuses = None
         #: How each branch was to run.
         self.modes = []
+        #: What it calls itself.
+        self.identity = None
 
     def connect(self, place=Place()):
         if self.refuses:
@@ -115,6 +117,9 @@ class FakeConnection(Connection):
 
     def _descriptor(self):
         return self.socket.fileno()
+
+    def identity(self, kept):
+        return self.database.identity
 
     def hang_up(self):
         """The database ends the connection by itself."""

@@ -53,6 +53,7 @@ def show(log):
         print("name", manager)
     for number, rm in enumerate(rms):
         print("rm", number, rm)
+    print("incarnation", found["incarnation"])
     for gtrid, xids in sorted(found["rows"].items()):
         print(gtrid, len(xids))
 

@@ -1,14 +1,14 @@
 """The mirror: what is in it when, what it refuses, and the log that is made of it."""
 
+import contextlib
 import json
 import os
 import shutil
 import sqlite3
 import time
 from concurrent.futures import ThreadPoolExecutor
-from unittest import mock
 
-from garterfossil import OutcomeUnknown, Outcome, SetupError, TransactionManager
+from garterfossil import ConnectionLost, OutcomeUnknown, Outcome, SetupError, TransactionManager, Xid
 from garterfossil.configuration import Configuration
 from garterfossil.errors import CoordinatorGone
 from garterfossil.failover import fail_over
@@ -24,19 +24,14 @@ class Mirrors(Case):
         super().setUp()
         self.mirror = FakeMirror(self.folder)
         self.program = fake_program.made_in(self.folder)
-        patch = mock.patch("garterfossil.session.kept_incarnation", self.started)
-        patch.start()
-        self.addCleanup(patch.stop)
         # What the machine has that is lost.
         self.machine = os.path.join(self.folder, "machine")
         os.mkdir(self.machine)
         self.log = os.path.join(self.machine, "log")
 
-    def started(self, program, path, patience):
+    def started(self):
         """How often the stand-in's log has been started."""
-        if not os.path.exists(path):
-            return 0
-        with open(path) as it:
+        with open(self.log) as it:
             return json.load(it)["incarnation"]
 
     def manager(self, **options):
@@ -64,9 +59,10 @@ class Mirrors(Case):
         self.right.before.clear()
         # What the log lost, and what it has, as nobody could tell the mirror.
         with sqlite3.connect(self.mirror.path) as it:
-            it.execute("UPDATE garterfossil_decision SET gtrid = 'of another session'")
-        self.left.before["listed"] = lambda: self.assertEqual(self.mirror.decided(), [gtrid])
-        self.manager().close()
+            it.execute("INSERT INTO garterfossil_decision SELECT name, 'of another session', '7:00:0000000000000000' FROM garterfossil_decision")
+        self.left.before["start"] = lambda: self.assertEqual(self.mirror.decided(), [gtrid])
+        with self.manager() as xa:
+            self.move(xa)
         self.assertEqual(self.mirror.rows("incarnation", "garterfossil_manager"), [(2,)])
         self.assertEqual(self.mirror.decided(), [])
 
@@ -123,6 +119,54 @@ class Mirrors(Case):
         with self.assertRaisesRegex(SetupError, "older than its mirror"):
             self.manager(name=name)
 
+    def test_an_older_copy_of_the_same_session_is_refused_at_every_start(self):
+        xa = self.manager()
+        # What a snapshot of the machine would have, taken while the session runs.
+        shutil.copy(self.log, self.log + ".copy")
+        self.right.next["commit_prepared"] = ConnectionLost("killed")
+        self.right.before["commit_prepared"] = lambda: xa._session.coordinator.kill()
+        gtrid = self.move(xa).gtrid
+        self.right.before.clear()
+        self.assertEqual((len(self.left.prepared), len(self.right.prepared)), (0, 1))
+        os.replace(self.log + ".copy", self.log)
+        for _ in range(3):
+            with self.assertRaisesRegex(SetupError, "older than its mirror, which has decided to commit"):
+                self.manager()
+            self.assertEqual(self.mirror.decided(), [gtrid])
+            self.assertEqual(len(self.right.prepared), 1)
+        self.assertEqual(self.started(), 1)
+
+    def test_what_it_has_decided_is_kept_while_a_database_cannot_be_looked_at(self):
+        self.manager().close()
+        with sqlite3.connect(self.mirror.path) as it:
+            it.execute("INSERT INTO garterfossil_decision SELECT name, ?, ? FROM garterfossil_manager", [bytes(16).hex(), f"7:{bytes(16).hex()}:{1:016x}"])
+        self.right.is_up = False
+        with self.manager() as xa:
+            self.assertEqual(self.mirror.decided(), [bytes(16).hex()])
+            self.right.prepared[Xid(7, xa.name.encode() + bytes(16), (1).to_bytes(8, "big"))] = ["give"]
+            self.right.is_up = True
+            with self.assertLogs("garterfossil", "ERROR") as logged:
+                for _ in range(100):
+                    if any("knows nothing of" in line for line in logged.output):
+                        break
+                    with contextlib.suppress(ConnectionLost):
+                        self.move(xa)
+                    time.sleep(0.05)
+            self.assertIn("knows nothing of", "".join(logged.output))
+            # It is neither rolled back nor forgotten.
+            self.assertEqual((len(self.right.prepared), self.mirror.decided()[:1]), (1, [bytes(16).hex()]))
+            self.right.prepared.clear()
+
+    def test_a_start_before_the_failover_is_refused(self):
+        self.manager().close()
+        os.remove(self.log)
+        for _ in range(2):
+            with self.assertRaisesRegex(SetupError, "failover"):
+                self.manager()
+        self.assertFalse(os.path.exists(self.log))
+        self.assertEqual(len(self.fail_over()), 1)
+        self.manager().close()
+
     def test_a_manager_without_a_name_has_none(self):
         with self.assertRaisesRegex(SetupError, "name"):
             self.manager(name="")
@@ -165,7 +209,7 @@ class Mirrors(Case):
         for _ in range(2 * MARGIN):
             with self.assertRaisesRegex(SetupError, "older than its mirror"):
                 self.move(xa)
-        self.assertEqual(self.started(self.program, self.log, 1.0), 1)
+        self.assertEqual(self.started(), 1)
 
     def test_starts_that_the_mirror_was_not_told_of_are_fewer_than_a_failover_adds(self):
         self.manager().close()
@@ -174,7 +218,7 @@ class Mirrors(Case):
             with self.assertRaises(CoordinatorGone):
                 self.manager()
             [(told,)] = self.mirror.rows("incarnation", "garterfossil_manager")
-            self.assertEqual(self.started(self.program, self.log, 1.0), told + 1)
+            self.assertEqual(self.started(), told + 1)
 
     def test_a_log_that_is_there_is_left_alone(self):
         with self.manager():
@@ -183,10 +227,9 @@ class Mirrors(Case):
             self.fail_over()
 
     def test_of_several_managers_one_is_to_be_named(self):
-        names = []
-        for _ in range(2):
-            with self.manager() as xa:
-                names.append(xa.name)
+        names = ["shop-1", "shop-2"]
+        for name in names:
+            self.manager(name=name).close()
             os.remove(self.log)
         with self.assertRaisesRegex(SetupError, "--name"):
             self.fail_over()

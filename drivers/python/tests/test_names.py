@@ -11,7 +11,7 @@ from unittest import mock
 from garterfossil import manager
 from garterfossil import LogInUse, SetupError, TransactionManager
 from garterfossil.coordinator import Coordinator, serve_command
-from garterfossil.logs import Names, free_log, kept_incarnation, logs_of_workers, names_at_work, printed_log
+from garterfossil.logs import KeptLog, Names, free_log, kept_log, logs_of_workers, names_at_work, printed_log
 from garterfossil.xid import Xid
 
 from . import fake_program
@@ -138,11 +138,11 @@ class Kept(Case):
         with open(program, "w") as it:
             it.write("#!/bin/sh\necho name shop-1\n")
         os.chmod(program, 0o755)
-        self.assertEqual(kept_incarnation(program, self.log, 1.0), 0)
+        self.assertEqual(kept_log(program, self.log, 1.0), KeptLog())
         with contextlib.closing(sqlite3.connect(self.log)) as it, it:
             it.execute("CREATE TABLE tm_meta (k INTEGER, version INTEGER, incarnation INTEGER)")
             it.execute("INSERT INTO tm_meta VALUES (1, 2, 7)")
-        self.assertEqual(kept_incarnation(program, self.log, 1.0), 7)
+        self.assertEqual(kept_log(program, self.log, 1.0), KeptLog(7))
 
     def test_all_logs_of_workers_in_use(self):
         with mock.patch("garterfossil.logs.MOST_WORKERS", 1):

@@ -409,6 +409,11 @@ class Connection(abc.ABC):
         """What the database has warned of since this was asked last."""
         return []
 
+    def identity(self, kept: Optional[str]) -> Optional[str]:
+        """What the database calls itself, which no other one does: the same as what was kept of it, if it is the same. None if it has
+        nothing of the kind."""
+        return None
+
     def ages(self) -> Dict[Xid, float]:
         """For how many seconds branches have been prepared, as far as the database tells."""
         return {}

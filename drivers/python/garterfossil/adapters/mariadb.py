@@ -5,6 +5,7 @@ from __future__ import annotations
 import math
 import re
 import time
+import uuid
 from typing import Any, Collection, Iterable, List, Optional, Sequence, Set, Tuple, Type
 
 from ..calls import Call
@@ -26,6 +27,10 @@ VOTES = {
     1614: Code.RBDEADLOCK,
     CHECK_FAILED: Code.RBINTEGRITY,
 }
+NO_SUCH_TABLE = 1146
+#: The view in a database that says which one it is, and how a server says that of itself.
+IDENTITY = "garterfossil_identity"
+SERVER = "the server"
 #: What is told where the connection is lost, or was ended from another one.
 LOST = frozenset([0, 1053, 1317, 1927, 2003, 2006, 2013, 2014, 2055])
 
@@ -278,6 +283,32 @@ class MariaDBConnection(Connection):
 
     def _listed(self) -> List[Xid]:
         return [xid for xid in map(xid_of, self.run("XA RECOVER FORMAT='SQL'")) if xid is not None]
+
+    def identity(self, kept: Optional[str]) -> Optional[str]:
+        # What the server calls itself changes with its machine. So it is only taken where the database can't have a name of its own.
+        if kept is None or not kept.startswith(SERVER):
+            own = self._own_identity()
+            if own is not None:
+                return f"the database {own} of MariaDB"
+        rows = self.run("SHOW GLOBAL VARIABLES LIKE 'server_uid'").rows
+        return f"{SERVER} {rows[0][1]} of MariaDB" if rows else None
+
+    def _own_identity(self) -> Optional[str]:
+        """What is in the view that the driver makes in the database at its first use. None if it can't be made: there is no database,
+        or no privilege."""
+        read = f"SELECT id FROM {IDENTITY}"
+        try:
+            try:
+                rows = self.run(read).rows
+            except self.errors.MySQLError as error:
+                if error.args[0] != NO_SUCH_TABLE:
+                    raise
+                # Of several that make it at once one does.
+                self.run(f"CREATE SQL SECURITY INVOKER VIEW IF NOT EXISTS {IDENTITY} AS SELECT '{uuid.uuid4()}' AS id")
+                rows = self.run(read).rows
+        except self.errors.MySQLError:
+            return None
+        return str(rows[0][0]) if rows else None
 
     def is_replicated(self) -> Optional[bool]:
         return self.run("SHOW VARIABLES LIKE 'wsrep_on'").rows == [("wsrep_on", "ON")]

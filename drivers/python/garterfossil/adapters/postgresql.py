@@ -291,6 +291,14 @@ class PostgreSQLConnection(Connection):
         rows = self.run("SELECT gid FROM pg_prepared_xacts WHERE database = current_database()")
         return xids_in(gid for gid, in rows)
 
+    def identity(self, kept: Optional[str]) -> Optional[str]:
+        try:
+            rows = self.run("SELECT system_identifier, oid FROM pg_control_system(), pg_database WHERE datname = current_database()").rows
+        except self.errors.Error:
+            # The user may not ask.
+            return None
+        return f"the database {rows[0][1]} of the system {rows[0][0]} of PostgreSQL" if len(rows) == 1 else None
+
     def is_replicated(self) -> Optional[bool]:
         waits = self.run("SHOW synchronous_commit").rows[0][0]
         return bool(self.run("SHOW synchronous_standby_names").rows[0][0]) and waits in ("on", "remote_apply")

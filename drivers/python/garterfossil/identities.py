@@ -1,0 +1,121 @@
+"""Which databases a log belongs to. Each calls itself by something that no other one has, and the file PATH-databases beside the log keeps
+that from its first use: another database in its place would be asked about branches that it never had, and would answer that there
+are none."""
+
+from __future__ import annotations
+
+import json
+import logging
+import os
+import threading
+from typing import Any, Dict, Optional
+
+from .adapters.base import Connection, Database
+from .errors import SetupError
+
+log = logging.getLogger("garterfossil")
+
+#: What stands behind the log's own path, and the version of what is in the file.
+SUFFIX, VERSION = "-databases", 1
+
+
+class Identities:
+    """What the databases of a log call themselves, by their numbers. Any thread may ask."""
+
+    def __init__(self, path: str, manager: str, is_new: bool):
+        """Those of the log at a path, of the manager of this name. A new log belongs to no database yet."""
+        self.path = path + SUFFIX
+        self._manager = manager
+        self._lock = threading.Lock()
+        self._known: Dict[int, Dict[str, str]] = {}
+        self._shut: Optional[str] = None
+        found = self._read()
+        if found is None:
+            if not is_new:
+                log.warning("%s is missing, so it is made anew: nobody knows whether the databases are those that the log had before", self.path)
+        elif is_new or found["manager"] != manager:
+            gone = found["manager"] or "a manager without a name"
+            log.warning("the log of %s is gone from %s: what it had prepared is left alone, and `status` shows it", gone, path)
+        else:
+            self._known = {entry["number"]: {"at": entry["at"], "identity": entry["identity"]} for entry in found["databases"]}
+            self._shut = found.get("shut")
+
+    def _read(self) -> Optional[Dict[str, Any]]:
+        try:
+            with open(self.path, encoding="utf-8") as it:
+                found: Dict[str, Any] = json.load(it)
+            if found["version"] != VERSION:
+                raise SetupError(f"{self.path} is of another version of the driver")
+            # What is missing would be found later otherwise.
+            found["manager"], [(entry["number"], entry["at"], entry["identity"]) for entry in found["databases"]]
+            return found
+        except FileNotFoundError:
+            return None
+        except (OSError, ValueError, KeyError, TypeError) as error:
+            raise SetupError(
+                f"{self.path} can't be read ({error}): it says which databases the log belongs to. If they are surely the same, remove it"
+            ) from error
+
+    # ** what the databases are
+
+    def see(self, number: int, label: str, database: Database, connection: Connection, keep: bool = True) -> None:
+        """Sees that the database of a number is the one that it was, and keeps what it calls itself, if this is its first use. Raises
+        SetupError if it is another one: nothing was asked of it but what it is."""
+        with self._lock:
+            before = self._known.get(number)
+        found = connection.identity(None if before is None else before["identity"])
+        if found is None:
+            return
+        if before is not None:
+            if before["identity"] != found:
+                raise SetupError(self._other(number, label, database, before, found))
+            return
+        if keep:
+            with self._lock:
+                self._known[number] = {"at": repr(database), "identity": found}
+                self._write()
+
+    def _other(self, number: int, label: str, database: Database, before: Dict[str, str], found: str) -> str:
+        with self._lock:
+            places = [place for place, entry in self._known.items() if entry["identity"] == found and place != number]
+        swapped = f" That one is database {places[0]} of this log: the databases have changed places." if places else ""
+        return (
+            f"{label} isn't the database that the log {self.path[: -len(SUFFIX)]} belongs to: {database!r} is {found}, and it was"
+            f" {before['identity']}, reached as {before['at']}.{swapped} Nothing was asked of it. Put the right one back; if its data were"
+            f" moved, and nothing is in doubt, remove {self.path}"
+        )
+
+    # ** a log that nobody is to use
+
+    def see_open(self) -> None:
+        """Sees that nobody has to look at the databases first. Raises SetupError."""
+        with self._lock:
+            if self._shut is not None:
+                raise SetupError(f"{self._shut}. Look at it, and then remove the line \"shut\" from {self.path}")
+
+    def shut(self, why: str) -> None:
+        """No session is to begin over the log until somebody has looked, also in another run of the program."""
+        with self._lock:
+            self._shut = why
+            self._write()
+
+    def _write(self) -> None:
+        """Writes the file anew, whole or not at all. Called with the lock."""
+        entries = [{"number": number, **entry} for number, entry in sorted(self._known.items())]
+        found = {"version": VERSION, "manager": self._manager, "databases": entries}
+        if self._shut is not None:
+            found["shut"] = self._shut
+        try:
+            with open(f"{self.path}-new", "w", encoding="utf-8") as it:
+                json.dump(found, it, indent=1)
+                it.write("\n")
+                it.flush()
+                os.fsync(it.fileno())
+            os.replace(f"{self.path}-new", self.path)
+            folder = os.open(os.path.dirname(os.path.abspath(self.path)), os.O_RDONLY)
+            try:
+                os.fsync(folder)
+            finally:
+                os.close(folder)
+        except OSError as error:
+            raise SetupError(f"{self.path} can't be written: {error.strerror}") from error
