@@ -58,7 +58,7 @@ pub record IsFailed {L : Type 0} (o : Origin) (seen : Seen) (now left : Server L
 -- ** no rule is that the log failed
 
 -- a rule beside those of the book is that too much has happened
-if_room : (t : Bool) (x : Option Refusal) → (x ≡ Some LogFault → ⊥) → (if t then x else Some Limit) ≡ Some LogFault → ⊥
+pub if_room : (t : Bool) (x : Option Refusal) → (x ≡ Some LogFault → ⊥) → (if t then x else Some Limit) ≡ Some LogFault → ⊥
 if_room true x never e = never e
 if_room false x never e = absurd (cc)
 

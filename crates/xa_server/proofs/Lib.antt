@@ -1,4 +1,5 @@
 pub mod AnswerLemmas
+pub mod BehindFaults
 pub mod BranchLemmas
 pub mod Failures
 pub mod FaultLemmas
@@ -17,6 +18,7 @@ pub mod WithoutName
 pub mod SessionChains
 pub mod LogStarts
 pub mod LeftLogs
+pub mod LeftSessions
 pub mod SinceStart
 pub mod StandingLemmas
 pub mod TrackLemmas

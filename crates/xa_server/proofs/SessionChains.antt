@@ -9,7 +9,9 @@ use Rattle.xa_base.specs.declared.state.Standing.TheVariants.{Prepared}
 use Rattle.xa_server.proofs.BranchLemmas.{calls_on_branches}
 use Rattle.xa_server.proofs.Failures.{IsFailedToHear, failed_in_answer, failed_in_request}
 use Rattle.xa_server.proofs.LogLemmas.{replies_keep, same_keeps}
-use Rattle.xa_server.specs.Sessions.{AreServed, AreServed.Between, AreServed.NoneYet, AreServed.OneMore, IsHandedOn, IsSession, IsSessionLeft, IsSessionLeft.AfterLine, IsSessionLeft.InAnswer, IsSessionLeft.InRequest, WasFoundDecidedInLog, WasLeft}
+use Rattle.xa_server.specs.LeftSessions.{IsBehind}
+use Rattle.xa_server.specs.NamedLines.{lines_read}
+use Rattle.xa_server.specs.Sessions.{AreServed, AreServed.Between, AreServed.NoneYet, AreServed.OneMore, HoldsLeft, IsSession, IsSessionLeft, IsSessionLeft.AfterLine, IsSessionLeft.InAnswer, IsSessionLeft.InRequest, WasFoundDecidedInLog, WasLeft}
 use Rattle.xa_server.specs.Votes.{IsLogged}
 use Rattle.xa_server.specs.declared.server.Server.{Server}
 use Rattle.xa_line.specs.Grid.{HasLine}
@@ -47,12 +49,9 @@ pub record Laws (L : Type 0) : Type 0 where
   pub explained : SessionsAreExplained L
   pub waiting : WaitingCallsAreTracked L
 
--- a start finds the log of sessions that left the branches there, and that found such branches decided
-pub record GoesOn (f : Branch → Standing) (Decided : Branch → Type 0) (next : Origin) : Type 0 where
-  pub log : Log
-  pub after : AfterSessions log f
-  pub finds : Finds log next
-  pub decided : (b : Branch) → Decided b → Was_found b log f after
+-- each start over such a log goes on from sessions that left the branches so, and that found such branches decided
+abbrev pub StartsGoOn : (f : Branch → Standing) (Decided : Branch → Type 0) → Content → Type 0
+StartsGoOn f Decided c = (next : Origin) → IsRaisedFrom c next → IsBehind f Decided next
 
 module _ {L : Type 0} (moment : L → Moment) where
   -- the log of a server has what its book says, if there was one
@@ -64,15 +63,15 @@ module _ {L : Type 0} (moment : L → Moment) where
   pub record AreSessions (last : Option (Server L)) (f : Branch → Standing) (Decided : Branch → Type 0) : Type 0 where
     pub log : Log
     pub after : AfterSessions log f
-    pub next : (c : Content) (o : Origin) → WasLeft moment last c → IsRaisedFrom c o → GoesOn f Decided o
+    pub next : (c : Content) → WasLeft moment last c → StartsGoOn f Decided c
     pub holds : Holds last
 
-  module _ (laws : Laws L) (handed : L) (o : Origin) (told : Seen) (now : Server L) (is : IsSession moment handed o told now) where
+  module _ (laws : Laws L) (name : List ℕ) (handed : L) (o : Origin) (told : Seen) (now : Server L) (is : IsSession moment name handed o told now) where
     old : HasOnlyOlderRows o
     old = is.starts.old o is.begins
 
     on_branches : AreOnBranches told
-    on_branches = calls_on_branches o.threads is.lines is.replies Start told is.told tt
+    on_branches = calls_on_branches o.threads (lines_read name is.lines) is.replies Start told is.told tt
 
     -- ** the lines of the session
 
@@ -90,40 +89,40 @@ module _ {L : Type 0} (moment : L → Moment) where
 
     -- ** how it was left
 
-    module _ (last : Option (Server L)) (from to : Branch → Standing) (Decided : Branch → Type 0) (before : AreSessions last from Decided)
-        (handed_on : IsHandedOn moment last handed) (left : Server L) (keeps : KeepsLog moment now.session.manager left.session.manager)
+    module _ (from to : Branch → Standing) (Decided : Branch → Type 0) (was_left : Content) (before : StartsGoOn from Decided was_left)
+        (has_left : HoldsLeft moment was_left handed) (left : Server L) (keeps : KeepsLog moment now.session.manager left.session.manager)
         (honest : (moment (log_in left.session.manager)).is_honest) (done cut : List Line) where
       since_start : KeepsLog moment is.first.session.manager left.session.manager
       since_start =
           both_keep moment is.first.session.manager now.session.manager left.session.manager
-          (replies_keep moment is.lines is.replies is.first now is.replied) keeps
+          (replies_keep moment (lines_read name is.lines) is.replies is.first now is.replied) keeps
 
       honest_first : (moment (log_in is.first.session.manager)).is_honest
       honest_first = since_start.honest honest
 
       holds : HoldsItsBook moment true left.session.manager
-      holds = since_start.holds true (is.starts.over.order handed_on.order) honest (is.starts.holds handed_on.order honest_first)
+      holds = since_start.holds true (is.starts.over.order has_left.order) honest (is.starts.holds has_left.order honest_first)
 
-      raised : IsRaisedFrom handed_on.left o
+      raised : IsRaisedFrom was_left o
       raised =
-          raised_from moment is.threads is.rms handed is.first is.starts handed_on.order honest_first handed_on.content handed_on.has o is.begins
-          handed_on.left handed_on.same.decisions handed_on.same.heuristics handed_on.raised
+          raised_from moment is.threads is.rms handed is.first is.starts has_left.order honest_first has_left.content has_left.has o is.begins
+          was_left has_left.same.decisions has_left.same.heuristics has_left.raised
 
       -- its start goes on from the sessions before it
-      prior : GoesOn from Decided o
-      prior = before.next handed_on.left o handed_on.was_left raised
+      prior : IsBehind from Decided o
+      prior = before o raised
 
       -- the start has the rows of its log
-      logged_rows : (content : Option Content) (g : Gtrid) → content ≡ Some handed_on.content → IsLogged content g
-          → is_some (get handed_on.content.decisions g) ≡ true
+      logged_rows : (content : Option Content) (g : Gtrid) → content ≡ Some has_left.content → IsLogged content g
+          → is_some (get has_left.content.decisions g) ≡ true
       logged_rows None g has row = absurd row
-      logged_rows (Some c) g has row = subst (λ d. is_some (get d.decisions g) ≡ true) (let same : c ≡ handed_on.content = cc in same) row
+      logged_rows (Some c) g has row = subst (λ d. is_some (get d.decisions g) ≡ true) (let same : c ≡ has_left.content = cc in same) row
 
       listed_there : (b : Branch) → IsLogged (moment handed).content b.gtrid → lists_row o.rows b.gtrid ≡ true
       listed_there b row =
           lists_is o.rows b.gtrid ∙ ap is_some (raised.has.rows b.gtrid)
-          ∙ ap (λ m. is_some (get m b.gtrid)) (raised.rows ∙ sym handed_on.same.decisions)
-          ∙ logged_rows (moment handed).content b.gtrid handed_on.has row
+          ∙ ap (λ m. is_some (get m b.gtrid)) (raised.rows ∙ sym has_left.same.decisions)
+          ∙ logged_rows (moment handed).content b.gtrid has_left.has row
 
       -- what was found decided
       abbrev Found : Branch → Type 0
@@ -139,7 +138,7 @@ module _ {L : Type 0} (moment : L → Moment) where
 
       -- a start goes on from this session
       on_from : (seen : Seen) (fails : Option Fault) → Is_session o seen fails → MayAllStand o seen (λ b. Comes seen b (broken (from b))) done cut to
-          → (next : Origin) → Finds (LeftBy o seen fails) next → GoesOn to Found next
+          → (next : Origin) → Finds (LeftBy o seen fails) next → IsBehind to Found next
       on_from seen fails session may next finds = record {
         log = LeftBy o seen fails;
         after = One_session prior.log from to o seen fails done cut prior.after prior.finds session may;
@@ -154,7 +153,7 @@ module _ {L : Type 0} (moment : L → Moment) where
       left_in fails may_fail finds may = record {
         log = LeftBy o told fails;
         after = One_session prior.log from to o told fails done cut prior.after prior.finds session may;
-        next = λ c next was raised. on_from told fails session may next (finds c next (tied c was) raised);
+        next = λ c was next raised. on_from told fails session may next (finds c next (tied c was) raised);
         holds = holds;
       }
         where
@@ -168,7 +167,7 @@ module _ {L : Type 0} (moment : L → Moment) where
       left_in_answer t r code call waits failed may = record {
         log = LeftBy o told None;
         after = before_it.after;
-        next = λ c next was raised. either next (found.finds c next (subst (λ k. IsTied true k (Some c)) failed.book (tied c was)) raised);
+        next = λ c was next raised. either next (found.finds c next (subst (λ k. IsTied true k (Some c)) failed.book (tied c was)) raised);
         holds = holds;
       }
         where
@@ -187,48 +186,48 @@ module _ {L : Type 0} (moment : L → Moment) where
               (subst (WaitsAt o told (line t r) 0) waits (laws.waiting o told now.session t r 0 is.tracks here.0 here.1)) knows may
 
           either : (next : Origin) → Finds (LeftBy o (Answered told (line t r) call (Ret code)) None) next ⊎ Finds (LeftBy o told None) next
-              → GoesOn to Found next
+              → IsBehind to Found next
           either next (inl finds) = on_from (Answered told (line t r) call (Ret code)) None session may next finds
           either next (inr finds) =
               record { log = LeftBy o told None; after = before_it.after; finds = finds; decided = λ b was. before_it.decided b (found_so b was) }
 
-    module _ (last : Option (Server L)) (from to : Branch → Standing) (Decided : Branch → Type 0) (before : AreSessions last from Decided)
-        (handed_on : IsHandedOn moment last handed) where
+    module _ (from to : Branch → Standing) (Decided : Branch → Type 0) (was_left : Content) (before : StartsGoOn from Decided was_left)
+        (has_left : HoldsLeft moment was_left handed) where
       pub one_more : (seen : Seen) (left : Server L) → IsSessionLeft moment told now seen left → (moment (log_in left.session.manager)).is_honest
           → (done cut : List Line) → MayAllStand o seen (λ b. Comes seen b (broken (from b))) done cut to
           → AreSessions (Some left) to (λ b. ((from b ≡ Prepared) × IsLogged (moment handed).content b.gtrid) ⊎ Decided b)
       one_more _ _ AfterLine honest done cut may =
-          left_in last from to Decided before handed_on now (same_keeps moment now now refl) honest done cut None tt
+          left_in from to Decided was_left before has_left now (same_keeps moment now now refl) honest done cut None tt
           (λ c next tied raised. laws.left o told now.session c next is.tracks tied raised) may
       one_more _ _ (InRequest request left asks performs) honest done cut may =
           let failed = failed_in_request moment laws.decision laws.settlement laws.done o told now left is.tracks request asks performs in
-          left_in last from to Decided before handed_on left performs.keeps honest done cut (Some failed.fault) failed.step.may_fail
+          left_in from to Decided was_left before has_left left performs.keeps honest done cut (Some failed.fault) failed.step.may_fail
           (λ c next tied raised. failed.step.finds c next (subst (λ k. IsTied true k (Some c)) failed.book tied) raised) may
       one_more _ _ (InAnswer t r name code call left waits performs) honest done cut may =
-          left_in_answer last from to Decided before handed_on left performs.keeps honest done cut t r code call waits
+          left_in_answer from to Decided was_left before has_left left performs.keeps honest done cut t r code call waits
           (failed_in_answer moment now left t r name code call waits performs) may
 
   -- ** all of them
 
-  pub are_sessions : Laws L → (last : Option (Server L)) (f : Branch → Standing) (served : AreServed moment last f)
-      → AreSessions last f (λ b. WasFoundDecidedInLog moment b last f served)
-  are_sessions laws _ _ NoneYet = record {
+  pub are_sessions : Laws L → (name : List ℕ) (last : Option (Server L)) (f : Branch → Standing) (served : AreServed moment name last f)
+      → AreSessions last f (λ b. WasFoundDecidedInLog moment name b last f served)
+  are_sessions laws name _ _ NoneYet = record {
     log = Empty 0;
     after = No_session 0;
-    next = λ c o left raised.
+    next = λ c left o raised.
         record { log = Empty 0; after = No_session 0; finds = empty_found c o left raised; decided = λ b found. absurd found };
     holds = tt;
   }
-  are_sessions laws _ _ (OneMore last from to handed o told seen now left done cut before handed_on is is_left honest may) =
-      one_more laws handed o told now is last from to (λ b. WasFoundDecidedInLog moment b last from before) (are_sessions laws last from before) handed_on
-      seen left is_left honest done cut may
-  are_sessions laws _ _ (Between last from to d how before was final) =
-      let b = are_sessions laws last from before in
+  are_sessions laws name _ _ (OneMore last from to handed o told seen now left done cut before handed_on is is_left honest may) =
+      one_more laws name handed o told now is from to (λ b. WasFoundDecidedInLog moment name b last from before) handed_on.left
+      ((are_sessions laws name last from before).next handed_on.left handed_on.was_left) handed_on.holds seen left is_left honest done cut may
+  are_sessions laws name _ _ (Between last from to d how before was final) =
+      let b = are_sessions laws name last from before in
       record {
         log = b.log;
         after = Ends_between b.log from to d how b.after was final;
-        next = λ c o left raised.
-            let on = b.next c o left raised in
+        next = λ c left o raised.
+            let on = b.next c left o raised in
             record { log = on.log; after = Ends_between on.log from to d how on.after was final; finds = on.finds; decided = on.decided };
         holds = b.holds;
       }

@@ -1,17 +1,21 @@
 //! How a session tracks what a driver tells. These functions do nothing: each contract is a theorem.
 
 ghost use Rattle.xa_server.specs.Branches.{CallsAreOnBranches};
-ghost use Rattle.xa_server.specs.Faults.{FaultsLeaveAllOrNone};
+ghost use Rattle.xa_server.specs.Faults.{FaultsLeaveAllOrNone, NothingBehindFaults};
+ghost use Rattle.xa_server.specs.LeftSessions.{LeftSessionsAgree, ManagersAgree};
+ghost use Rattle.xa_server.specs.LeftSessions.{ServedManagersAgree, ServedSessionsGoOn, SessionsBegin};
+ghost use Rattle.xa_server.specs.LeftSessions.{SessionsGoOn, SessionsWait};
 ghost use Rattle.xa_server.specs.Managers.{ManagersAreApart, RepliesTellOwn};
 ghost use Rattle.xa_server.specs.Sessions.{ServedCommitsStand, ServedLogsDecide};
 ghost use Rattle.xa_server.specs.Sessions.{ServedSessionsAgree, ServedSessionsAreSeen};
+ghost use Rattle.xa_server.specs.Sessions.{ServedSessionsHaveOneHistory};
 ghost use Rattle.xa_server.specs.Tracking.{RepliesAreTracked, ServedDatabasesAgree};
 ghost use Rattle.xa_server.specs.Tracking.{ServedSessionsAreExplained, SessionsAreTracked};
 ghost use Rattle.xa_server.specs.Votes.{CommitsAreLogged, VotedCommitsAreLogged};
 
 use xa_log::DecisionLog;
 use xa_monitor::laws::{answers_are_explained, sessions_agree};
-use xa_names::laws::names_part_identifiers;
+use xa_names::laws::{names_part_identifiers, renaming_goes_back};
 use xa_session::laws::{
     answers_are_tracked, losses_are_tracked, refusals_are_tracked, releases_are_tracked,
     sessions_are_explained, starts_are_tracked, starts_find_the_log, steps_are_tracked,
@@ -88,12 +92,17 @@ pub fn served_databases_agree<L: DecisionLog + Drop>()
 ///   is committed, and no row of one of which a branch is rolled back or lost;
 /// - `decided`: a branch that a session found prepared, and its transaction's row in the log, commits, or its database ends
 ///   it by itself. The row is there as long as the branch stands prepared, so a log without it says that this is over;
-/// - `seen`: each session that starts so is one of these.
+/// - `seen`: each session that starts so is one of these;
+/// - `history`: there is one right history of all of them, so that whatever is proved of right histories holds of their
+///   branches and of the log. It leaves the branches where they stand once what was open is lost.
+///
+/// Each of them is a session of a manager of the same name, and lines are those that this manager means.
 pub fn served_sessions_agree<L: DecisionLog + Drop>()
     ensures agree { ServedSessionsAgree L.moment }
     ensures rows { ServedLogsDecide L.moment }
     ensures decided { ServedCommitsStand L.moment }
     ensures seen { ServedSessionsAreSeen L.moment }
+    ensures history { ServedSessionsHaveOneHistory L.moment }
 {
     sessions_agree();
     starts_are_histories();
@@ -102,6 +111,49 @@ pub fn served_sessions_agree<L: DecisionLog + Drop>()
     sessions_are_tracked::<L>();
     sessions_are_explained::<L>();
     waiting_calls_are_tracked::<L>();
+}
+
+/// The same of sessions of which each has a log of a type of its own, as where each process opens files of which it supposes only
+/// what the process before it left. What one hands to the next is no log, but what a log holds (`HaveLeft`).
+///
+/// - `on`: a session over a log that holds what was left leaves what its own log then holds, or a crash of its store leaves of it.
+///   What it found prepared, with a row in that log, is found decided from then on;
+/// - `served`: so does each session that a server serves, up to a failure of its log, and one that is left in the request in which
+///   its log failed.
+pub fn sessions_go_on<L: DecisionLog + Drop>()
+    ensures on { SessionsGoOn L.moment }
+    ensures served { ServedSessionsGoOn L.moment }
+{
+    served_sessions_agree::<L>();
+    starts_find_the_log::<L>();
+    sessions_are_explained::<L>();
+    waiting_calls_are_tracked::<L>();
+}
+
+/// Such sessions begin with an empty log and no branch (`begin`), and between two a database may end a prepared branch by
+/// itself (`between`). All that [`served_sessions_agree`] says is so of them (`agree`, at `AreLeftAlike`).
+pub fn left_sessions_agree()
+    ensures begin { SessionsBegin }
+    ensures between { SessionsWait }
+    ensures agree { LeftSessionsAgree }
+{
+    sessions_agree();
+    starts_are_histories();
+}
+
+/// Two managers of different names agree over databases that they share, each through any number of sessions over logs of its own:
+/// where all identifiers stand, the branches of each stand alike, and no identifier is of a branch of both.
+///
+/// - `left`: each session has a log of a type of its own;
+/// - `served`: they are told server by server, over logs of one type.
+pub fn managers_agree<L: DecisionLog + Drop>()
+    ensures left { ManagersAgree }
+    ensures served { ServedManagersAgree L.moment }
+{
+    left_sessions_agree();
+    served_sessions_agree::<L>();
+    names_part_identifiers();
+    renaming_goes_back();
 }
 
 /// What lines and their replies tell is of branches that have identifiers (XA, section 4.2): each call that was let wait is on
@@ -115,6 +167,12 @@ pub fn calls_are_on_branches()
 /// store then leaves.
 pub fn faults_leave_all_or_none<L: DecisionLog + Drop>()
     ensures { FaultsLeaveAllOrNone L.moment }
+{}
+
+/// Behind a request in which the log failed the manager is down, and no line changes anything, of the server or of its log: a `decide`
+/// or a `done` behind it names a transaction, as each that is read does.
+pub fn nothing_changes_behind_faults<L: DecisionLog + Drop>()
+    ensures { NothingBehindFaults L.moment }
 {}
 
 /// Behind lines that tell a vote each, XA_OK to an xa_prepare, and are heard, a line commits their transactions and is replied by
