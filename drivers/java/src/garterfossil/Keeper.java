@@ -19,6 +19,7 @@ final class Keeper {
     /** Branches are kept away for so long while the last ones end; else it is tried again after so long. */
     private static final Duration QUIET = Duration.ofSeconds(2), BUSY = Duration.ofSeconds(5);
     private static final long PAUSE = 300;
+    private static final int MOST_NOTED = 100;
 
     final ResourceManager rm;
     final Usage usage = new Usage();
@@ -31,7 +32,7 @@ final class Keeper {
     private volatile boolean isScanDue = true;
     private volatile boolean isOver;
     private long notBefore = System.nanoTime();
-    private String noted;
+    private final Set<String> noted = new HashSet<>();
     private boolean areOthersNoted;
 
     Keeper(Session session, ResourceManager rm) {
@@ -123,8 +124,12 @@ final class Keeper {
     boolean work() {
         try {
             connect();
-            boolean isWhole = !isScanDue || System.nanoTime() > notBefore && recover();
-            return payAll() && isWhole;
+            boolean isWhole = !isScanDue || isRecoveredNow();
+            boolean isAllDone = payAll() && isWhole;
+            if (isAllDone) {
+                noted.clear();
+            }
+            return isAllDone;
         } catch (Fault.Gone error) {
             isOver = true;
         } catch (Fault error) {
@@ -133,15 +138,27 @@ final class Keeper {
         return false;
     }
 
+    /** Whether a recovery has succeeded. Debts are paid all the same. */
+    private boolean isRecoveredNow() throws Fault.Gone {
+        try {
+            return System.nanoTime() > notBefore && recover();
+        } catch (Fault.Gone gone) {
+            throw gone;
+        } catch (Fault error) {
+            putOff(error.getMessage());
+            return false;
+        }
+    }
+
     private void putOff(String why) {
         note(rm + " is recovered later: " + why);
         disconnect();
     }
 
-    /** The same is said once. */
+    /** The same is said once, until all is well again. */
     private void note(String text) {
-        Manager.LOG.log(text.equals(noted) ? Level.DEBUG : Level.WARNING, text);
-        noted = text;
+        boolean isNew = noted.size() < MOST_NOTED && noted.add(text);
+        Manager.LOG.log(isNew ? Level.WARNING : Level.DEBUG, text);
     }
 
     /** A connection, once those that were lost are known to be gone. */
@@ -303,9 +320,18 @@ final class Keeper {
             session.noteUndone(xid);
         }
         if (Code.isHeuristic(code)) {
-            forget(line, xid, resource);
+            forgetOrScan(xid);
         }
         return code;
+    }
+
+    /** Only what a page lists is asked to forget a branch of an earlier session. */
+    private void forgetOrScan(BranchXid xid) throws Fault {
+        if (xid.incarnation() == session.incarnation) {
+            forget(line, xid, resource);
+        } else {
+            isScanDue = true;
+        }
     }
 
     /** xa_forget of a branch that ended by itself, once the log has a record of it. */
@@ -332,17 +358,24 @@ final class Keeper {
 
     // ** debts
 
-    /** Ends the branches that are owed. False if some are left. */
+    /** Ends the branches that are owed. False if some are left. What goes wrong with one keeps none of the others waiting. */
     private boolean payAll() throws Fault {
         boolean isAllPaid = true;
         for (Debt debt : debts) {
-            isAllPaid &= pay(debt);
+            connect();
+            try {
+                isAllPaid &= pay(debt);
+            } catch (Fault.Gone gone) {
+                throw gone;
+            } catch (Fault error) {
+                putOff(error.getMessage());
+                isAllPaid = false;
+            }
         }
         return isAllPaid;
     }
 
     private boolean pay(Debt debt) throws Fault {
-        connect();
         int code;
         try {
             line.issue(debt.call() + " ", debt.xid);

@@ -22,6 +22,9 @@ final class Session {
     /** So many rows leave the log by one request, which is one write of the log. */
     private static final int DONE_AT_ONCE = 64;
 
+    /** So many branches that were rolled back are known. */
+    private static final int UNDONE = 10_000;
+
     private static final int PROCESSORS = Runtime.getRuntime().availableProcessors();
 
     /** A thread of the coordinator, for one transaction at a time. */
@@ -114,8 +117,8 @@ final class Session {
     private final BlockingDeque<Slot> free = new LinkedBlockingDeque<>();
     private final int threads;
     private final Set<GlobalTransaction> live = ConcurrentHashMap.newKeySet();
-    // Branches that were prepared and that this session rolled back: a resource may forget that in a crash of its own.
-    private final Set<BranchXid> undone = ConcurrentHashMap.newKeySet();
+    // Branches that were prepared and that this session rolled back: a resource may forget that in a crash of its own, if it was a moment ago.
+    private final Recent<BranchXid> undone = new Recent<>(UNDONE);
     private List<String> done = new ArrayList<>();
     private final Queue<Finish> finishing = new ConcurrentLinkedQueue<>();
     private volatile String fatal;

@@ -426,6 +426,65 @@ public class RecoveryTest {
         world.manager.close();
     }
 
+    /** Rows of an earlier session, each with a prepared branch at b, and at a too if it is over both. */
+    private void rowsOfAnEarlierSession(BranchXid... atB) throws Exception {
+        StringBuilder rows = new StringBuilder();
+        for (BranchXid xid : atB) {
+            rows.append(xid.transaction()).append(" 7:").append(xid.transaction()).append(":0000000100000001\n");
+            world.b.branches.put(xid, StandInResource.State.PREPARED);
+        }
+        world.put("rows", rows.toString());
+    }
+
+    @Test
+    public void heuristicEndsOfAnEarlierSession() throws Exception {
+        world.manager.close();
+        BranchXid one = BranchXid.of(world.manager.name(), "0000000000000001" + "0000000000000008", 1, 1);
+        BranchXid other = BranchXid.of(world.manager.name(), "0000000000000001" + "0000000000000009", 1, 1);
+        rowsOfAnEarlierSession(one, other);
+        // The first that is committed, as a page lists it, is rolled back by its resource, which lists it until it is asked to forget it.
+        world.b.answer("commit", XAException.XA_HEURRB);
+        world.manager = world.builder().start();
+        World.eventually(() -> world.manager.owing() == 0 && world.rows().isEmpty());
+        assertEquals(1, world.b.committed.size());
+        assertTrue(world.b.branches.isEmpty() && world.b.calls.contains("forget"));
+        world.manager.close();
+    }
+
+    @Test
+    public void aHeuristicEndThatNoPageLists() throws Exception {
+        world.manager.close();
+        BranchXid one = BranchXid.of(world.manager.name(), "0000000000000001" + "0000000000000008", 1, 1);
+        rowsOfAnEarlierSession(one);
+        world.b.branches.clear();
+        world.b.answer("commit", XAException.XA_HEURRB);
+        world.manager = world.builder().start();
+        World.eventually(() -> world.manager.owing() == 0 && world.rows().isEmpty());
+        world.overBoth().commit();
+        world.manager.close();
+    }
+
+    @Test
+    public void aDebtThatCantBePaidKeepsNoOtherWaiting() throws Exception {
+        world.manager.close();
+        BranchXid one = BranchXid.of(world.manager.name(), "0000000000000001" + "0000000000000008", 1, 1);
+        rowsOfAnEarlierSession(one);
+        world.b.branches.clear();
+        world.b.before = () -> world.b.answer("commit", world.b.committed.isEmpty() ? XAException.XAER_PROTO : 0);
+        world.manager = world.builder().start();
+        GlobalTransaction transaction = world.overBoth();
+        world.b.before = () -> {
+            // Of the new branch alone xa_commit has an answer.
+            boolean isNew = !world.b.branches.isEmpty();
+            world.b.answer("commit", isNew ? 0 : XAException.XAER_PROTO);
+        };
+        transaction.commit();
+        World.eventually(() -> world.b.committed.size() == 1);
+        world.b.before = () -> { };
+        nothingIsLeft();
+        world.manager.close();
+    }
+
     @Test
     public void aCoordinatorThatIsntAskedForLong() throws Exception {
         world.manager.close();

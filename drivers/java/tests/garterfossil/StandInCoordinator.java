@@ -380,7 +380,7 @@ final class StandInCoordinator extends Process {
             String gtrid = gtridOf(branch);
             boolean isLive = branches.containsKey(gtrid) && !outcomes.containsKey(gtrid);
             if (!isLive) {
-                calls.add((rows.containsKey(gtrid) ? "xa_commit " : "xa_rollback ") + branch);
+                calls.add((recorded.contains(branch) ? "xa_forget " : rows.containsKey(gtrid) ? "xa_commit " : "xa_rollback ") + branch);
             }
         }
         waitingAt("0 " + rm).addAll(calls);

@@ -230,7 +230,8 @@ final class StandInResource implements Resource {
         @Override
         public void forget(Xid xid) throws XAException {
             make("forget", xid, () -> {
-                throw new XAException(XAException.XAER_NOTA);
+                move(xid, null, State.PREPARED);
+                return 0;
             });
         }
 

@@ -33,6 +33,30 @@ final class MariaDbXaResource extends JdbcXaResource implements PreparesAtEnd {
         }
     }
 
+    /**
+     * MariaDB keeps nothing of a prepared branch that only read, once the connection that prepared it is gone: it lists it until somebody ends
+     * it, and answers by XA_RBROLLBACK then. There was nothing to roll back, so it is committed as well.
+     */
+    @Override
+    public void commit(Xid xid, boolean isOnePhase) throws XAException {
+        try {
+            super.commit(xid, isOnePhase);
+        } catch (XAException error) {
+            if (isOnePhase || error.errorCode != XAException.XA_RBROLLBACK || isListed(xid)) {
+                throw error;
+            }
+        }
+    }
+
+    private boolean isListed(Xid xid) throws XAException {
+        for (Xid it : recover(TMSTARTRSCAN | TMENDRSCAN)) {
+            if (PreparedNames.of(it).equals(PreparedNames.of(xid))) {
+                return true;
+            }
+        }
+        return false;
+    }
+
     /** Rolls back what MariaDB has given up: the vote. What it was that failed is known by the code alone. */
     private int rolledBack(Xid xid, SQLException error) throws XAException {
         int vote = vote(error.getErrorCode());

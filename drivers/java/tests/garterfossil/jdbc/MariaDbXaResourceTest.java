@@ -93,6 +93,25 @@ public class MariaDbXaResourceTest {
         failsBy(1614, XAException.XAER_RMFAIL, TEXT, "rollback");
     }
 
+    /** An XAResource that answers by 1402 to the xa_commit of a branch, which it lists then or not. */
+    private MariaDbXaResource answering1402(boolean isListed) {
+        XAResource inner = (XAResource) Proxy.newProxyInstance(getClass().getClassLoader(), new Class<?>[] {XAResource.class},
+            (proxy, method, words) -> {
+                if (method.getName().equals("commit")) {
+                    throw new XAException(XAException.XA_RBROLLBACK);
+                }
+                return isListed ? new Xid[] {xid} : new Xid[0];
+            });
+        return new MariaDbXaResource(null, Dialect.MARIADB, inner, null);
+    }
+
+    @Test
+    public void aBranchThatOnlyRead() throws Exception {
+        // Its connection is gone: MariaDB has nothing of it any more, and had nothing to commit.
+        answering1402(false).commit(xid, false);
+        assertEquals(XAException.XA_RBROLLBACK, assertThrows(XAException.class, () -> answering1402(true).commit(xid, false)).errorCode);
+    }
+
     @Test
     public void elseNobodyKnows() {
         failsBy(1397, XAException.XAER_RMFAIL, TEXT);
