@@ -7,11 +7,14 @@ import static garterfossil.Answers.PREPARED;
 import static garterfossil.Answers.ROLLBACK_ONLY;
 import static garterfossil.Answers.S0;
 
+import java.time.Duration;
+import java.util.function.Supplier;
 import javax.transaction.xa.XAException;
 import javax.transaction.xa.XAResource;
 
 /** The part of a transaction at one resource, over one connection. Its transaction calls it, one call after the other. */
 final class Branch {
+    private static final Duration A_SECOND = Duration.ofSeconds(1);
     private static final String NO_MORE_WORK = "the transaction is over for this connection: get a new one";
 
     final BranchXid xid;
@@ -19,6 +22,8 @@ final class Branch {
     final Gate gate = new Gate();
     private final ResourceManager.Lease lease;
     private final XAResource resource;
+    // How long its transaction may still go on.
+    private final Supplier<Duration> left;
     private int may = S0;
     private boolean isFailed, isLost, isOver, isVoteIssued, isCommitIssued;
     // Why it can only be rolled back, by a code of XA; 0 if it may still be committed.
@@ -27,11 +32,21 @@ final class Branch {
     private Fault objection;
     private int answer = Code.RETRY;
 
-    Branch(BranchXid xid, Line line, ResourceManager.Lease lease, XAResource resource) {
+    Branch(BranchXid xid, Line line, ResourceManager.Lease lease, XAResource resource, Supplier<Duration> left) {
         this.xid = xid;
         this.line = line;
         this.lease = lease;
         this.resource = resource;
+        this.left = left;
+    }
+
+    /** How long the calls that follow may take: before the decision no longer than the transaction, but a second at least. */
+    private void bound(boolean isBeforeDecision) {
+        if (lease == null) {
+            return;
+        }
+        Duration most = rm().resource.patience(), mine = left.get().compareTo(A_SECOND) < 0 ? A_SECOND : left.get();
+        lease.link.bound(isBeforeDecision && mine.compareTo(most) < 0 ? mine : most);
     }
 
     ResourceManager rm() {
@@ -75,6 +90,7 @@ final class Branch {
 
     /** xa_start. It is made before the coordinator is asked: what is begun on a connection ends with it. */
     void start() throws Fault {
+        bound(true);
         line.open();
         line.issue("xa_start ", name());
         try {
@@ -114,6 +130,7 @@ final class Branch {
     /** xa_end and xa_prepare. They are made also after a no of another, since they wait on the line. */
     void collectVote() {
         try {
+            bound(true);
             int code = vote();
             if (code != Code.OK && code != Code.RDONLY) {
                 objection = new Fault.RolledBack(rm() + " voted " + Code.name(code), null);
@@ -232,7 +249,9 @@ final class Branch {
 
     /** xa_end, and xa_commit in one phase: XA_OK, or why it was rolled back. */
     int commitInOnePhase() throws Fault {
+        bound(true);
         end();
+        bound(false);
         line.see();
         isCommitIssued = true;
         int code = vote == Code.OK ? commitResource() : rolledBackAtOnce();
@@ -277,6 +296,7 @@ final class Branch {
 
     /** xa_commit, which waits on the line. */
     void commit() throws Fault {
+        bound(false);
         int code;
         try {
             code = Answers.commit(resource, xid, may);
@@ -319,6 +339,7 @@ final class Branch {
 
     /** xa_end, if it waits on the line; and the no to xa_prepare, if that does. */
     void endToRollBack() throws Fault {
+        bound(false);
         if (may == ACTIVE && !isLost) {
             endWork();
         }

@@ -111,7 +111,8 @@ final class Branches {
         try {
             lease = brought == null ? rm.borrow(transaction.left()) : null;
             XAResource resource = brought == null ? lease.link.xaResource() : brought;
-            Branch branch = new Branch(BranchXid.of(session.name, gtrid, slot.number, rm.number), slot.line(rm), lease, resource);
+            Branch branch = new Branch(BranchXid.of(session.name, gtrid, slot.number, rm.number), slot.line(rm), lease, resource,
+                transaction::left);
             all.add(branch);
             return branch;
         } catch (Fault | RuntimeException | Error error) {

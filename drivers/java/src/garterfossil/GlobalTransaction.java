@@ -2,6 +2,7 @@ package garterfossil;
 
 import java.lang.System.Logger.Level;
 import java.time.Duration;
+import java.util.Collection;
 import java.util.HashMap;
 import java.util.Map;
 import java.util.Optional;
@@ -47,7 +48,7 @@ public final class GlobalTransaction {
     private volatile String fault;
     // What made that so, if it was an exception, or a call of setRollbackOnly.
     private volatile Throwable cause;
-    private volatile boolean isGivenUp, isEnded;
+    private volatile boolean isGivenUp, isEnded, isOwing;
 
     GlobalTransaction(Manager manager, Duration timeout) {
         this.manager = manager;
@@ -172,7 +173,7 @@ public final class GlobalTransaction {
             if (outcome.isOpen()) {
                 Manager.LOG.log(Level.WARNING, () -> this + " is rolled back: " + why);
                 branches.shut(this + " is rolled back: " + why);
-                rollBack();
+                rollBack(true);
             }
         } catch (Fault error) {
             Manager.LOG.log(Level.WARNING, () -> this + ": " + error.getMessage());
@@ -181,6 +182,13 @@ public final class GlobalTransaction {
             // Mostly its own thread hears of it before that.
             manager.later(this::callAfter, TO_HEAR);
         }
+    }
+
+    /** Waits so many milliseconds for what it owes. */
+    void awaitAll(Collection<Debt> debts, long millis) {
+        isOwing = true;
+        Debt.awaitAll(debts, millis);
+        isOwing = false;
     }
 
     // ** its branches
@@ -357,10 +365,14 @@ public final class GlobalTransaction {
     }
 
     void rollBack() throws Fault {
+        rollBack(false);
+    }
+
+    private void rollBack(boolean isApart) throws Fault {
         outcome = Outcome.ROLLING_BACK;
         try {
             if (branches.gtrid() != null && !branches.isSessionOver()) {
-                new Rollback(this, branches).make();
+                new Rollback(this, branches, manager).make(isApart);
             }
         } catch (RuntimeException | Error error) {
             giveUp(error);

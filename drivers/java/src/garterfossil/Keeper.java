@@ -7,7 +7,11 @@ import java.util.HashSet;
 import java.util.List;
 import java.util.Set;
 import java.util.TreeSet;
+import java.util.concurrent.CompletableFuture;
 import java.util.concurrent.ConcurrentLinkedQueue;
+import java.util.concurrent.ExecutionException;
+import java.util.concurrent.TimeUnit;
+import java.util.concurrent.TimeoutException;
 import javax.transaction.xa.XAException;
 import javax.transaction.xa.XAResource;
 import javax.transaction.xa.Xid;
@@ -27,6 +31,7 @@ final class Keeper {
     private final Line line;
     private final ConcurrentLinkedQueue<Debt> debts = new ConcurrentLinkedQueue<>();
     private final Thread thread;
+    private final CompletableFuture<Void> first = new CompletableFuture<>();
     private Link link;
     private XAResource resource;
     private volatile boolean isScanDue = true;
@@ -45,6 +50,22 @@ final class Keeper {
 
     void start() {
         thread.start();
+    }
+
+    /** Waits until it has worked once. An error in that is thrown here. */
+    void awaitFirst(long until) {
+        try {
+            first.get(Math.max(1, until - System.nanoTime()), TimeUnit.NANOSECONDS);
+        } catch (ExecutionException error) {
+            if (error.getCause() instanceof Error) {
+                throw (Error) error.getCause();
+            }
+            throw (RuntimeException) error.getCause();
+        } catch (InterruptedException error) {
+            Thread.currentThread().interrupt();
+        } catch (TimeoutException error) {
+            Manager.LOG.log(Level.WARNING, () -> rm + " isn't recovered yet: it is silent, and the others go on");
+        }
     }
 
     void stop() {
@@ -84,12 +105,23 @@ final class Keeper {
 
     private void keep() {
         try {
+            workFirst();
             while (!isOver && !session.coordinator.isGone()) {
                 keepOnce();
             }
             disconnect();
         } catch (RuntimeException | Error error) {
             session.coordinator.failed(error);
+        }
+    }
+
+    private void workFirst() {
+        try {
+            work();
+            first.complete(null);
+        } catch (RuntimeException | Error error) {
+            first.completeExceptionally(error);
+            throw error;
         }
     }
 
@@ -168,7 +200,8 @@ final class Keeper {
         }
         disconnect();
         try {
-            link = rm.connect();
+            link = rm.connect(rm.resource.patience());
+            link.bound(rm.resource.patience());
             resource = link.xaResource();
         } catch (Fault.Lost error) {
             isScanDue = true;

@@ -1,5 +1,6 @@
 package garterfossil;
 
+import java.time.Duration;
 import javax.transaction.xa.XAResource;
 
 /** A connection to a resource. It has one branch at a time. */
@@ -19,6 +20,10 @@ public interface Link {
      */
     default boolean isLetOut() {
         return false;
+    }
+
+    /** How long each of XA's calls may take over it from now on; then the connection is lost. */
+    default void bound(Duration longest) {
     }
 
     /** Makes it as it was when new, before another transaction uses it. False if that can't be done. */

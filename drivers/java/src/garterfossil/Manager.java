@@ -7,6 +7,8 @@ import java.time.Duration;
 import java.util.ArrayList;
 import java.util.List;
 import java.util.concurrent.Future;
+import java.util.concurrent.FutureTask;
+import java.util.concurrent.RejectedExecutionException;
 import java.util.concurrent.ScheduledThreadPoolExecutor;
 import java.util.concurrent.TimeUnit;
 import javax.transaction.xa.XAResource;
@@ -117,8 +119,8 @@ public final class Manager implements AutoCloseable {
     final Helpers helpers;
     private final Builder made;
     private final List<ResourceManager> rms = new ArrayList<>();
-    // Time-outs, which may all wait for a resource; and what is done each second. That may wait for the coordinator, until its watch ends it.
-    private final ScheduledThreadPoolExecutor clock = new ScheduledThreadPoolExecutor(4, work -> daemon(work, "garterfossil clock"));
+    // Time-outs, and what is done each second. That may wait for the coordinator, until its watch ends it.
+    private final ScheduledThreadPoolExecutor clock = new ScheduledThreadPoolExecutor(1, work -> daemon(work, "garterfossil alarm"));
     private final ScheduledThreadPoolExecutor seconds = new ScheduledThreadPoolExecutor(2, work -> daemon(work, "garterfossil seconds"));
     private final ThreadLocal<GlobalTransaction> current = new ThreadLocal<>();
     private final Object starting = new Object();
@@ -191,7 +193,7 @@ public final class Manager implements AutoCloseable {
         try {
             decisions.find(next.incarnation, next.owed());
             session = next;
-            next.recover();
+            next.recover(made.patience);
         } catch (Fault error) {
             coordinator.kill("its start failed: " + error.getMessage());
             throw error;
@@ -298,8 +300,24 @@ public final class Manager implements AutoCloseable {
         return decisions.await(gtrid, made.patience);
     }
 
+    /** Has work done later, by a thread of its own, since it may wait for a resource. Once the manager is closed it is done at once. */
     Future<?> later(Runnable work, Duration delay) {
-        return clock.schedule(work, delay.toMillis(), TimeUnit.MILLISECONDS);
+        FutureTask<Void> task = new FutureTask<>(() -> begin(work), null);
+        try {
+            return clock.schedule(task, delay.toMillis(), TimeUnit.MILLISECONDS);
+        } catch (RejectedExecutionException closed) {
+            Apart.run(work);
+            return task;
+        }
+    }
+
+    private void begin(Runnable work) {
+        try {
+            Apart.run(work);
+        } catch (Error error) {
+            // There is no thread to be had now.
+            later(work, Duration.ofSeconds(1));
+        }
     }
 
     ResourceManager resourceManager(Resource resource) throws Fault.Unavailable {

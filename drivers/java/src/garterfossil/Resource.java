@@ -1,5 +1,6 @@
 package garterfossil;
 
+import java.time.Duration;
 import java.util.Set;
 
 /** A database or a message broker that takes part in transactions: how it is reached. Its methods may be called by any thread. */
@@ -21,4 +22,9 @@ public interface Resource {
 
     /** How many connections it may have at a time. */
     int maxConnections();
+
+    /** How long it may be silent, as a connection is made or in one of XA's calls. */
+    default Duration patience() {
+        return Duration.ofSeconds(10);
+    }
 }

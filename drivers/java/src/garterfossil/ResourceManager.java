@@ -2,10 +2,15 @@ package garterfossil;
 
 import java.time.Duration;
 import java.util.ArrayDeque;
+import java.util.Collections;
 import java.util.Set;
+import java.util.concurrent.CompletableFuture;
 import java.util.concurrent.ConcurrentHashMap;
+import java.util.concurrent.ExecutionException;
 import java.util.concurrent.Semaphore;
 import java.util.concurrent.TimeUnit;
+import java.util.concurrent.TimeoutException;
+import java.util.concurrent.locks.ReentrantLock;
 import javax.transaction.xa.XAException;
 import javax.transaction.xa.XAResource;
 
@@ -13,6 +18,8 @@ import javax.transaction.xa.XAResource;
 final class ResourceManager {
     /** A connection that was idle for longer is asked whether it still works before it is used. */
     private static final long FRESH = TimeUnit.SECONDS.toNanos(20);
+    /** For so long a connection that is being made is waited for, by whoever wants one. */
+    private static final long LONGEST = TimeUnit.SECONDS.toNanos(60);
 
     private static final class Idle {
         final Link link;
@@ -31,7 +38,9 @@ final class ResourceManager {
     private int session;
     private boolean isClosed;
     // One connection is made at a time: those that are no one's are ended first.
-    private final Object connecting = new Object();
+    private final ReentrantLock connecting = new ReentrantLock();
+    // One that took too long, or null; under that lock.
+    private Attempt pending;
     private final Set<Long> kept = ConcurrentHashMap.newKeySet();
     // Connections that are no one's any more may be there: those of earlier managers, and later those that were lost.
     private volatile boolean hasStrays = true;
@@ -63,7 +72,7 @@ final class ResourceManager {
         try {
             int lentIn = session();
             Link link = fromPool();
-            return new Lease(link != null ? link : connect(), lentIn);
+            return new Lease(link != null ? link : connect(patience), lentIn);
         } catch (Fault | RuntimeException | Error error) {
             places.release();
             throw error;
@@ -165,16 +174,93 @@ final class ResourceManager {
         }
     }
 
-    /** A connection that isn't the pool's. */
-    Link connect() throws Fault.Lost {
-        synchronized (connecting) {
-            if (hasStrays) {
-                hasStrays = false;
-                endStrays();
+    /** A connection that is being made, by a thread of its own: a resource may be silent. */
+    private final class Attempt {
+        private final CompletableFuture<Link> made = new CompletableFuture<>();
+        private final long since = System.nanoTime();
+
+        void begin() {
+            Apart.run(() -> {
+                try {
+                    if (hasStrays) {
+                        hasStrays = false;
+                        endStrays();
+                    }
+                    made.complete(resource.connect());
+                } catch (Fault.Lost | RuntimeException | Error error) {
+                    made.completeExceptionally(error);
+                }
+            });
+        }
+
+        boolean isOld() {
+            return System.nanoTime() - since > LONGEST;
+        }
+
+        /** Nobody waits for it any more. */
+        void giveUp() {
+            made.thenAccept(Link::close);
+        }
+    }
+
+    /** A connection that isn't the pool's. Waits so long for it. */
+    Link connect(Duration patience) throws Fault.Lost {
+        Duration longest = patience.compareTo(resource.patience()) < 0 ? patience : resource.patience();
+        long until = System.nanoTime() + longest.toNanos();
+        boolean isMine = false;
+        try {
+            isMine = connecting.tryLock() || connecting.tryLock(longest.toNanos(), TimeUnit.NANOSECONDS);
+            if (!isMine) {
+                throw silent(longest);
             }
-            Link link = resource.connect();
+            if (pending != null && pending.isOld()) {
+                giveUpPending();
+            }
+            if (pending == null) {
+                pending = new Attempt();
+                pending.begin();
+            }
+            return made(pending, until, longest);
+        } catch (InterruptedException error) {
+            Thread.currentThread().interrupt();
+            throw new Fault.Lost("interrupted while a connection to " + this + " was made", error);
+        } finally {
+            if (isMine) {
+                connecting.unlock();
+            }
+        }
+    }
+
+    private Link made(Attempt attempt, long until, Duration longest) throws Fault.Lost, InterruptedException {
+        try {
+            Link link = attempt.made.get(Math.max(1, until - System.nanoTime()), TimeUnit.NANOSECONDS);
+            pending = null;
             kept.add(link.number());
             return link;
+        } catch (TimeoutException error) {
+            throw silent(longest);
+        } catch (ExecutionException error) {
+            pending = null;
+            Throwable cause = error.getCause();
+            if (cause instanceof Fault.Lost) {
+                throw (Fault.Lost) cause;
+            }
+            if (cause instanceof Error) {
+                throw (Error) cause;
+            }
+            throw (RuntimeException) cause;
+        }
+    }
+
+    private Fault.Lost silent(Duration longest) {
+        return new Fault.Lost("no connection to " + this + ", which has said nothing for " + longest.toMillis() + " ms", null);
+    }
+
+    private void giveUpPending() {
+        Attempt old = pending;
+        pending = null;
+        if (old != null) {
+            old.giveUp();
         }
     }
 
@@ -184,7 +270,7 @@ final class ResourceManager {
 
     private void endStrays() throws Fault.Lost {
         try {
-            resource.endOthers(Set.copyOf(kept));
+            resource.endOthers(Collections.unmodifiableSet(kept));
         } catch (Fault.Lost | RuntimeException | Error error) {
             hasStrays = true;
             throw error;
@@ -212,6 +298,11 @@ final class ResourceManager {
         old.forEach(it -> it.link.close());
         kept.clear();
         hasStrays = true;
+        if (connecting.tryLock()) {
+            // It would be taken for one of the last session's.
+            giveUpPending();
+            connecting.unlock();
+        }
     }
 
     void close() {

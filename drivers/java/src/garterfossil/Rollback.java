@@ -2,7 +2,11 @@ package garterfossil;
 
 import java.lang.System.Logger.Level;
 import java.util.ArrayList;
+import java.util.Collections;
 import java.util.List;
+import java.util.Map;
+import java.util.concurrent.ConcurrentHashMap;
+import java.util.concurrent.CountDownLatch;
 
 /** The rollback of a transaction's branches, as it was decided. */
 final class Rollback {
@@ -11,31 +15,82 @@ final class Rollback {
 
     private final GlobalTransaction transaction;
     private final Branches branches;
-    private final List<Debt> debts = new ArrayList<>();
+    private final Manager manager;
+    private final List<Debt> debts = Collections.synchronizedList(new ArrayList<>());
+    private final Map<Branch, Integer> answers = new ConcurrentHashMap<>();
 
-    Rollback(GlobalTransaction transaction, Branches branches) {
+    Rollback(GlobalTransaction transaction, Branches branches, Manager manager) {
         this.transaction = transaction;
         this.branches = branches;
+        this.manager = manager;
     }
 
-    void make() throws Fault {
-        HeuristicEnds ends = new HeuristicEnds();
+    /** Rolls back. With {@code isApart} no branch waits for another: one's resource may be silent. */
+    void make(boolean isApart) throws Fault {
         branches.all().forEach(Branch::issueEnd);
         branches.session().coordinator.post("decide " + branches.gtrid() + " rollback");
         branches.all().forEach(Branch::issueRollback);
-        for (Branch branch : branches.all()) {
-            int code = answerOf(branch);
+        List<Branch> ending = new ArrayList<>(branches.all());
+        ending.removeIf(branch -> !isIssued(branch));
+        if (isApart) {
+            apart(ending);
+        } else {
+            manager.helpers.each(ending, branches.session().isBusy(), this::end);
+        }
+        transaction.awaitAll(new ArrayList<>(debts), PATIENCE);
+        HeuristicEnds ends = new HeuristicEnds();
+        answers.forEach((branch, code) -> {
             if (Code.isHeuristic(code) && code != Code.HEURRB) {
                 ends.add(branch, code);
             }
-        }
-        Debt.awaitAll(debts, PATIENCE);
+        });
         ends.seeNoneRollingBack(transaction);
     }
 
+    /** Whether what waits on the branch's line was issued: only this thread asks, since branches share replies. */
+    private boolean isIssued(Branch branch) {
+        try {
+            branch.seeIssued();
+            return true;
+        } catch (Fault error) {
+            leave(branch, error);
+            return false;
+        }
+    }
+
+    private void apart(List<Branch> ending) {
+        CountDownLatch left = new CountDownLatch(ending.size());
+        for (Branch branch : ending) {
+            Runnable work = () -> {
+                try {
+                    end(branch);
+                } catch (RuntimeException | Error error) {
+                    branches.session().coordinator.failed(error);
+                } finally {
+                    left.countDown();
+                }
+            };
+            if (branch.link() == null) {
+                work.run();
+            } else {
+                Apart.run(work);
+            }
+        }
+        boolean isInterrupted = false;
+        while (left.getCount() > 0) {
+            try {
+                left.await();
+            } catch (InterruptedException error) {
+                isInterrupted = true;
+            }
+        }
+        if (isInterrupted) {
+            Thread.currentThread().interrupt();
+        }
+    }
+
     /** xa_end and xa_rollback of a branch, if it isn't over. What goes wrong is left to the keeper. */
-    private int answerOf(Branch branch) {
-        Session session = branches.session();
+    private void end(Branch branch) {
         boolean wasPrepared = branch.isPrepared();
         if (branch.isLetOut() && !branch.isOver()) {
             branch.giveUp("its connection was unwrapped, and so is closed");
@@ -43,19 +98,28 @@ final class Rollback {
         try {
             if (!branch.isOver() && !branch.isLost()) {
                 branch.endToRollBack();
-                int code = branch.isOver() ? Code.OK : branch.rollback();
+                answers.put(branch, branch.isOver() ? Code.OK : branch.rollback());
                 if (wasPrepared) {
-                    session.noteUndone(branch.xid);
+                    branches.session().noteUndone(branch.xid);
                 }
-                return code;
             }
         } catch (Fault error) {
-            Manager.LOG.log(Level.INFO, () -> "xa_rollback of " + branch.xid + " is left to the keeper: " + error.getMessage());
+            leave(branch, error);
         }
+        if (!branch.isOver() && debts.stream().noneMatch(debt -> debt.xid.equals(branch.xid))) {
+            owe(branch);
+        }
+    }
+
+    private void leave(Branch branch, Fault error) {
+        Manager.LOG.log(Level.INFO, () -> "xa_rollback of " + branch.xid + " is left to the keeper: " + error.getMessage());
         if (!branch.isOver()) {
-            session.noteUndone(branch.xid);
-            debts.add(branches.owe(branch, false, () -> { }));
+            owe(branch);
         }
-        return Code.OK;
+    }
+
+    private void owe(Branch branch) {
+        branches.session().noteUndone(branch.xid);
+        debts.add(branches.owe(branch, false, () -> { }));
     }
 }

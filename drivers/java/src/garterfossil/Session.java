@@ -179,13 +179,14 @@ final class Session {
         return found;
     }
 
-    /** Recovers what can be reached. The keepers go on with the rest. */
-    void recover() throws Fault {
-        for (Keeper keeper : keepers) {
-            keeper.work();
-            seeWhole();
-        }
+    /** Recovers what can be reached, each resource by its keeper. They go on with the rest, as with one that is silent for so long. */
+    void recover(Duration patience) throws Fault {
         keepers.forEach(Keeper::start);
+        long until = System.nanoTime() + patience.toNanos();
+        for (Keeper keeper : keepers) {
+            keeper.awaitFirst(until);
+        }
+        seeWhole();
     }
 
     // ** transactions

@@ -135,7 +135,7 @@ final class TwoPhases {
                 debts.put(branch, branches.owe(branch, true, paid));
             }
         }
-        Debt.awaitAll(debts.values(), PATIENCE);
+        transaction.awaitAll(debts.values(), PATIENCE);
         HeuristicEnds ends = new HeuristicEnds();
         for (Branch branch : prepared) {
             int code = debts.containsKey(branch) ? debts.get(branch).heuristic() : branch.answer();

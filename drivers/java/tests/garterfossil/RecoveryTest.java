@@ -358,11 +358,49 @@ public class RecoveryTest {
             world.manager.begin(Duration.ofMillis(100)).enlist(world.a);
         }
         await(waiting);
+        // The time-outs of others come all the same.
+        GlobalTransaction other = world.manager.begin(Duration.ofMillis(100));
+        other.enlist(world.b);
+        World.eventually(() -> other.outcome() == Outcome.ROLLED_BACK);
         // Nobody but the manager's own threads sees to it that its row leaves the log.
         world.overBoth().commit();
         World.eventually(() -> world.rows().isEmpty());
         mayGoOn.countDown();
         nothingIsLeft();
+        world.manager.close();
+    }
+
+    @Test
+    public void aTimeOutOverAResourceThatIsSilent() throws Exception {
+        CountDownLatch mayGoOn = new CountDownLatch(1);
+        GlobalTransaction transaction = world.manager.begin(Duration.ofMillis(300));
+        transaction.enlist(world.a);
+        transaction.enlist(world.b);
+        world.a.before = () -> await(mayGoOn);
+        World.eventually(() -> world.b.branches.isEmpty());
+        assertEquals(1, world.a.branches.size());
+        mayGoOn.countDown();
+        nothingIsLeft();
+    }
+
+    @Test
+    public void aResourceThatIsSilentAtTheStart() throws Exception {
+        world.manager.close();
+        CountDownLatch mayGoOn = new CountDownLatch(1);
+        world.a.patience = Duration.ofMillis(500);
+        world.a.beforeConnect = () -> await(mayGoOn);
+        world.manager = world.builder().start();
+        GlobalTransaction transaction = world.begin();
+        transaction.enlist(world.b);
+        transaction.commit();
+        assertEquals(1, world.b.committed.size());
+        GlobalTransaction other = world.begin();
+        Fault.Lost error = assertThrows(Fault.Lost.class, () -> other.enlist(world.a));
+        assertTrue(error.getMessage(), error.getMessage().contains("has said nothing for 500 ms"));
+        other.rollback();
+        mayGoOn.countDown();
+        nothingIsLeft();
+        world.overBoth().commit();
         world.manager.close();
     }
 

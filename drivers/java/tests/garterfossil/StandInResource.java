@@ -1,5 +1,6 @@
 package garterfossil;
 
+import java.time.Duration;
 import java.util.ArrayList;
 import java.util.Collections;
 import java.util.HashMap;
@@ -30,6 +31,7 @@ final class StandInResource implements Resource {
     volatile boolean isPreparedAtEnd;
     /** Before each call; before a connection is made; and before one is made as new. */
     volatile Runnable before = () -> { }, beforeConnect = () -> { }, beforeReset = () -> { };
+    volatile Duration patience = Duration.ofSeconds(10);
     private final String name;
     private final Map<String, IntSupplier> answers = new HashMap<>();
     private final int max;
@@ -61,6 +63,11 @@ final class StandInResource implements Resource {
 
     @Override
     public void belongTo(String manager) {
+    }
+
+    @Override
+    public Duration patience() {
+        return patience;
     }
 
     @Override

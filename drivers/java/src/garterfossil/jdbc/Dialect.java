@@ -49,7 +49,7 @@ enum Dialect {
         }
 
         @Override
-        XAResource xaResource(Resource owner, XAResource inner, Connection connection) {
+        JdbcXaResource xaResource(Resource owner, XAResource inner, Connection connection) {
             return new PostgreSqlXaResource(owner, this, inner, connection);
         }
 
@@ -133,7 +133,7 @@ enum Dialect {
         }
 
         @Override
-        XAResource xaResource(Resource owner, XAResource inner, Connection connection) throws SQLException {
+        JdbcXaResource xaResource(Resource owner, XAResource inner, Connection connection) throws SQLException {
             DatabaseMetaData data = connection.getMetaData();
             boolean hasBlocks = data.getDatabaseProductName().equalsIgnoreCase("MariaDB")
                 && 100 * data.getDatabaseMajorVersion() + data.getDatabaseMinorVersion() >= FIRST_WITH_BLOCKS;
@@ -189,7 +189,7 @@ enum Dialect {
     abstract void end(Connection connection, long number) throws SQLException;
 
     /** The XAResource of a connection, as the manager calls it: over that of the driver. */
-    XAResource xaResource(Resource owner, XAResource inner, Connection connection) throws SQLException {
+    JdbcXaResource xaResource(Resource owner, XAResource inner, Connection connection) throws SQLException {
         return new JdbcXaResource(owner, this, inner, connection);
     }
 

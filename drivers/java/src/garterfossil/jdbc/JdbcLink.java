@@ -4,6 +4,7 @@ import garterfossil.Link;
 import java.sql.Connection;
 import java.sql.SQLException;
 import java.sql.Statement;
+import java.time.Duration;
 import java.util.ArrayList;
 import java.util.Collections;
 import java.util.IdentityHashMap;
@@ -24,7 +25,7 @@ final class JdbcLink implements Link {
     private final List<Undo> undos = new ArrayList<>();
     // Those that are open on it, under the monitor of this object.
     private final Set<Statement> statements = Collections.newSetFromMap(new IdentityHashMap<>());
-    private final XAResource resource;
+    private final JdbcXaResource resource;
     private final long number;
     private boolean isSuspect;
     private volatile boolean isLetOut;
@@ -64,6 +65,11 @@ final class JdbcLink implements Link {
     @Override
     public boolean isLetOut() {
         return isLetOut;
+    }
+
+    @Override
+    public void bound(Duration longest) {
+        resource.bound(longest);
     }
 
     synchronized void opened(Statement statement) {

@@ -4,25 +4,41 @@ import garterfossil.OwnedXaResource;
 import garterfossil.Resource;
 import java.sql.Connection;
 import java.sql.SQLException;
+import java.time.Duration;
 import javax.transaction.xa.XAException;
 import javax.transaction.xa.XAResource;
 import javax.transaction.xa.Xid;
 
 /**
- * A database driver's XAResource, which says whose it is, and doesn't prepare what the database has given up: PostgreSQL's driver
- * answers XA_OK to the prepare of a transaction in which a statement failed, and the database has rolled it back by then.
+ * A database driver's XAResource, which says whose it is, and doesn't prepare what the database has given up: a driver may answer XA_OK to
+ * the prepare of a transaction in which a statement failed, and the database has rolled it back by then.
+ *
+ * <p>Each call takes so long at most: a database that is silent would keep the transaction's other databases waiting.
  */
 class JdbcXaResource implements OwnedXaResource {
+    /** A call of XA. */
+    interface Call<T> {
+        T made() throws XAException;
+    }
+
+    /** A call without a result. */
+    interface Does {
+        void made() throws XAException;
+    }
+
     private final Resource owner;
     private final Dialect dialect;
     private final XAResource inner;
     private final Connection connection;
+    private volatile int longest;
+    private boolean isUnbounded;
 
     JdbcXaResource(Resource owner, Dialect dialect, XAResource inner, Connection connection) {
         this.owner = owner;
         this.dialect = dialect;
         this.inner = inner;
         this.connection = connection;
+        longest = owner == null ? 0 : (int) owner.patience().toMillis();
     }
 
     @Override
@@ -30,18 +46,61 @@ class JdbcXaResource implements OwnedXaResource {
         return owner;
     }
 
+    /** How long each call may take from now on. */
+    void bound(Duration duration) {
+        longest = (int) Math.min(Integer.MAX_VALUE, Math.max(1, duration.toMillis()));
+    }
+
+    /** Has a call made, and the connection lost if there is no answer in time. */
+    final <T> T bounded(Call<T> call) throws XAException {
+        if (isUnbounded || longest == 0) {
+            return call.made();
+        }
+        int before = setLongest(longest);
+        try {
+            return call.made();
+        } finally {
+            if (!isUnbounded) {
+                setLongest(before);
+            }
+        }
+    }
+
+    private void does(Does does) throws XAException {
+        bounded(() -> {
+            does.made();
+            return null;
+        });
+    }
+
+    /** Sets how long the connection waits for an answer: what that was before. Some drivers know no bound. */
+    private int setLongest(int millis) {
+        try {
+            int before = connection.getNetworkTimeout();
+            connection.setNetworkTimeout(Runnable::run, millis);
+            return before;
+        } catch (SQLException | RuntimeException | AbstractMethodError error) {
+            isUnbounded = true;
+            return 0;
+        }
+    }
+
     @Override
     public int prepare(Xid xid) throws XAException {
-        seeWhole(xid);
-        return inner.prepare(xid);
+        return bounded(() -> {
+            seeWhole(xid);
+            return inner.prepare(xid);
+        });
     }
 
     @Override
     public void commit(Xid xid, boolean isOnePhase) throws XAException {
-        if (isOnePhase) {
-            seeWhole(xid);
-        }
-        inner.commit(xid, isOnePhase);
+        does(() -> {
+            if (isOnePhase) {
+                seeWhole(xid);
+            }
+            inner.commit(xid, isOnePhase);
+        });
     }
 
     final void seeWhole(Xid xid) throws XAException {
@@ -65,27 +124,27 @@ class JdbcXaResource implements OwnedXaResource {
 
     @Override
     public void start(Xid xid, int flags) throws XAException {
-        inner.start(xid, flags);
+        does(() -> inner.start(xid, flags));
     }
 
     @Override
     public void end(Xid xid, int flags) throws XAException {
-        inner.end(xid, flags);
+        does(() -> inner.end(xid, flags));
     }
 
     @Override
     public void rollback(Xid xid) throws XAException {
-        inner.rollback(xid);
+        does(() -> inner.rollback(xid));
     }
 
     @Override
     public void forget(Xid xid) throws XAException {
-        inner.forget(xid);
+        does(() -> inner.forget(xid));
     }
 
     @Override
     public Xid[] recover(int flags) throws XAException {
-        return inner.recover(flags);
+        return bounded(() -> inner.recover(flags));
     }
 
     @Override

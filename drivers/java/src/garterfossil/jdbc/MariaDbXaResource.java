@@ -24,13 +24,15 @@ final class MariaDbXaResource extends JdbcXaResource implements PreparesAtEnd {
 
     @Override
     public int endAndPrepare(Xid xid) throws XAException {
-        String text = text(xid);
-        try (Statement statement = connection.createStatement()) {
-            statement.execute("BEGIN NOT ATOMIC XA END " + text + "; XA PREPARE " + text + "; END");
-            return XA_OK;
-        } catch (SQLException error) {
-            throw failed(rolledBack(xid, error), error);
-        }
+        return bounded(() -> {
+            String text = text(xid);
+            try (Statement statement = connection.createStatement()) {
+                statement.execute("BEGIN NOT ATOMIC XA END " + text + "; XA PREPARE " + text + "; END");
+                return XA_OK;
+            } catch (SQLException error) {
+                throw failed(rolledBack(xid, error), error);
+            }
+        });
     }
 
     /**

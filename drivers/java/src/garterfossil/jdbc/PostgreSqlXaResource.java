@@ -18,7 +18,7 @@ import javax.transaction.xa.Xid;
 final class PostgreSqlXaResource extends JdbcXaResource {
     private static final String NO_SUCH_BRANCH = "42704";
 
-    private interface Does {
+    private interface Work {
         void it() throws SQLException;
     }
 
@@ -62,24 +62,29 @@ final class PostgreSqlXaResource extends JdbcXaResource {
     @Override
     public int prepare(Xid xid) throws XAException {
         requireCurrent(xid);
-        seeWhole(xid);
-        endBy(() -> execute("PREPARE TRANSACTION '" + PreparedNames.of(xid) + "'"));
-        return XA_OK;
+        return bounded(() -> {
+            seeWhole(xid);
+            endBy(() -> execute("PREPARE TRANSACTION '" + PreparedNames.of(xid) + "'"));
+            return XA_OK;
+        });
     }
 
     @Override
     public void commit(Xid xid, boolean isOnePhase) throws XAException {
-        if (!isOnePhase) {
-            endPrepared("COMMIT", xid);
-            return;
-        }
-        requireCurrent(xid);
-        seeWhole(xid);
-        endBy(connection::commit);
+        bounded(() -> {
+            if (isOnePhase) {
+                requireCurrent(xid);
+                seeWhole(xid);
+                endBy(connection::commit);
+            } else {
+                endPrepared("COMMIT", xid);
+            }
+            return null;
+        });
     }
 
     /** Ends the branch of the connection. Where PostgreSQL says that it doesn't, it has rolled back. */
-    private void endBy(Does end) throws XAException {
+    private void endBy(Work end) throws XAException {
         try {
             end.it();
         } catch (SQLException error) {
@@ -108,11 +113,14 @@ final class PostgreSqlXaResource extends JdbcXaResource {
 
     @Override
     public void rollback(Xid xid) throws XAException {
-        if (xid.equals(current)) {
-            undo();
-        } else {
-            endPrepared("ROLLBACK", xid);
-        }
+        bounded(() -> {
+            if (xid.equals(current)) {
+                undo();
+            } else {
+                endPrepared("ROLLBACK", xid);
+            }
+            return null;
+        });
     }
 
     private void undo() throws XAException {
@@ -162,20 +170,24 @@ final class PostgreSqlXaResource extends JdbcXaResource {
             return new Xid[0];
         }
         List<Xid> found = new ArrayList<>();
-        make(() -> {
-            try (Statement statement = connection.createStatement();
-                ResultSet rows = statement.executeQuery("SELECT gid FROM pg_prepared_xacts WHERE database = current_database()")) {
-                while (rows.next()) {
-                    PreparedNames.parse(rows.getString(1)).ifPresent(found::add);
-                }
-            }
+        return bounded(() -> {
+            make(() -> list(found));
+            return found.toArray(new Xid[0]);
         });
-        return found.toArray(new Xid[0]);
     }
 
-    private void make(Does does) throws XAException {
+    private void list(List<Xid> found) throws SQLException {
+        try (Statement statement = connection.createStatement();
+            ResultSet rows = statement.executeQuery("SELECT gid FROM pg_prepared_xacts WHERE database = current_database()")) {
+            while (rows.next()) {
+                PreparedNames.parse(rows.getString(1)).ifPresent(found::add);
+            }
+        }
+    }
+
+    private void make(Work work) throws XAException {
         try {
-            does.it();
+            work.it();
         } catch (SQLException error) {
             throw failed(XAException.XAER_RMFAIL, error);
         }
