@@ -239,6 +239,26 @@ public class Tour {
         });
     }
 
+    /** What PostgreSQL's driver has beside JDBC goes past the connection of the pool. */
+    private void pastTheGate() {
+        story("COPY behind a time-out, by a connection that was unwrapped", UNDONE, token -> {
+            jta.suspend().rollback();
+            jta.setTransactionTimeout(1);
+            jta.begin();
+            jta.setTransactionTimeout(0);
+            writeBoth(token + "-");
+            try (Connection connection = databases[isPostgreSQL(0) ? 0 : 1].getConnection()) {
+                Class<?> face = Class.forName("org.postgresql.PGConnection");
+                Object copies = face.getMethod("getCopyAPI").invoke(connection.unwrap(face));
+                Thread.sleep(2500);
+                copies.getClass().getMethod("copyIn", String.class, java.io.Reader.class)
+                    .invoke(copies, "COPY alone FROM STDIN", new java.io.StringReader(token + "\n"));
+            } catch (java.lang.reflect.InvocationTargetException error) {
+                // It is refused.
+            }
+        });
+    }
+
     /** Another transaction waits for a row of this one, which then asks for one of that; and this one has done less, so it is rolled back. */
     private void runIntoADeadlock() throws Exception {
         javax.sql.XAConnection xa = plain[1].getXAConnection();
@@ -301,6 +321,17 @@ public class Tour {
             hooks[one].at(moment, it -> {
                 end(one, number);
                 Thread.sleep(100);
+            });
+        }
+    }
+
+    /** MariaDB keeps nothing of such a branch, and says of it that it rolled back. */
+    private void readsAlone() {
+        if (!isPostgreSQL(1)) {
+            story("database 1 was only read, and its connection is lost before commit", ENDED, List.of(0), token -> {
+                write(0, token);
+                run(1, "SELECT balance FROM account WHERE id = 1");
+                loseAt(1, "before commit");
             });
         }
     }
@@ -379,6 +410,8 @@ public class Tour {
         Tour tour = new Tour(Path.of(words[0]), words[1], Arrays.copyOfRange(words, 2, 4));
         tour.withoutFaults();
         tour.statementsFail();
+        tour.pastTheGate();
+        tour.readsAlone();
         tour.connectionsAreLost();
         tour.coordinatorEnds();
         tour.manager.close();

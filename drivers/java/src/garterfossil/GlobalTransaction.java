@@ -162,12 +162,17 @@ public final class GlobalTransaction {
         if (!outcome.isOpen()) {
             return;
         }
-        String why = "it took longer than its time-out of " + timeout.toSeconds() + " s";
+        if (!rollBackSince("it took longer than its time-out of " + timeout.toSeconds() + " s")) {
+            alarm = manager.later(this::timeOut, Duration.ofMillis(200));
+        }
+    }
+
+    /** Cuts short what runs, and rolls it back. False if that isn't over yet, and the next try may do it. */
+    boolean rollBackSince(String why) {
         mark(why, null);
         if (!lock.tryLock()) {
             branches.cancelWork();
-            alarm = manager.later(this::timeOut, Duration.ofMillis(200));
-            return;
+            return false;
         }
         try {
             if (outcome.isOpen()) {
@@ -182,6 +187,12 @@ public final class GlobalTransaction {
             // Mostly its own thread hears of it before that.
             manager.later(this::callAfter, TO_HEAR);
         }
+        return true;
+    }
+
+    /** Whether it does something that isn't only owed to a resource. */
+    boolean isUnderWay() {
+        return !isOwing;
     }
 
     /** Waits so many milliseconds for what it owes. */

@@ -31,7 +31,7 @@ public final class Manager implements AutoCloseable {
         private String program = "xatm";
         private String name = "";
         private int threads = 32, helpers = Math.max(2, Runtime.getRuntime().availableProcessors());
-        private Duration timeout = Duration.ofSeconds(60), patience = Duration.ofSeconds(20);
+        private Duration timeout = Duration.ofSeconds(60), patience = Duration.ofSeconds(20), grace = Duration.ofSeconds(10);
         private Coordinator.Starter starter = Coordinator::start;
 
         private Builder(Path log) {
@@ -92,6 +92,12 @@ public final class Manager implements AutoCloseable {
         /** How long a start waits for a log that another manager has, and how long a coordinator may be silent: 20 seconds where none is given. */
         public Builder patience(Duration duration) {
             patience = duration;
+            return this;
+        }
+
+        /** How long {@link Manager#close} waits for transactions that are under way: 10 seconds where none is given. */
+        public Builder grace(Duration duration) {
+            grace = duration;
             return this;
         }
 
@@ -400,7 +406,7 @@ public final class Manager implements AutoCloseable {
         return resourceManager(resource).borrow(patience);
     }
 
-    /** Ends the coordinator. Transactions that are open are rolled back by the next start. */
+    /** Ends it: no transaction begins any more. Waits for what is under way, and rolls back what is open after {@link Builder#grace}. */
     @Override
     public void close() {
         synchronized (starting) {
@@ -409,8 +415,11 @@ public final class Manager implements AutoCloseable {
             }
             isClosed = true;
         }
-        clock.shutdownNow();
         Session last = session;
+        if (last != null && !last.coordinator.isGone()) {
+            last.drain(made.grace);
+        }
+        clock.shutdownNow();
         if (last != null && !last.coordinator.isGone()) {
             last.quit();
         }

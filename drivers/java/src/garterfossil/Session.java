@@ -16,12 +16,16 @@ import java.util.concurrent.LinkedBlockingDeque;
 import java.util.concurrent.TimeUnit;
 import java.util.concurrent.atomic.AtomicInteger;
 import java.util.concurrent.atomic.AtomicLong;
+import java.util.concurrent.locks.LockSupport;
+import java.util.function.BooleanSupplier;
 
 /** A session with the coordinator, which begins with the recovery of each resource that can be reached. */
 final class Session {
     /** So many rows leave the log by one request, which is one write of the log. */
     private static final int DONE_AT_ONCE = 64;
 
+    /** As it ends: so long it waits for the rollback of what is open, and for what is owed to resources. */
+    private static final Duration TO_END = Duration.ofSeconds(5), TO_PAY = Duration.ofSeconds(2);
     /** So many branches that were rolled back are known. */
     private static final int UNDONE = 10_000;
 
@@ -371,6 +375,37 @@ final class Session {
     }
 
     // ** its end
+
+    /** Waits so long for what is under way, and rolls back what is open then. */
+    void drain(Duration grace) {
+        if (!areOver(grace)) {
+            live.forEach(transaction -> Apart.run(() -> {
+                // What is being committed goes on.
+                while (live.contains(transaction) && transaction.outcome().isOpen() && !transaction.rollBackSince("the manager is closed")) {
+                    LockSupport.parkNanos(50_000_000);
+                }
+            }));
+            areOver(TO_END);
+        }
+        fatal = fatal == null ? "the manager is closed" : fatal;
+        until(TO_PAY, () -> keepers.stream().allMatch(keeper -> keeper.debts() == 0));
+    }
+
+    private boolean areOver(Duration patience) {
+        return until(patience, () -> live.stream().noneMatch(GlobalTransaction::isUnderWay));
+    }
+
+    /** Waits for something, unless the coordinator ends. Whether it is so. */
+    private boolean until(Duration patience, BooleanSupplier condition) {
+        long until = System.nanoTime() + patience.toNanos();
+        while (!condition.getAsBoolean()) {
+            if (System.nanoTime() > until || coordinator.isGone() || Thread.currentThread().isInterrupted()) {
+                return false;
+            }
+            LockSupport.parkNanos(5_000_000);
+        }
+        return true;
+    }
 
     /** Ends it, once its transactions are over. */
     void quit() {

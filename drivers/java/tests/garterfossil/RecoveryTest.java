@@ -351,13 +351,13 @@ public class RecoveryTest {
         world.a.before = () -> {
             if (Thread.currentThread().getName().equals("garterfossil clock")) {
                 waiting.countDown();
-                await(mayGoOn);
+                World.await(mayGoOn);
             }
         };
         for (int count = 0; count < 4; count++) {
             world.manager.begin(Duration.ofMillis(100)).enlist(world.a);
         }
-        await(waiting);
+        World.await(waiting);
         // The time-outs of others come all the same.
         GlobalTransaction other = world.manager.begin(Duration.ofMillis(100));
         other.enlist(world.b);
@@ -376,7 +376,7 @@ public class RecoveryTest {
         GlobalTransaction transaction = world.manager.begin(Duration.ofMillis(300));
         transaction.enlist(world.a);
         transaction.enlist(world.b);
-        world.a.before = () -> await(mayGoOn);
+        world.a.before = () -> World.await(mayGoOn);
         World.eventually(() -> world.b.branches.isEmpty());
         assertEquals(1, world.a.branches.size());
         mayGoOn.countDown();
@@ -388,7 +388,7 @@ public class RecoveryTest {
         world.manager.close();
         CountDownLatch mayGoOn = new CountDownLatch(1);
         world.a.patience = Duration.ofMillis(500);
-        world.a.beforeConnect = () -> await(mayGoOn);
+        world.a.beforeConnect = () -> World.await(mayGoOn);
         world.manager = world.builder().start();
         GlobalTransaction transaction = world.begin();
         transaction.enlist(world.b);
@@ -402,14 +402,6 @@ public class RecoveryTest {
         nothingIsLeft();
         world.overBoth().commit();
         world.manager.close();
-    }
-
-    private static void await(CountDownLatch latch) {
-        try {
-            assertTrue(latch.await(20, TimeUnit.SECONDS));
-        } catch (InterruptedException error) {
-            throw new AssertionError(error);
-        }
     }
 
     @Test

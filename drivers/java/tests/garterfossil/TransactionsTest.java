@@ -5,9 +5,11 @@ import static org.junit.Assert.assertFalse;
 import static org.junit.Assert.assertThrows;
 import static org.junit.Assert.assertTrue;
 
+import java.time.Duration;
 import java.util.ArrayList;
 import java.util.HashSet;
 import java.util.List;
+import java.util.concurrent.CountDownLatch;
 import java.util.concurrent.CyclicBarrier;
 import java.util.concurrent.ExecutorService;
 import java.util.concurrent.Executors;
@@ -365,6 +367,54 @@ public class TransactionsTest {
         thread.setDaemon(true);
         thread.start();
         return asking.get(5, TimeUnit.SECONDS);
+    }
+
+    @Test
+    public void anEndWaitsForWhatIsUnderWay() throws Exception {
+        world.manager.close();
+        world.manager = world.builder().grace(Duration.ofSeconds(10)).start();
+        GlobalTransaction committing = world.overBoth(), working = world.overBoth();
+        CountDownLatch inPrepare = new CountDownLatch(1), mayGoOn = new CountDownLatch(1);
+        world.a.before = () -> {
+            if (Thread.currentThread().getName().equals("commits") && world.a.calls.contains("end")) {
+                inPrepare.countDown();
+                World.await(mayGoOn);
+            }
+        };
+        FutureTask<Void> commit = new FutureTask<>(() -> {
+            committing.commit();
+            return null;
+        });
+        new Thread(commit, "commits").start();
+        World.await(inPrepare);
+        Thread closing = new Thread(world.manager::close);
+        closing.start();
+        World.eventually(() -> isRefused());
+        working.commit();
+        mayGoOn.countDown();
+        commit.get(5, TimeUnit.SECONDS);
+        closing.join();
+        assertTrue(world.a.branches.isEmpty() && world.b.branches.isEmpty());
+        assertEquals(2, world.b.committed.size());
+    }
+
+    private boolean isRefused() {
+        try {
+            world.begin().rollback();
+            return false;
+        } catch (Fault error) {
+            return true;
+        }
+    }
+
+    @Test
+    public void anEndRollsBackWhatIsOpen() throws Exception {
+        GlobalTransaction open = world.overBoth();
+        world.manager.close();
+        assertTrue(world.a.branches.isEmpty() && world.b.branches.isEmpty());
+        assertEquals(1, world.a.rolledBack.size());
+        Fault.RolledBack error = assertThrows(Fault.RolledBack.class, open::commit);
+        assertTrue(error.getMessage(), error.getMessage().contains("the manager is closed"));
     }
 
     @Test

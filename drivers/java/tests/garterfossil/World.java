@@ -7,6 +7,7 @@ import java.nio.file.StandardCopyOption;
 import java.time.Duration;
 import java.util.ArrayList;
 import java.util.List;
+import java.util.concurrent.CountDownLatch;
 import java.util.concurrent.TimeUnit;
 import java.util.concurrent.atomic.AtomicBoolean;
 import java.util.function.BooleanSupplier;
@@ -33,7 +34,7 @@ final class World extends ExternalResource {
 
     Manager.Builder builder() {
         return Manager.over(folder.resolve("log")).starter(words -> coordinator = StandInCoordinator.of(folder, words)).threads(4)
-            .patience(Duration.ofSeconds(8)).resource(a).resource(b);
+            .patience(Duration.ofSeconds(8)).grace(Duration.ofMillis(200)).resource(a).resource(b);
     }
 
     @Override
@@ -105,6 +106,16 @@ final class World extends ExternalResource {
                 throw new OutOfMemoryError("a test's");
             }
         };
+    }
+
+    static void await(CountDownLatch latch) {
+        try {
+            if (!latch.await(20, TimeUnit.SECONDS)) {
+                throw new AssertionError("it doesn't come");
+            }
+        } catch (InterruptedException error) {
+            throw new AssertionError(error);
+        }
     }
 
     static void eventually(BooleanSupplier condition) throws InterruptedException {
