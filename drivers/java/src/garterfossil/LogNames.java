@@ -46,7 +46,7 @@ final class LogNames {
         }
     }
 
-    private static boolean isThere(Path log) throws Fault.Unavailable {
+    static boolean isThere(Path log) throws Fault.Unavailable {
         try {
             return Files.exists(log) && Files.size(log) > 0;
         } catch (IOException error) {

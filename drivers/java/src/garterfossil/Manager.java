@@ -130,8 +130,9 @@ public final class Manager implements AutoCloseable {
     private final ScheduledThreadPoolExecutor seconds = new ScheduledThreadPoolExecutor(2, work -> daemon(work, "garterfossil seconds"));
     private final ThreadLocal<GlobalTransaction> current = new ThreadLocal<>();
     private final Object starting = new Object();
-    // As the log keeps them.
+    // As the log keeps them, and as the file beside it does.
     private LogNames names;
+    private Identities identities;
     private volatile Session session;
     private volatile boolean isClosed;
 
@@ -155,10 +156,15 @@ public final class Manager implements AutoCloseable {
     private void begin() throws Fault {
         try {
             synchronized (starting) {
+                boolean isNew = !LogNames.isThere(made.log);
                 names = untilFree(() -> LogNames.of(made.log, made.starter, made.program, made.name, made.resources));
+                identities = new Identities(made.log, names.manager, isNew);
+                identities.seeOpen();
                 for (Resource resource : made.resources) {
+                    int number = names.numberOf(resource.name(), made.log);
                     resource.belongTo(names.manager);
-                    rms.add(new ResourceManager(names.numberOf(resource.name(), made.log), resource));
+                    resource.knownBy(identities.of(number, resource.name()));
+                    rms.add(new ResourceManager(number, resource));
                 }
                 seconds.scheduleWithFixedDelay(this::watch, 1, 1, TimeUnit.SECONDS);
                 start(coordinator());
@@ -195,8 +201,9 @@ public final class Manager implements AutoCloseable {
     }
 
     private void start(Coordinator coordinator) throws Fault {
-        Session next = new Session(coordinator, names.manager, List.copyOf(rms), made.threads);
+        Session next = new Session(coordinator, names.manager, List.copyOf(rms), made.threads, identities);
         try {
+            identities.begin(next.incarnation);
             decisions.find(next.incarnation, next.owed());
             session = next;
             next.recover(made.patience);

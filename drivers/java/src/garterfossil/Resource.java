@@ -11,6 +11,10 @@ public interface Resource {
     /** The manager has this name, or none (""): {@link #endOthers} ends no connections of a manager of another name. */
     void belongTo(String manager);
 
+    /** What the log knows of it: each connection that is made is to be told to this, before anything else is done on it. */
+    default void knownBy(Known known) {
+    }
+
     /** A new connection. */
     Link connect() throws Fault.Lost;
 

@@ -120,6 +120,7 @@ final class Session {
     private final List<Keeper> keepers = new ArrayList<>();
     private final BlockingDeque<Slot> free = new LinkedBlockingDeque<>();
     private final int threads;
+    private final Identities identities;
     private final Set<GlobalTransaction> live = ConcurrentHashMap.newKeySet();
     // Branches that were prepared and that this session rolled back: a resource may forget that in a crash of its own, if it was a moment ago.
     private final Recent<BranchXid> undone = new Recent<>(UNDONE);
@@ -129,11 +130,12 @@ final class Session {
     private Coordinator.Reply oldest;
     private long oldestSince;
 
-    Session(Coordinator coordinator, String name, List<ResourceManager> rms, int threads) {
+    Session(Coordinator coordinator, String name, List<ResourceManager> rms, int threads, Identities identities) {
         this.coordinator = coordinator;
         this.name = name;
         this.rms = rms;
         this.threads = threads;
+        this.identities = identities;
         commits = new Commits(coordinator);
         String[] words = coordinator.greeting.split(" ");
         incarnation = Long.parseLong(words[1]);
@@ -189,6 +191,8 @@ final class Session {
         long until = System.nanoTime() + patience.toNanos();
         for (Keeper keeper : keepers) {
             keeper.awaitFirst(until);
+            String wrong = identities.wrong(keeper.rm.number);
+            fatal = fatal == null ? wrong : fatal;
         }
         seeWhole();
     }
@@ -310,6 +314,7 @@ final class Session {
             if (xid.incarnation() > incarnation || xid.incarnation() == incarnation && xid.sequence() > begun.get()) {
                 fatal = "the log isn't that of " + rm + ", which lists " + xid + " of a later session than any that the log knows. Was its file"
                     + " lost, or another one put in its place? Start with the right one: this one would roll back what is decided";
+                identities.shut(fatal);
                 throw new Fault.Unavailable(fatal);
             }
         }
@@ -322,6 +327,7 @@ final class Session {
         } else {
             fatal = rm + ": " + error.getMessage() + ". Somebody else ends its branches, or it isn't the resource that it is taken for";
             Manager.LOG.log(Level.ERROR, fatal);
+            identities.shut(fatal);
         }
         coordinator.kill("a page of " + rm + " isn't explained");
         throw new Fault.Gone("a page of " + rm + " isn't explained");

@@ -9,6 +9,7 @@ import static org.junit.Assert.assertTrue;
 import java.io.IOException;
 import java.io.UncheckedIOException;
 import java.nio.file.Files;
+import java.nio.file.Path;
 import java.time.Duration;
 import java.util.HashSet;
 import java.util.List;
@@ -63,7 +64,7 @@ public class RecoveryTest {
                 }
             }
             world.put("rows", "");
-            world.put("incarnation", "2");
+            world.put("incarnation", "3");
         } catch (IOException error) {
             throw new UncheckedIOException(error);
         }
@@ -72,7 +73,6 @@ public class RecoveryTest {
     @Test
     public void aStandbyEndsWhatWasDecidedBeforeTheNextSession() throws Exception {
         world.manager.close();
-        world.put("incarnation", "0");
         AtomicInteger starts = new AtomicInteger();
         try (Manager manager = world.builder().starter(words -> {
             if (!words.get(1).equals("log") && starts.incrementAndGet() == 2) {
@@ -206,11 +206,65 @@ public class RecoveryTest {
 
     @Test
     public void anOlderLogBesideBranchesOfALaterSession() throws Exception {
-        world.a.branches.put(world.own(9, 1), StandInResource.State.PREPARED);
+        world.a.branches.put(world.own(4, 1), StandInResource.State.PREPARED);
         world.manager.close();
-        Fault.Unavailable error = assertThrows(Fault.Unavailable.class, () -> world.builder().start());
-        assertTrue(error.getMessage(), error.getMessage().contains("isn't that of a"));
+        // Each start raises the log's incarnation, so that it would pass for a newer one after some.
+        for (int count = 0; count < 5; count++) {
+            Fault.Unavailable error = assertThrows(Fault.Unavailable.class, () -> world.builder().start());
+            assertTrue(error.getMessage(), error.getMessage().contains("isn't that of a"));
+        }
         assertEquals(1, world.a.branches.size());
+    }
+
+    @Test
+    public void anOlderLogOfNoBranches() throws Exception {
+        world.manager.close();
+        world.builder().start().close();
+        world.put("incarnation", "0");
+        world.a.branches.put(world.own(1, 1), StandInResource.State.PREPARED);
+        for (int count = 0; count < 3; count++) {
+            Fault.Unavailable error = assertThrows(Fault.Unavailable.class, () -> world.builder().start());
+            assertTrue(error.getMessage(), error.getMessage().contains("is older than it was"));
+        }
+        assertEquals(1, world.a.branches.size());
+        // The right one is back, and somebody has looked.
+        world.put("incarnation", "2");
+        Path file = world.folder.resolve("log-databases");
+        String text = Files.readString(file);
+        Files.writeString(file, text.replaceFirst(",\n \"shut\".*", ""));
+        world.manager = world.builder().start();
+        nothingIsLeft();
+        world.manager.close();
+    }
+
+    @Test
+    public void otherDatabasesInTheirPlaces() throws Exception {
+        world.manager.close();
+        Files.delete(world.folder.resolve("log"));
+        world.a.identity = "the first";
+        world.b.identity = "the second";
+        world.manager = world.builder().start();
+        world.a.branches.put(world.own(2, 1), StandInResource.State.PREPARED);
+        world.manager.close();
+        // The driver in Python has the same file.
+        Map<?, ?> file = (Map<?, ?>) Json.read(Files.readString(world.folder.resolve("log-databases")));
+        assertEquals(1L, file.get("version"));
+        assertEquals(world.manager.name(), file.get("manager"));
+        assertEquals(List.of(Map.of("number", 0L, "at", "the place of a", "identity", "the first"),
+            Map.of("number", 1L, "at", "the place of b", "identity", "the second")), file.get("databases"));
+        world.a.identity = "the second";
+        world.b.identity = "the first";
+        world.a.calls.clear();
+        world.b.calls.clear();
+        Fault.Unavailable error = assertThrows(Fault.Unavailable.class, () -> world.builder().start());
+        assertTrue(error.getMessage(), error.getMessage().contains("at the place of a is the second, and it was the first"));
+        assertTrue(error.getMessage(), error.getMessage().contains("changed places"));
+        assertTrue(world.a.calls.isEmpty() && world.b.calls.isEmpty());
+        world.a.identity = "the first";
+        world.b.identity = "the second";
+        world.manager = world.builder().start();
+        nothingIsLeft();
+        world.manager.close();
     }
 
     @Test

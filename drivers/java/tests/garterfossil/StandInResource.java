@@ -32,6 +32,9 @@ final class StandInResource implements Resource {
     /** Before each call; before a connection is made; and before one is made as new. */
     volatile Runnable before = () -> { }, beforeConnect = () -> { }, beforeReset = () -> { };
     volatile Duration patience = Duration.ofSeconds(10);
+    /** What it calls itself; null if it has nothing of the kind. */
+    volatile String identity;
+    private volatile Known known;
     private final String name;
     private final Map<String, IntSupplier> answers = new HashMap<>();
     private final int max;
@@ -71,6 +74,11 @@ final class StandInResource implements Resource {
     }
 
     @Override
+    public void knownBy(Known it) {
+        known = it;
+    }
+
+    @Override
     public int maxConnections() {
         return max;
     }
@@ -80,6 +88,9 @@ final class StandInResource implements Resource {
         if (isDown) {
             throw new Fault.Lost("down", null);
         }
+        if (known != null) {
+            known.see(identity, "the place of " + name);
+        }
         calls.add("endOthers");
     }
 
@@ -88,6 +99,9 @@ final class StandInResource implements Resource {
         beforeConnect.run();
         if (isDown) {
             throw new Fault.Lost("no connection to " + name, null);
+        }
+        if (known != null) {
+            known.see(identity, "the place of " + name);
         }
         return isPreparedAtEnd ? new LinkThatPreparesAtEnd(++numbers) : new StandInLink(++numbers);
     }

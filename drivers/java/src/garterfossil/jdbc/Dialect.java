@@ -38,6 +38,16 @@ enum Dialect {
                 + "' AND datname = current_database() AND usename = current_user");
         }
 
+        @Override
+        String identity(Connection connection, String kept) {
+            return Traits.ofPostgreSql(connection);
+        }
+
+        @Override
+        List<String> weaknesses(Connection connection) {
+            return Traits.weaknessesOfPostgreSql(connection);
+        }
+
         /** PostgreSQL keeps 63 bytes of it. */
         private String application(String label) {
             return label.length() < 64 ? label : String.format("%s~%08x", label.substring(0, 54), label.hashCode());
@@ -102,6 +112,16 @@ enum Dialect {
                 takeAny(connection, label);
             }
             return number;
+        }
+
+        @Override
+        String identity(Connection connection, String kept) {
+            return Traits.ofMariaDb(connection, kept);
+        }
+
+        @Override
+        List<String> weaknesses(Connection connection) {
+            return Traits.weaknessesOfMariaDb(connection);
         }
 
         private void takeAny(Connection connection, String label) throws SQLException {
@@ -178,6 +198,16 @@ enum Dialect {
     static Dialect of(Connection connection) throws SQLException {
         String product = connection.getMetaData().getDatabaseProductName().toLowerCase(java.util.Locale.ROOT);
         return product.contains("postgresql") ? POSTGRESQL : product.contains("mariadb") || product.contains("mysql") ? MARIADB : OTHER;
+    }
+
+    /** What the database calls itself, which no other one does: the same as what was kept of it, if it is the same; null if there is nothing. */
+    String identity(Connection connection, String kept) {
+        return null;
+    }
+
+    /** How the database is set so that it may not keep what it voted for, as somebody is to read it. */
+    List<String> weaknesses(Connection connection) {
+        return List.of();
     }
 
     /** The number by which the database knows the connection, which has this label from now on. */

@@ -1,5 +1,6 @@
 package garterfossil.jdbc;
 
+import garterfossil.Fault;
 import garterfossil.Link;
 import java.sql.Connection;
 import java.sql.SQLException;
@@ -30,14 +31,15 @@ final class JdbcLink implements Link {
     private boolean isSuspect;
     private volatile boolean isLetOut;
 
-    JdbcLink(XAConnection xa, JdbcResource owner) throws SQLException {
+    JdbcLink(XAConnection xa, JdbcResource owner) throws SQLException, Fault.Lost {
         this.xa = xa;
         try {
             connection = xa.getConnection();
+            owner.see(connection);
             Dialect dialect = owner.dialect(connection);
             resource = dialect.xaResource(owner, xa.getXAResource(), connection);
             number = dialect.number(connection, owner.label());
-        } catch (SQLException | RuntimeException error) {
+        } catch (SQLException | Fault.Lost | RuntimeException error) {
             close();
             throw error;
         }

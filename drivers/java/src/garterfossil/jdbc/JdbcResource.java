@@ -1,6 +1,7 @@
 package garterfossil.jdbc;
 
 import garterfossil.Fault;
+import garterfossil.Known;
 import garterfossil.Link;
 import garterfossil.Manager;
 import garterfossil.Resource;
@@ -24,6 +25,8 @@ public final class JdbcResource implements Resource {
     private int maxConnections = 32;
     private volatile String manager = "";
     private volatile Dialect dialect;
+    private volatile Known known;
+    private volatile boolean isLookedAt;
 
     private JdbcResource(String name, XADataSource source) {
         this.name = name;
@@ -70,6 +73,28 @@ public final class JdbcResource implements Resource {
     @Override
     public Link connect() throws Fault.Lost {
         return connection();
+    }
+
+    @Override
+    public void knownBy(Known it) {
+        known = it;
+    }
+
+    /** Sees that a new connection is one to the database that it always was; and once, that this keeps what it promises. */
+    void see(Connection connection) throws SQLException, Fault.Lost {
+        Dialect kind = Dialect.of(connection);
+        Known it = known;
+        if (it != null) {
+            // (The rest of a URL may have a password.)
+            String url = String.valueOf(connection.getMetaData().getURL()).replaceFirst("\\?.*", "");
+            it.see(kind.identity(connection, it.identity()), url);
+        }
+        if (!isLookedAt) {
+            isLookedAt = true;
+            for (String weakness : kind.weaknesses(connection)) {
+                System.getLogger("garterfossil").log(System.Logger.Level.WARNING, name + ": " + weakness);
+            }
+        }
     }
 
     private JdbcLink connection() throws Fault.Lost {

@@ -1,5 +1,6 @@
 package garterfossil.jdbc;
 
+import garterfossil.Fault;
 import java.lang.reflect.InvocationTargetException;
 import java.lang.reflect.Method;
 import java.lang.reflect.Proxy;
@@ -36,6 +37,12 @@ final class OwnedXaDataSource {
 
     private XAConnection owned(XAConnection xa) throws SQLException {
         Connection first = xa.getConnection();
+        try {
+            owner.see(first);
+        } catch (Fault.Lost error) {
+            xa.close();
+            throw new SQLException(error.getMessage(), "08001", error);
+        }
         Dialect dialect = owner.dialect(first);
         long number = dialect.number(first, owner.label());
         XAResource resource = dialect.xaResource(owner, xa.getXAResource(), first);

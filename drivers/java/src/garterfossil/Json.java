@@ -1,0 +1,166 @@
+package garterfossil;
+
+import java.util.ArrayList;
+import java.util.LinkedHashMap;
+import java.util.List;
+import java.util.Map;
+
+/** JSON, as far as the file beside a log needs it: maps, lists, texts, whole numbers, true, false and null. */
+final class Json {
+    private final String text;
+    private int at;
+
+    private Json(String text) {
+        this.text = text;
+    }
+
+    /** What a text says. Throws IllegalArgumentException if it is none of JSON. */
+    static Object read(String text) {
+        Json json = new Json(text);
+        Object found = json.value();
+        if (json.next() != 0) {
+            throw json.wrong();
+        }
+        return found;
+    }
+
+    private IllegalArgumentException wrong() {
+        return new IllegalArgumentException("no JSON at character " + at);
+    }
+
+    /** The next character that isn't white space; 0 at the end. */
+    private char next() {
+        while (at < text.length() && Character.isWhitespace(text.charAt(at))) {
+            at++;
+        }
+        return at < text.length() ? text.charAt(at) : 0;
+    }
+
+    private boolean takes(char wanted) {
+        boolean isSo = next() == wanted;
+        at += isSo ? 1 : 0;
+        return isSo;
+    }
+
+    private void take(char wanted) {
+        if (!takes(wanted)) {
+            throw wrong();
+        }
+    }
+
+    private Object value() {
+        switch (next()) {
+            case '{': return map();
+            case '[': return list();
+            case '"': return string();
+            default: return word();
+        }
+    }
+
+    private Map<String, Object> map() {
+        Map<String, Object> found = new LinkedHashMap<>();
+        take('{');
+        while (!takes('}')) {
+            if (!found.isEmpty()) {
+                take(',');
+            }
+            next();
+            String key = string();
+            take(':');
+            found.put(key, value());
+        }
+        return found;
+    }
+
+    private List<Object> list() {
+        List<Object> found = new ArrayList<>();
+        take('[');
+        while (!takes(']')) {
+            if (!found.isEmpty()) {
+                take(',');
+            }
+            found.add(value());
+        }
+        return found;
+    }
+
+    private String string() {
+        take('"');
+        StringBuilder found = new StringBuilder();
+        while (at < text.length() && text.charAt(at) != '"') {
+            char letter = text.charAt(at++);
+            found.append(letter == '\\' ? escaped() : letter);
+        }
+        take('"');
+        return found.toString();
+    }
+
+    private char escaped() {
+        if (at >= text.length()) {
+            throw wrong();
+        }
+        char letter = text.charAt(at++);
+        switch (letter) {
+            case 'n': return '\n';
+            case 't': return '\t';
+            case 'r': return '\r';
+            case 'b': return '\b';
+            case 'f': return '\f';
+            case 'u':
+                if (at + 4 > text.length()) {
+                    throw wrong();
+                }
+                at += 4;
+                return (char) Integer.parseInt(text.substring(at - 4, at), 16);
+            default: return letter;
+        }
+    }
+
+    private Object word() {
+        int from = at;
+        while (at < text.length() && (Character.isLetterOrDigit(text.charAt(at)) || text.charAt(at) == '-')) {
+            at++;
+        }
+        String word = text.substring(from, at);
+        switch (word) {
+            case "null": return null;
+            case "true": return true;
+            case "false": return false;
+            default:
+        }
+        try {
+            return Long.parseLong(word);
+        } catch (NumberFormatException error) {
+            throw wrong();
+        }
+    }
+
+    /** The text of maps, lists, texts, numbers and the rest. */
+    static String write(Object value) {
+        if (value instanceof Map) {
+            List<String> parts = new ArrayList<>();
+            ((Map<?, ?>) value).forEach((key, it) -> parts.add(quoted(key.toString()) + ": " + write(it)));
+            return "{" + String.join(", ", parts) + "}";
+        }
+        if (value instanceof List) {
+            List<String> parts = new ArrayList<>();
+            ((List<?>) value).forEach(it -> parts.add(write(it)));
+            return "[" + String.join(", ", parts) + "]";
+        }
+        return value instanceof String ? quoted((String) value) : String.valueOf(value);
+    }
+
+    private static String quoted(String text) {
+        StringBuilder found = new StringBuilder("\"");
+        for (char letter : text.toCharArray()) {
+            if (letter == '"' || letter == '\\') {
+                found.append('\\').append(letter);
+            } else if (letter < ' ' || letter > '~') {
+                found.append(String.format("\\u%04x", (int) letter));
+            } else {
+                found.append(letter);
+            }
+        }
+        return found.append('"').toString();
+    }
+}
