@@ -11,6 +11,10 @@ from .mirror import Mirror
 from .xid import Xid
 
 
+#: For so many seconds a thread waits for the decision of another one, besides what that may wait for.
+LONGEST = 60.0
+
+
 class Behind(Protocol):
     """What a thread asks for behind its decision, by the same write. It is refused where the decision is."""
 
@@ -43,9 +47,11 @@ class Commits:
     """Decides to commit. The coordinator writes the rows of one request by one write of its log, which takes a while: what other
     threads ask for meanwhile is then decided together, by the first of them. No thread is woken before its turn."""
 
-    def __init__(self, coordinator: Coordinator, mirror: Optional[Mirror] = None):
+    def __init__(self, coordinator: Coordinator, mirror: Optional[Mirror] = None, patience: float = 30.0):
         self._coordinator = coordinator
         self._mirror = mirror
+        # Who decides waits for the coordinator and for the mirror, and twice if a group is refused.
+        self._longest = LONGEST + 6 * patience
         self._change = threading.Lock()
         self._asked: List[_Commit] = []
         self._is_deciding = False
@@ -70,7 +76,9 @@ class Commits:
     def _sleep(self, mine: _Commit) -> None:
         """Waits until it is decided, or its thread is to decide. One that is interrupted leaves that to others."""
         try:
-            mine.sleep.acquire()
+            if not mine.sleep.acquire(timeout=self._longest):
+                self._coordinator.kill()
+                raise CoordinatorGone("a decision took too long, and the session was ended")
         except BaseException:
             with self._change:
                 if mine in self._asked:

@@ -4,6 +4,8 @@ from __future__ import annotations
 
 import collections
 import logging
+import os
+import select
 import subprocess
 import threading
 import time
@@ -25,6 +27,8 @@ LOG_STATUSES = (2, 0)
 REFUSED_LOG = "xatm: log: "
 #: What the file doesn't tell.
 OTHER_FAULTS = "it is of another version, or damaged, or the disk is full"
+#: In seconds: the least for which a reply is waited for, the least for the greeting, and the longest for the end of the process.
+SHORTEST, LONGEST_GREETING, LONGEST_END = 2.0, 30.0, 10.0
 #: The version of the protocol that this driver speaks.
 PROTOCOL = "1"
 #: Stands between the requests of a line, and in its reply for each that was done before the one that it replies to.
@@ -72,7 +76,9 @@ class Coordinator:
     coordinator replies in the order of the lines, so several may be under way at once: whichever thread waits reads what has come: its
     lines are the replies to those that were posted first."""
 
-    def __init__(self, command: Sequence[str]):
+    def __init__(self, command: Sequence[str], patience: float = 30.0):
+        # No reply is waited for longer: the greeting may take longer than others, as with a log that holds much.
+        self._patience = max(patience, SHORTEST)
         try:
             self._process = subprocess.Popen(
                 command, bufsize=0, stdin=subprocess.PIPE, stdout=subprocess.PIPE, stderr=subprocess.PIPE, start_new_session=True
@@ -82,6 +88,11 @@ class Coordinator:
         stdin, stdout, stderr = self._process.stdin, self._process.stdout, self._process.stderr
         assert stdin is not None and stdout is not None and stderr is not None
         self._requests, self._replies, self._errors = stdin, stdout, stderr
+        # While it is stopped it reads nothing, and a pipe that is full would hold up whoever writes.
+        os.set_blocking(stdin.fileno(), False)
+        self._writable, self._readable = select.poll(), select.poll()
+        self._writable.register(stdin, select.POLLOUT)
+        self._readable.register(stdout, select.POLLIN)
         self._posting = threading.Lock()
         self._writing = threading.Lock()
         self._reading = threading.Lock()
@@ -117,7 +128,7 @@ class Coordinator:
         begun = time.monotonic()
         while True:
             try:
-                return cls(command)
+                return cls(command, patience)
             except CoordinatorGone as gone:
                 if gone.status not in LOG_STATUSES:
                     raise
@@ -268,7 +279,11 @@ class Coordinator:
         some = memoryview("".join(f"{request}\n" for request in requests).encode("ascii"))
         try:
             while some:
-                some = some[self._requests.write(some) :]
+                written = self._requests.write(some)
+                if written is None:
+                    self._see_in_time(self._writable, self._patience)
+                else:
+                    some = some[written:]
             self._written = posted
         except (OSError, ValueError) as error:
             raise self._gone(str(error)) from None
@@ -300,7 +315,9 @@ class Coordinator:
             self._asleep.append(mine)
             self._reading.release()
             try:
-                mine[1].acquire()
+                # Who reads ends with a reply, or with the session.
+                if not mine[1].acquire(timeout=2 * self._patience + LONGEST_END):
+                    self._silent()
             finally:
                 self._reading.acquire()
         finally:
@@ -337,7 +354,7 @@ class Coordinator:
     def _greet(self) -> str:
         """The greeting. Nothing comes after it, since nothing was asked for."""
         while True:
-            for line in self._read_lines():
+            for line in self._read_lines(max(self._patience, LONGEST_GREETING)):
                 if not line.startswith("protocol "):
                     return line
                 # A coordinator with names says before it which protocol this is.
@@ -354,9 +371,10 @@ class Coordinator:
             self.kill()
             raise SetupError(f"the coordinator {program} is older than this driver: program= is to be the xatm that it came with") from None
 
-    def _read_lines(self) -> List[str]:
+    def _read_lines(self, patience: Optional[float] = None) -> List[str]:
         """The lines of which the ends have come, at once; waits for something to come."""
         try:
+            self._see_in_time(self._readable, self._patience if patience is None else patience)
             some = self._replies.read(65536)
         except (OSError, ValueError) as error:
             raise self._gone(str(error)) from None
@@ -367,6 +385,16 @@ class Coordinator:
             raise self._gone("its output ended")
         whole, end, self._begun = (self._begun + some).rpartition(b"\n")
         return whole.decode("ascii").split("\n") if end else []
+
+    def _see_in_time(self, poll: select.poll, patience: float) -> None:
+        """Waits until the pipe can be read or written, or is ended. Raises CoordinatorGone if it can't be for so many seconds."""
+        if not poll.poll(1000 * patience):
+            raise self._silent()
+
+    def _silent(self) -> CoordinatorGone:
+        """It is stopped, or its disk hangs: it is ended, and the next session finds out what it had decided."""
+        self._process.kill()
+        return self._gone("it says nothing any more, as if it were stopped or its disk hung: it was killed")
 
     # ** its end
 
@@ -386,15 +414,20 @@ class Coordinator:
             self._requests.close()
         except OSError:
             pass
-        try:
-            self._process.wait(timeout=10)
-        except subprocess.TimeoutExpired:
-            self._process.kill()
-            self._process.wait()
-        said = self._errors.read().decode("utf-8", "replace").strip()
+        said = self._errors.read().decode("utf-8", "replace").strip() if self._sees_its_end() else "its process can't be ended"
         self._fault = f"{reason}; {said}" if said else reason
         self._errors.close()
         # Whoever still reads finds its end first.
         self._replies.close()
         with self._reading:
             self._wake(list(self._asleep))
+
+    def _sees_its_end(self) -> bool:
+        """Waits for the end of the process, and brings it about. It isn't to be had while its disk hangs."""
+        for _ in range(2):
+            try:
+                self._process.wait(timeout=LONGEST_END)
+                return True
+            except subprocess.TimeoutExpired:
+                self._process.kill()
+        return False

@@ -72,7 +72,7 @@ class Session:
         self.mirror: Optional[Mirror] = None
         self._look(settings, is_first)
         self.coordinator = Coordinator.start(settings.command, settings.patience, settings.log)
-        self.commits = Commits(self.coordinator, self.mirror)
+        self.commits = Commits(self.coordinator, self.mirror, self.patience)
         self._lines = [[Line(self.coordinator, thread, rm, self.patience) for rm in self._rms] for thread in range(settings.threads)]
         # By thread, what begins its next transaction, where that was asked for ahead.
         self._begun: List[Optional[Reply]] = [None] * settings.threads

@@ -5,6 +5,7 @@ import signal
 import sys
 import tempfile
 import threading
+import time
 import unittest
 
 from garterfossil.coordinator import Coordinator
@@ -56,6 +57,33 @@ class Coordinators(unittest.TestCase):
             coordinator.ask("error the branch is in no such state")
         self.assertEqual(coordinator.ask("still there"), "echo still there")
         coordinator.quit()
+
+    def test_one_that_is_stopped_is_waited_for_no_longer_than_the_patience(self):
+        # A reply that never comes, to who reads and to who waits for that one; and a pipe that is full.
+        for lines in (1, 3, 4000):
+            with self.subTest(lines=lines):
+                coordinator = Coordinator([sys.executable, "-c", ECHO], 0.1)
+                os.kill(coordinator.pid, signal.SIGSTOP)
+                begun, raised = time.monotonic(), []
+
+                def ask(number):
+                    try:
+                        coordinator.ask(f"{number} " + 100 * "x")
+                    except CoordinatorGone as error:
+                        raised.append(str(error))
+
+                if lines > 10:
+                    for number in range(lines):
+                        coordinator.post(f"{number} " + 100 * "x")
+                threads = [threading.Thread(target=ask, args=[number]) for number in range(3)]
+                for thread in threads:
+                    thread.start()
+                for thread in threads:
+                    thread.join(20)
+                self.assertEqual(len(raised), 3)
+                self.assertIn("it says nothing any more", raised[0])
+                self.assertLess(time.monotonic() - begun, 10)
+                self.assertTrue(coordinator.is_gone)
 
     def test_a_failed_log_ends_the_session(self):
         coordinator = process(ECHO)

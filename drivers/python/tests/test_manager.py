@@ -2,6 +2,7 @@
 
 import logging
 import os
+import signal
 import subprocess
 import sys
 import threading
@@ -320,6 +321,30 @@ class Runs(Case):
         for rm in ("0", "1"):
             for call, made in (("xa_prepare", "prepare"), ("xa_commit", "commit_prepared")):
                 self.assertEqual([event[1] for event in events if event in ([rm, call], [rm, made])], [call, made] * 2)
+
+
+class Stopped(Case):
+    """A coordinator that is stopped (SIGSTOP), or whose disk hangs."""
+
+    def test_before_a_decision(self):
+        with self.manager(patience=0.5) as xa:
+            self.left.before["prepare"] = lambda: os.kill(xa._session.coordinator.pid, signal.SIGSTOP)
+            begun = time.monotonic()
+            with self.assertRaises(OutcomeUnknown) as raised:
+                self.move(xa)
+            self.assertLess(time.monotonic() - begun, 10)
+            self.left.before.clear()
+            self.move(xa)
+            self.assertIs(xa.outcome(str(raised.exception).split(":")[0]), Outcome.ROLLED_BACK)
+        self.assertEqual(self.written(), (["take"], ["give"]))
+        self.assertEqual((self.left.prepared, self.right.prepared), ({}, {}))
+
+    def test_at_the_end(self):
+        xa = self.manager(patience=0.5)
+        os.kill(xa._session.coordinator.pid, signal.SIGSTOP)
+        begun = time.monotonic()
+        xa.close()
+        self.assertLess(time.monotonic() - begun, 10)
 
 
 class Ends(Case):
