@@ -8,7 +8,7 @@ import json
 import logging
 import os
 import threading
-from typing import Any, Dict, Optional
+from typing import Any, Dict, List, Optional
 
 from .adapters.base import Connection, Database
 from .errors import SetupError
@@ -101,8 +101,8 @@ class Identities:
 
     def _write(self) -> None:
         """Writes the file anew, whole or not at all. Called with the lock."""
-        entries = [{"number": number, **entry} for number, entry in sorted(self._known.items())]
-        found = {"version": VERSION, "manager": self._manager, "databases": entries}
+        entries: List[Dict[str, object]] = [{"number": number, **entry} for number, entry in sorted(self._known.items())]
+        found: Dict[str, object] = {"version": VERSION, "manager": self._manager, "databases": entries}
         if self._shut is not None:
             found["shut"] = self._shut
         try:

@@ -146,11 +146,11 @@ class Line:
             self.lose()
             raise
 
-    def make(self, call: Call) -> Answer:
+    def make(self, call: Call, patience: Optional[float] = None) -> Answer:
         """Makes the call that waits first on the line, once the coordinator says that it is issued, and tells what was answered.
         The answers before it were heard, then. Whatever comes in place of a reply or an answer, the line is lost with it."""
         self._see_due()
-        return self._make(call)
+        return self._make(call, patience)
 
     def _open(self) -> Connection:
         """The connection. Raises ConnectionLost where there is none."""
@@ -163,14 +163,17 @@ class Line:
         self._kept.append(f"issue {self._route} {call}")
         self._is_due = True
 
-    def _make(self, call: Call) -> Answer:
+    def _make(self, call: Call, patience: Optional[float] = None) -> Answer:
+        is_undone = call.name == "xa_rollback" and (self.connection is None or not self.connection.has_unprepared(call.branch))
         try:
-            answer = self._answer_to(call)
+            answer = self._answer_to(call, patience)
         except BaseException:
             self.lose()
             raise
         if call.xid is not None:
             answer = Answer(self._told(call, call.xid, answer.code))
+            if is_undone:
+                self.rm.note_undone(call.xid)
         self._tell(call, answer)
         return answer
 
@@ -201,7 +204,7 @@ class Line:
                 if call not in self._waiting:
                     self.make_ready()
                     self.issue(call)
-                code = self.make(call).code
+                code = self.make(call, patience).code
                 if code is not Code.RETRY:
                     return code
                 if time.monotonic() >= until:
@@ -236,9 +239,9 @@ class Line:
             self._waiting.popleft()
         self._kept.append(f"answer {self._route} {answer.words_to(call)}")
 
-    def _answer_to(self, call: Call) -> Answer:
+    def _answer_to(self, call: Call, patience: Optional[float]) -> Answer:
         """The answer of the database. That it has none now isn't one: an end of a prepared branch is made again."""
-        until = time.monotonic() + self._patience
+        until = time.monotonic() + (self._patience if patience is None else patience)
         while True:
             try:
                 return self._open().do(call)

@@ -302,12 +302,11 @@ class TransactionManager:
                 session = self._session
                 if session is None or session.coordinator.is_gone:
                     session = self._current()
-                session.recover_what_is_due()
+                session.see_to_recoveries()
                 thread = session.threads.take(until)
                 gtrid = self._begin_on(session, thread)
-                if gtrid is not None:
-                    self._counts.begin()
-                    return session, thread, gtrid
+                self._counts.begin()
+                return session, thread, gtrid
             except LogInUse:
                 raise
             except CoordinatorGone as gone:
@@ -316,16 +315,16 @@ class TransactionManager:
                 log.warning("%s", gone)
                 time.sleep(PAUSE)
 
-    def _begin_on(self, session: Session, thread: int) -> Optional[str]:
-        """A transaction on a thread. None if its connections are to be recovered first."""
+    def _begin_on(self, session: Session, thread: int) -> str:
+        """A transaction on a thread."""
         gtrid = None
         try:
-            if not session.lets_go_of_ended(thread):
-                gtrid = session.begin(thread)
+            session.let_go_of_ended(thread)
+            gtrid = session.begin(thread)
+            return gtrid
         finally:
             if gtrid is None:
                 session.let_go(thread)
-        return gtrid
 
     def note_end(self, transaction: Transaction) -> None:
         """A transaction has ended."""

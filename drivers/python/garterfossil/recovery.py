@@ -4,13 +4,14 @@ from __future__ import annotations
 
 import logging
 import time
-from typing import TYPE_CHECKING
+from typing import TYPE_CHECKING, List, Set
 
 from .calls import Call
 from .coordinator import UNKNOWN_TRANSACTION, Coordinator
 from .errors import ConnectionLost, CoordinatorGone, Refused, SetupError, Unexplained
 from .line import PAUSE, Line
-from .resource_manager import ResourceManager
+from .resource_manager import GLANCE, ResourceManager
+from .xid import Xid
 
 if TYPE_CHECKING:
     from .session import Session
@@ -19,49 +20,99 @@ log = logging.getLogger("garterfossil")
 
 #: How many identifiers a page may list. No more than 64 calls wait on a line.
 PAGE = 32
+#: For so many seconds the end of one branch is asked for, before the next one's turn: it comes again.
+DEBT_PATIENCE = 1.0
 
 
 def recover(session: Session, rm: ResourceManager) -> None:
-    """Ends what is in doubt at the resource manager: what it lists, and what is owed there. All threads of the session are held
-    meanwhile. Raises ConnectionLost where it can't be done now."""
-    for line in session.lines_to(rm):
-        if line.connection is not None:
-            line.lose()
+    """Ends what is in doubt at the resource manager: what it lists of earlier sessions, and what is owed there. The first thread is the
+    recovery's meanwhile, and transactions go on on the others: what this session has prepared is ended by name, and never by a page.
+    Raises ConnectionLost where it can't be done now."""
     line = session.line(0, rm.number)
-    line.make_ready()
-    see_known(session, line)
-    try:
-        scan_until_done(session, line)
-    except Unexplained as error:
-        # A database may forget in a crash that it rolled a branch back. To the next session the branch is an earlier one's,
-        # and so it may stand there.
-        session.coordinator.quit()
-        raise CoordinatorGone(f"the session is ended: {error}") from error
-    for call in session.debts.at(rm.number):
-        try:
-            pay(session, line, call)
-        except Unexplained as error:
-            log.error("how %s ended isn't known: %s", call.xid, error)
+    if line.connection is not None:
+        # Nobody knows whether the database has it still.
+        line.lose()
+    connection = line.make_ready()
+    connection.scanned_before, connection.put_off = session.coordinator.incarnation, rm.put_off_now()
+    rm.see_no_strays(connection)
+    # What is noted from now on is for the next recovery.
     rm.is_recovery_due = False
+    try:
+        see_known(session, line)
+        see_over(session, line)
+        scan_until_done(session, line)
+        pay_all(session, line)
+    except Unexplained as error:
+        raise stop(session, line, f"{line.rm.label} lists a branch that is over, by all that it answered before ({error})") from error
+    except BaseException:
+        if line.connection is not None and not session.coordinator.is_gone:
+            line.lose()
+        rm.is_recovery_due = True
+        raise
+
+
+def listed_at(session: Session, line: Line) -> List[Xid]:
+    """The manager's branches that the resource manager lists."""
+    connection = line.make_ready()
+    with connection.timed(session.patience):
+        return connection.listed()
 
 
 def see_known(session: Session, line: Line) -> None:
     """Sees that the log may know all that the database lists as the manager's: the coordinator would roll back what it doesn't.
     Raises SetupError."""
-    connection = line.make_ready()
-    with connection.timed(session.patience):
-        unknown = [xid for xid in connection.listed() if not session.knows(xid)]
+    unknown = [xid for xid in listed_at(session, line) if not session.knows(xid)]
     if unknown:
         raise SetupError(
             f"{line.rm.label} lists {len(unknown)} branches that this log knows nothing of, as {unknown[0]}: another log is used with"
-            " it, or this one is older than they are"
+            " it, or this one is older than they are, or than the mirror"
         )
+
+
+def see_over(session: Session, line: Line) -> None:
+    """Sees that the database lists no branch of this session that is over. Where MariaDB has forgotten in a crash that this session rolled
+    a branch back, the session ends: to the next one the branch is an earlier one's, and may stand there. Anything else is for
+    somebody to look at."""
+    # A transaction that has a branch by now, and isn't open any more behind the list, is over; what is listed once more stays.
+    over = _over(session, line, listed_at(session, line))
+    if over:
+        over &= set(listed_at(session, line))
+        over -= {call.branch for call in session.debts.at(line.rm.number)}
+    if not over:
+        return
+    odd = sorted(over - line.rm.undone)
+    if odd:
+        raise stop(session, line, f"{line.rm.label} lists {odd[0]} as prepared, which this session has ended there: it isn't as it was")
+    with session.threads.all(time.monotonic() + GLANCE, but_first=True):
+        session.coordinator.quit()
+    raise CoordinatorGone(f"the session is ended: {line.rm.label} has forgotten the rollback of {sorted(over)[0]}")
+
+
+def _over(session: Session, line: Line, listed: List[Xid]) -> Set[Xid]:
+    mine = {xid for xid in listed if incarnation_of(xid) == session.coordinator.incarnation}
+    live = session.live() if mine else set()
+    owed = {call.branch for call in session.debts.at(line.rm.number)}
+    return {xid for xid in mine - owed if xid.transaction not in live}
+
+
+def stop(session: Session, line: Line, why: str) -> SetupError:
+    """Ends the session, and has none begin behind it, in this run of the program or another one, until somebody has looked: the next one
+    would roll back what this one doesn't understand."""
+    session.identities.shut(why)
+    log.error("%s: nothing is done any more until somebody has looked", why)
+    session.coordinator.quit()
+    return SetupError(why)
+
+
+def incarnation_of(xid: Xid) -> int:
+    """The session that began the transaction of a branch of the manager's."""
+    return int.from_bytes(xid.gtrid[-16:-8], "big")
 
 
 def see_not_later(rm: ResourceManager, incarnation: int, path: str) -> None:
     """Sees, before a session, that a database lists no branch of a session that the log at a path hasn't had. Raises SetupError: no
     coordinator is started then, so that it is refused however often the program is started again."""
-    later = [xid for xid in rm.listed or () if int.from_bytes(xid.gtrid[-16:-8], "big") > incarnation]
+    later = [xid for xid in rm.listed or () if incarnation_of(xid) > incarnation]
     if not later:
         return
     if incarnation == 0:
@@ -85,10 +136,22 @@ def scan_until_done(session: Session, line: Line) -> None:
         time.sleep(PAUSE)
 
 
+def pay_all(session: Session, line: Line) -> None:
+    """Ends all that is owed. One branch that can't be ended now doesn't hold up the others."""
+    for call in session.debts.at(line.rm.number):
+        try:
+            pay(session, line, call)
+        except Unexplained as error:
+            log.error("how %s ended isn't known: %s", call.xid, error)
+        except ConnectionLost as error:
+            line.rm.is_recovery_due = True
+            log.warning("%s of %s is put off: %s", call.name, call.xid, error)
+
+
 def pay(session: Session, line: Line, call: Call) -> None:
     """Ends a branch that the database wasn't told how to end, or didn't acknowledge. Most are over already, and are answered so."""
     try:
-        code = line.insist(call)
+        code = line.insist(call, DEBT_PATIENCE)
         line.see_heard()
         log.info("recovery of %s: %s answered %s", line.rm.label, call, code.name)
         if code.is_heuristic:
@@ -112,7 +175,12 @@ def scan(coordinator: Coordinator, line: Line) -> int:
         for _ in range(coordinator.resolve(line.rm.number)):
             call = coordinator.waiting(0, line.rm.number)
             assert call is not None
-            code = line.make(call).code
+            try:
+                code = line.make(call, DEBT_PATIENCE).code
+            except ConnectionLost:
+                # The next scans leave it out for a while, so that it holds up no other one.
+                line.rm.put_off(call.branch)
+                raise
             line.see_heard()
             log.info("recovery of %s: %s answered %s", line.rm.label, call, code.name)
             made += 1

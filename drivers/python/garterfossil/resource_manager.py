@@ -5,7 +5,7 @@ from __future__ import annotations
 import logging
 import threading
 import time
-from typing import List, Optional, Set
+from typing import Dict, List, Optional, Set
 
 from .adapters.base import Connection, Database, Place
 from .errors import ConnectionLost
@@ -14,12 +14,10 @@ from .xid import Xid
 
 log = logging.getLogger("garterfossil")
 
-#: A recovery that couldn't be done is tried again after so many seconds.
-RECOVERY_PAUSE = 1.0
-
-
-#: For so many seconds a transaction that begins waits to see whether a database is back, whose recovery is due.
+#: For so many seconds a transaction that begins waits for a recovery that it has started.
 GLANCE = 0.5
+#: So many branches that were rolled back are kept in mind, and for so many seconds one is left alone that can't be ended now.
+MOST_UNDONE, PUT_OFF = 10000, 10.0
 
 
 class ResourceManager:
@@ -43,10 +41,12 @@ class ResourceManager:
         # When it was last seen that there is no connection to be had, and why.
         self._failed = 0.0
         self._failure = ""
-        # When a recovery was last tried, and the look at the database that is under way for the next.
-        self._tried = 0.0
-        self._look: Optional[threading.Thread] = None
-        self._is_back = False
+        # What was logged last of why it can't be used.
+        self._said = ""
+        # Prepared branches that this session has rolled back, the oldest first; and those that can't be ended now, each with until when it
+        # is left alone.
+        self._undone: Dict[Xid, None] = {}
+        self._put_off: Dict[Xid, float] = {}
         #: What was found against it before the session.
         self.objection: Optional[Exception] = None
         #: The branches of the manager that it listed then; None if nobody knows.
@@ -91,6 +91,12 @@ class ResourceManager:
         if ended:
             log.warning("%d connections to %s were ended, which this manager or an earlier run of it had left", ended, self.label)
 
+    def see_no_strays(self, connection: Connection) -> None:
+        """Sees that there are no connections but those of lines, of which this is one."""
+        with self._lock:
+            if self._has_strays:
+                self._end_strays(connection)
+
     def drop(self, connection: Connection) -> None:
         """A line has lost the connection, or gives it up."""
         self.is_recovery_due = True
@@ -101,36 +107,44 @@ class ResourceManager:
 
     # ** recovery
 
-    def is_to_be_recovered(self, patience: float = GLANCE) -> bool:
-        """Whether a recovery is due, wasn't just tried, and the database can be reached. The look at it goes on beside the program,
-        which waits for it for so many seconds."""
-        if not self.is_recovery_due:
-            return False
-        look = self._look
-        if look is None:
-            if time.monotonic() < self._tried + RECOVERY_PAUSE:
-                return False
-            self._tried = time.monotonic()
-            look = self._look = threading.Thread(target=self._see_it, name=f"garterfossil {self.label}", daemon=True)
-            look.start()
-        look.join(patience)
-        if look.is_alive():
-            return False
-        self._look, is_back = None, self._is_back
-        return is_back
-
-    def _see_it(self) -> None:
+    def can_be_reached(self) -> bool:
+        """Whether a connection is to be had. Waits for that as long as the database is silent."""
         try:
-            self._is_back = self._database.can_be_reached(self.place)
+            return self._database.can_be_reached(self.place)
         except Exception as error:
-            self._is_back = False
-            self._say_once(str(error))
+            self.say_once(str(error))
+            return False
 
-    def _say_once(self, text: str) -> None:
+    def say_once(self, text: str) -> None:
         """Logs why it can't be used, unless that was said last."""
-        if text != self._failure:
+        if text != self._said:
             log.error("%s: %s", self.label, text)
-            self._failure = text
+            self._said = text
+
+    def note_undone(self, xid: Xid) -> None:
+        """This session has rolled back a branch that is prepared."""
+        with self._lock:
+            self._undone[xid] = None
+            if len(self._undone) > MOST_UNDONE:
+                del self._undone[next(iter(self._undone))]
+
+    @property
+    def undone(self) -> Set[Xid]:
+        """The last of such branches. A database may list them again, after a crash."""
+        with self._lock:
+            return set(self._undone)
+
+    def put_off(self, xid: Xid) -> None:
+        """A branch of an earlier session can't be ended now, as while another connection ends it."""
+        with self._lock:
+            self._put_off[xid] = time.monotonic() + PUT_OFF
+
+    def put_off_now(self) -> Set[Xid]:
+        """The branches that a scan leaves out for a while."""
+        with self._lock:
+            now = time.monotonic()
+            self._put_off = {xid: until for xid, until in self._put_off.items() if until > now}
+            return set(self._put_off)
 
     def look(self) -> None:
         """Looks, before a session, whether a connection is to be had, whether the database is the one that the log belongs to, and what it
@@ -146,5 +160,3 @@ class ResourceManager:
                 connection.close()
         except Exception as error:
             self.objection = error
-            # Until a while from now there is none to be had either.
-            self._tried = time.monotonic()

@@ -16,6 +16,7 @@ from .databases import Databases
 from .debts import Debts
 from .errors import ConnectionLost, CoordinatorGone, Overdue, Refused, RequestError, SetupError, XaError
 from .identities import Identities
+from .keeper import Keeper
 from .line import Line
 from .logs import KeptLog, Names, is_new_log, kept_log
 from .mirror import Mirror
@@ -76,12 +77,15 @@ class Session:
         self._lines = [[Line(self.coordinator, thread, rm, self.patience) for rm in self._rms] for thread in range(settings.threads)]
         # By thread, what begins its next transaction, where that was asked for ahead.
         self._begun: List[Optional[Reply]] = [None] * settings.threads
-        # The transactions of a session are numbered. By thread, the last that began.
+        # The transactions of a session are numbered. By thread, the last that began, and the one that is open.
         self._last = [0] * settings.threads
+        self._live: List[Optional[str]] = [None] * settings.threads
+        self.keeper = Keeper(self)
         #: Where a committed transaction goes of which all branches have acknowledged.
         self.rows = Rows(self.coordinator, self.mirror)
         try:
             self._take_over(is_first)
+            self.see_to_recoveries(0)
         except BaseException:
             self.coordinator.kill()
             if self.mirror is not None:
@@ -141,7 +145,7 @@ class Session:
             self.unknown_to_log = self.mirror.begin(self.coordinator.incarnation, decisions)
         self.outcomes.note_rows(self.coordinator.incarnation, rows)
         log.info("session %d began: the log has %d decisions to commit", self.coordinator.incarnation, len(rows))
-        self.recover_what_is_due(is_first)
+        self.recover_at_the_start(is_first)
 
     def line(self, thread: int, rm: int) -> Line:
         """The line of a thread to a resource manager."""
@@ -164,12 +168,15 @@ class Session:
                     # What the transaction left there is over with the session.
                     log.warning("%s: %s", line.rm.label, error)
         finally:
+            self._live[thread] = None
             self.threads.give_back(thread)
+            # What it has left is ended, also if no other one begins.
+            self.see_to_recoveries(0)
 
     def begin(self, thread: int) -> str:
         """A transaction of the thread begins: its name."""
         gtrid = self._begun_ahead(thread) or self.coordinator.begun_in(self.coordinator.begin(thread))
-        self._last[thread] = int(gtrid[16:], 16)
+        self._last[thread], self._live[thread] = int(gtrid[16:], 16), gtrid
         return gtrid
 
     def _begun_ahead(self, thread: int) -> Optional[str]:
@@ -181,14 +188,12 @@ class Session:
             # So is what stood before it on its line, whose branches are left to the recovery.
             return None
 
-    def lets_go_of_ended(self, thread: int) -> bool:
-        """Gives those connections of a thread up that the databases have ended while nothing was done on them. Whether there were
-        some: then a recovery is due there."""
-        ended = [line for line in self._lines[thread] if line.connection is not None and not line.connection.is_there()]
-        for line in ended:
-            log.info("%s has ended a connection while it was idle", line.rm.label)
-            line.lose()
-        return bool(ended)
+    def let_go_of_ended(self, thread: int) -> None:
+        """Gives those connections of a thread up that the databases have ended while nothing was done on them."""
+        for line in self._lines[thread]:
+            if line.connection is not None and not line.connection.is_there():
+                log.info("%s has ended a connection while it was idle", line.rm.label)
+                line.lose()
 
     def knows(self, xid: Xid) -> bool:
         """Whether the branch may be of the log's: it is of an earlier incarnation, or of a transaction that has begun in this one."""
@@ -237,6 +242,7 @@ class Session:
     def owe(self, rm: int, call: Call) -> None:
         """The end of a branch couldn't be told, or wasn't acknowledged: the next recovery there sees to it."""
         self.debts.add(rm, call)
+        self._rms[rm].is_recovery_due = True
 
     def pay(self, rm: int, call: Call) -> None:
         """It is now."""
@@ -245,33 +251,52 @@ class Session:
 
     # ** recovery
 
-    def recover_what_is_due(self, is_start: bool = False) -> None:
-        """Recovers each database where something may be in doubt, if it can be reached. What can't be done now is done at
-        the next transaction; but what a database is set up wrongly for is raised at the start."""
+    def live(self) -> Set[str]:
+        """The transactions that are open."""
+        return {gtrid for gtrid in self._live if gtrid is not None}
+
+    def recover_at_the_start(self, is_first: bool) -> None:
+        """Recovers each database that can be reached. What can't be done now is done beside the transactions; but what a database is set
+        up wrongly for is raised at the first start."""
         for rm in self._rms:
-            if rm.is_recovery_due and rm.is_to_be_recovered(self.patience if is_start else GLANCE):
+            if rm.objection is None:
                 try:
-                    with self.threads.all(time.monotonic() + self.patience):
-                        if rm.is_recovery_due:
-                            recover(self, rm)
+                    recover(self, rm)
                 except SetupError as error:
-                    if is_start:
+                    if is_first or self.coordinator.is_gone:
                         raise
-                    log.error("the recovery of %s is put off: %s", rm.label, error)
+                    rm.say_once(f"the recovery is put off: {error}")
                 except (ConnectionLost, Overdue, Refused, RequestError) as error:
                     log.warning("the recovery of %s is put off: %s", rm.label, error)
+
+    def see_to_recoveries(self, patience: float = GLANCE) -> None:
+        """Sees to it that each database is recovered where something may be in doubt. Who starts that waits for it, for so many seconds."""
+        for rm in self._rms:
+            self.keeper.see_to(rm, patience)
 
     # ** its end
 
     def close(self) -> None:
         """Ends the session, once all transactions are over. Where they aren't within the patience, ends it all the same and raises
         Overdue: the next session rolls them back."""
+        until = time.monotonic() + self.patience
+        self.keeper.finish(until)
         try:
-            with self.threads.all(time.monotonic() + self.patience):
+            with self.threads.all(until):
+                for rm in self._rms:
+                    # The last transactions may have left something.
+                    if rm.is_recovery_due and self.debts.at(rm.number) and rm.can_be_reached():
+                        self._try_to_recover(rm)
                 self._leave()
         except Overdue as error:
             self.coordinator.quit()
             raise Overdue(f"transactions were open for {self.patience} seconds after the end: they are rolled back") from error
+
+    def _try_to_recover(self, rm: ResourceManager) -> None:
+        try:
+            recover(self, rm)
+        except XaError as error:
+            log.warning("the recovery of %s is left to the next session: %s", rm.label, error)
 
     def _leave(self) -> None:
         self.rows.finish()

@@ -11,23 +11,36 @@ from .errors import Overdue
 
 #: Beyond so many transactions at a time somebody else writes soon.
 BUSY = 2
+#: The thread on which databases are recovered (docs/SERVE.md).
+FIRST = 0
 
 
 class Threads:
-    """The coordinator's threads: each is lent to one transaction at a time, or all of them to a recovery. Which thread of
-    Python has one doesn't matter."""
+    """The coordinator's threads: each is lent to one transaction at a time, or the first to the recoveries, or all of them to who ends
+    the session. Which thread of Python has one doesn't matter."""
 
     def __init__(self, count: int):
         self._count = count
         self._free: List[int] = list(reversed(range(count)))
         self._change = threading.Condition()
         self._whole_is_wanted = False
+        # How many recoveries have the first thread, and how many wait for it.
+        self._recoveries = self._recoveries_waiting = 0
 
     def take(self, until: float) -> int:
-        """A thread that is free. Waits for one until this moment of the monotonic clock, and then raises Overdue."""
+        """A thread that is free: the first only if no recovery wants it, and no other is. Waits for one until this moment of the
+        monotonic clock, and then raises Overdue."""
         with self._change:
-            self._wait(lambda: self._free and not self._whole_is_wanted, until)
-            return self._free.pop()
+            self._wait(self._has_one, until)
+            mine = self._free.pop()
+            if mine == FIRST and self._free:
+                mine = self._free.pop()
+                self._free.append(FIRST)
+            return mine
+
+    def _has_one(self) -> bool:
+        is_first_wanted = self._recoveries_waiting > 0 and FIRST in self._free
+        return len(self._free) > is_first_wanted and not self._whole_is_wanted
 
     @property
     def are_busy(self) -> bool:
@@ -41,13 +54,36 @@ class Threads:
             self._change.notify_all()
 
     @contextlib.contextmanager
-    def all(self, until: float) -> Iterator[None]:
-        """All threads at once: no new one is lent meanwhile, and those that are out are waited for."""
+    def first(self, until: float) -> Iterator[None]:
+        """The first thread, for the recovery of a database. Recoveries of several databases share it: each has a line of its own."""
+        with self._change:
+            self._recoveries_waiting += 1
+            try:
+                self._wait(lambda: self._recoveries or FIRST in self._free and not self._whole_is_wanted, until)
+                if self._recoveries == 0:
+                    self._free.remove(FIRST)
+                self._recoveries += 1
+            finally:
+                self._recoveries_waiting -= 1
+                self._change.notify_all()
+        try:
+            yield
+        finally:
+            with self._change:
+                self._recoveries -= 1
+                if self._recoveries == 0:
+                    self._free.append(FIRST)
+                self._change.notify_all()
+
+    @contextlib.contextmanager
+    def all(self, until: float, but_first: bool = False) -> Iterator[None]:
+        """All threads at once: no new one is lent meanwhile, and those that are out are waited for. If it is the one recovery that asks,
+        it has the first already."""
         with self._change:
             self._wait(lambda: not self._whole_is_wanted, until)
             self._whole_is_wanted = True
             try:
-                self._wait(lambda: len(self._free) == self._count, until)
+                self._wait(lambda: len(self._free) + but_first == self._count and self._recoveries <= but_first, until)
             except BaseException:
                 self._let_go()
                 raise

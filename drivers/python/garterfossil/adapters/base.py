@@ -206,6 +206,9 @@ class Connection(abc.ABC):
         self._is_refused = False
         #: The database's own error because of which it can, or because of which the last branch was rolled back.
         self.reason: Optional[BaseException] = None
+        #: A scan lists branches of sessions before this one alone, if it is given, and none of those that are put off.
+        self.scanned_before: Optional[int] = None
+        self.put_off: Collection[Xid] = ()
         #: Whether a statement of the program has ended its branch.
         self.is_ended_by_statement = False
         #: What the pages of a scan are yet to list, in the order of the identifiers. None where no scan is open.
@@ -381,13 +384,21 @@ class Connection(abc.ABC):
         """The next page of the scan, in the order of the identifiers. It has the branches of the connection's own place, as they were
         listed as the scan began: those of others are never looked at again."""
         if "TMSTARTRSCAN" in call.flags:
-            self._unscanned = sorted(self.listed())
+            self._unscanned = sorted(xid for xid in self.listed() if self._is_scanned(xid))
         if self._unscanned is None or call.count is None or call.count < 0:
             raise Unanswered("no scan is open")
         page, self._unscanned = tuple(self._unscanned[: call.count]), self._unscanned[call.count :]
         if "TMENDRSCAN" in call.flags:
             self._unscanned = None
         return Answer(page=page)
+
+    def _is_scanned(self, xid: Xid) -> bool:
+        is_earlier = self.scanned_before is None or int.from_bytes(xid.gtrid[-16:-8], "big") < self.scanned_before
+        return is_earlier and xid not in self.put_off
+
+    def has_unprepared(self, xid: Xid) -> bool:
+        """Whether the branch is the connection's own, and not prepared."""
+        return xid == self._xid and self._state is not State.PREPARED
 
     def listed(self) -> List[Xid]:
         """The prepared branches of the connection's own place."""

@@ -1,0 +1,97 @@
+"""Whoever ends, beside the program, what transactions have left: for each database a thread that recovers it, as long as something is due
+there."""
+
+from __future__ import annotations
+
+import logging
+import threading
+import time
+from typing import TYPE_CHECKING, Dict, Tuple
+
+from .errors import CoordinatorGone, Overdue, SetupError, XaError
+from .recovery import recover
+from .resource_manager import GLANCE, ResourceManager
+
+if TYPE_CHECKING:
+    from .session import Session
+
+log = logging.getLogger("garterfossil")
+
+#: A recovery that couldn't be done is tried again after so many seconds.
+RECOVERY_PAUSE = 1.0
+
+
+class Keeper:
+    """The recoveries of a session. A database that is silent, or lists a branch that can't be ended now, holds up its own recovery
+    alone."""
+
+    def __init__(self, session: Session):
+        self._session = session
+        self._lock = threading.Lock()
+        # By database, the thread that recovers it, and since when.
+        self._working: Dict[int, Tuple[threading.Thread, float]] = {}
+        self._is_over = False
+        # Ends the pauses.
+        self._stop = threading.Event()
+
+    def see_to(self, rm: ResourceManager, patience: float = GLANCE) -> None:
+        """Sees to it that the database is recovered, if something is due there, and waits for that until so many seconds after its
+        beginning."""
+        if not rm.is_recovery_due:
+            return
+        with self._lock:
+            if self._is_over:
+                return
+            if rm.number not in self._working:
+                thread = threading.Thread(target=self._work, args=[rm], name=f"garterfossil {rm.label}", daemon=True)
+                self._working[rm.number] = thread, time.monotonic()
+                thread.start()
+            thread, begun = self._working[rm.number]
+        left = begun + patience - time.monotonic()
+        if left > 0:
+            thread.join(left)
+
+    def _work(self, rm: ResourceManager) -> None:
+        try:
+            while not self._stop.is_set() and not self._session.coordinator.is_gone and self._is_due(rm):
+                if not self.try_to_recover(rm):
+                    self._stop.wait(RECOVERY_PAUSE)
+        finally:
+            with self._lock:
+                self._working.pop(rm.number, None)
+
+    def _is_due(self, rm: ResourceManager) -> bool:
+        """Whether something is due. If not, its thread is no longer one that works on it, as soon as that is said."""
+        with self._lock:
+            if not rm.is_recovery_due:
+                del self._working[rm.number]
+            return rm.is_recovery_due
+
+    def try_to_recover(self, rm: ResourceManager) -> bool:
+        """Recovers the database, if it can be reached. Whether that was done."""
+        if not rm.can_be_reached():
+            return False
+        try:
+            with self._session.threads.first(time.monotonic() + self._session.patience):
+                if rm.is_recovery_due:
+                    recover(self._session, rm)
+            return True
+        except SetupError as error:
+            rm.say_once(f"the recovery is put off: {error}")
+        except CoordinatorGone as error:
+            log.warning("%s", error)
+        except Overdue:
+            # The first thread has a transaction, which takes long.
+            pass
+        except XaError as error:
+            log.warning("the recovery of %s is put off: %s", rm.label, error)
+        return False
+
+    def finish(self, until: float) -> None:
+        """Has what is due done once more, and lets no more begin. Waits until this moment of the monotonic clock."""
+        with self._lock:
+            self._is_over = True
+            working = list(self._working.values())
+        self._stop.set()
+        for thread, _ in working:
+            thread.join(max(0.0, until - time.monotonic()))

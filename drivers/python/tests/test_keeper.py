@@ -1,0 +1,165 @@
+"""What is ended beside the transactions, and what doesn't wait for it."""
+
+import contextlib
+import logging
+import threading
+import time
+import unittest
+from concurrent.futures import ThreadPoolExecutor
+
+from garterfossil import CoordinatorGone, Outcome, OutcomeUnknown, RolledBack, SetupError, Xid
+from garterfossil.codes import Code
+from garterfossil.errors import ConnectionLost, Unanswered
+
+from .case import Case
+
+
+def wait_for(is_so, seconds=10.0):
+    """Waits until something is so."""
+    until = time.monotonic() + seconds
+    while not is_so():
+        if time.monotonic() >= until:
+            raise AssertionError("it never came to that")
+        time.sleep(0.01)
+
+
+class Beside(Case):
+    def test_a_long_transaction_beside_a_lost_connection_does_not_hold_up_the_others(self):
+        with self.manager(threads=3, patience=20.0) as xa, xa.transaction() as long:
+            long[0].execute("take")
+            self.right.next["work"] = "lost"
+            with self.assertRaises(ConnectionLost):
+                with xa.transaction(independent=True) as t:
+                    t[1].execute("give")
+            begun = time.monotonic()
+            for _ in range(20):
+                with xa.transaction(independent=True) as t:
+                    t[0].execute("take")
+                    t[1].execute("give")
+            self.assertLess(time.monotonic() - begun, 3)
+        self.assertEqual(len(self.right.written), 20)
+
+    def test_a_silent_database_does_not_hold_up_those_that_do_not_use_it(self):
+        with self.manager(threads=3, patience=20.0) as xa:
+            xa._session._rms[1].can_be_reached = lambda: time.sleep(3)
+            xa._session._rms[1].is_recovery_due = True
+            begun = time.monotonic()
+            for _ in range(20):
+                with xa.transaction() as t:
+                    t[0].execute("take")
+            self.assertLess(time.monotonic() - begun, 2)
+            xa._session._rms[1].is_recovery_due = False
+        self.assertEqual(len(self.left.written), 20)
+
+    def test_many_threads_while_a_database_is_down(self):
+        with self.manager(threads=4, patience=5.0) as xa:
+            self.right.crash()
+
+            def work(_):
+                with xa.transaction() as t:
+                    t[0].execute("take")
+                    t[1].execute("give")
+
+            with ThreadPoolExecutor(12) as pool:
+                raised = [done.exception() for done in [pool.submit(work, number) for number in range(100)]]
+            self.assertEqual({type(error) for error in raised}, {ConnectionLost})
+
+    def test_a_branch_that_is_left_prepared_is_ended_while_the_program_lives(self):
+        with self.manager(patience=0.5) as xa:
+            self.right.next["commit_prepared"] = Unanswered("busy with another connection")
+            self.right.before["commit_prepared"] = lambda: self.right.next.setdefault("commit_prepared", Unanswered("busy"))
+            t = self.move(xa)
+            self.assertIs(t.outcome, Outcome.COMMITTED)
+            self.assertEqual((len(self.right.prepared), xa.counts()["owed"]), (1, 1))
+            self.right.before.clear()
+            # Nobody begins a transaction.
+            wait_for(lambda: not self.right.prepared and xa.counts()["owed"] == 0)
+        self.assertEqual(self.written(), (["take"], ["give"]))
+        self.assertEqual(self.in_the_log()["rows"], {})
+
+    def test_a_branch_that_cannot_be_ended_now_does_not_hold_up_the_others(self):
+        self.manager().close()
+        stuck, other = (Xid(7, bytes(15) + bytes([number]), bytes(8)) for number in (1, 2))
+        self.left.prepared.update({stuck: ["one"], other: ["two"]})
+
+        def ends(xid):
+            if xid == stuck:
+                raise Unanswered("busy with another connection")
+            self.left.prepared.pop(xid)
+            return Code.OK
+
+        real = self.left.connect
+
+        def connect(place):
+            connection = real(place)
+            connection._roll_back_prepared = ends
+            return connection
+
+        self.left.connect = connect
+        with self.manager(patience=2.0) as xa:
+            wait_for(lambda: list(self.left.prepared) == [stuck])
+            self.move(xa)
+        self.assertEqual(self.written(), (["take"], ["give"]))
+
+    def test_close_ends_what_the_last_transaction_left(self):
+        with self.manager(patience=0.3) as xa:
+            self.right.before["commit_prepared"] = lambda: self.right.next.setdefault("commit_prepared", Unanswered("busy"))
+            self.right.next["commit_prepared"] = Unanswered("busy")
+            self.move(xa)
+            self.right.before.clear()
+        self.assertEqual((self.left.prepared, self.right.prepared), ({}, {}))
+
+    def test_threads_end_once_nothing_is_due(self):
+        with self.manager() as xa:
+            self.right.next["work"] = "lost"
+            with self.assertRaises(ConnectionLost):
+                self.move(xa)
+            self.move(xa)
+            wait_for(lambda: not any(thread.name.startswith("garterfossil database") for thread in threading.enumerate()))
+
+
+class Stops(Case):
+    """A database that lists what is over, by all that it answered, isn't as it was: nobody goes on over it by himself."""
+
+    def test_a_branch_that_was_committed_and_is_listed_again(self):
+        with self.manager() as xa:
+            with xa.transaction() as t:
+                t[0].execute("take")
+                t[1].execute("give")
+                xid = t[1].xid
+            # As after a copy of the database of a moment ago, or a standby that was promoted.
+            self.right.written.clear()
+            self.right.prepared[xid] = ["give"]
+            with self.assertLogs("garterfossil", logging.ERROR) as logged:
+                xa._session._rms[1].is_recovery_due = True
+                with self.assertRaises(SetupError):
+                    wait_for(lambda: self.moves_in_a_session(xa))
+            self.assertIn("isn't as it was", "".join(logged.output))
+        # Another run of the program doesn't, either.
+        for _ in range(2):
+            with self.assertRaisesRegex(SetupError, "shut"):
+                self.manager()
+        self.assertEqual(list(self.right.prepared), [xid])
+
+    def moves_in_a_session(self, xa):
+        """(The session may end in the middle of it.)"""
+        with contextlib.suppress(CoordinatorGone, RolledBack, OutcomeUnknown):
+            self.move(xa)
+
+    def test_a_rollback_that_was_forgotten_is_done_again(self):
+        with self.manager() as xa:
+            self.right.next["prepare"] = Code.RBINTEGRITY
+            with self.assertRaises(RolledBack):
+                with xa.transaction() as t:
+                    t[0].execute("take")
+                    t[1].execute("give")
+                    xid = t[0].xid
+            self.left.prepared[xid] = ["take"]
+            xa._session._rms[0].is_recovery_due = True
+            self.move(xa)
+            wait_for(lambda: not self.left.prepared or self.move(xa) is None)
+        self.assertIn("take", self.left.written)
+
+
+if __name__ == "__main__":
+    unittest.main()
