@@ -8,15 +8,15 @@ import threading
 from types import TracebackType
 from typing import TYPE_CHECKING, Optional, Type
 
-from . import current
+from . import current, lease
 from .adapters.base import Options
+from .aside import aside
 from .errors import TransactionOver, XaError
-from .outcomes import Outcome
+from .lease import Lease
 from .transaction import Transaction
 
 if TYPE_CHECKING:
     from .manager import TransactionManager
-    from .session import Session
 
 
 class Block:
@@ -30,43 +30,73 @@ class Block:
         # Taken by whoever enters it, and never given back.
         self._once = threading.Lock()
         self._process = os.getpid()
-        self._session: Optional[Session] = None
-        self._transaction: Optional[Transaction] = None
+        self._lease: Optional[Lease] = None
+        self._is_given_up = False
+        self._entry: Optional[current.Entry] = None
 
     def __enter__(self) -> Transaction:
         manager = self._manager
         manager.see_may_begin(self._is_independent)
         if not self._once.acquire(blocking=False):
             raise XaError("this transaction() was entered before, perhaps by another thread: ask for one for each block")
-        self._session, self._thread, gtrid = manager.begin()
-        self._transaction = Transaction(self._session, self._thread, gtrid, self._options, self._timeout)
-        self._transaction.before_commit(functools.partial(manager.look_before_commit, self._transaction))
-        self._entry = current.enter(manager, self._transaction)
-        return self._transaction
+        try:
+            aside(self._begin, may_leave=True)
+            assert self._lease is not None
+            transaction = self._lease.transaction
+            transaction.before_commit(functools.partial(manager.look_before_commit, transaction))
+            self._entry = current.enter(manager, transaction)
+            return transaction
+        except BaseException:
+            self._give_up()
+            raise
+
+    def _begin(self) -> None:
+        session, thread, gtrid = self._manager.begin()
+        transaction = Transaction(session, thread, gtrid, self._options, self._timeout)
+        self._lease = Lease(self._manager, session, thread, transaction)
+        # From now on it is ended, whatever becomes of the block.
+        lease.REAPER.know(self, self._lease)
+        if self._is_given_up:
+            lease.REAPER.give_up(self._lease)
 
     def __exit__(
         self, kind: Optional[Type[BaseException]], error: Optional[BaseException], trace: Optional[TracebackType]
     ) -> None:
-        transaction, session = self._transaction, self._session
-        assert transaction is not None and session is not None
-        if os.getpid() != self._process:
-            self._leave_forked(error)
-            return
         try:
-            transaction.__exit__(kind, error, trace)
+            held, entry = self._lease, self._entry
+            assert held is not None and entry is not None
+            if os.getpid() == self._process:
+                self._leave(held, error)
+            elif error is None:
+                # It was forked off within the block.
+                raise TransactionOver(f"the transaction is that of process {self._process}, which goes on with it: nothing was done")
         finally:
-            current.leave(self._entry)
-            try:
-                if transaction.outcome is Outcome.OPEN:
-                    transaction.rollback()
-            finally:
-                try:
-                    session.let_go(self._thread)
-                finally:
-                    self._manager.note_end(transaction)
+            self._see_left()
 
-    def _leave_forked(self, error: Optional[BaseException]) -> None:
-        """A process that was forked off within the block leaves it: the transaction is its parent's, and nothing is done to it."""
-        current.leave(self._entry)
+    def _see_left(self) -> None:
+        """Sees that nobody is in the block any more, whatever has come between."""
+        try:
+            if self._entry is not None:
+                current.leave(self._entry)
+            if os.getpid() == self._process and self._lease is not None:
+                self._lease.note()
+        finally:
+            self._give_up()
+
+    @staticmethod
+    def _leave(held: Lease, error: Optional[BaseException]) -> None:
+        """Ends the transaction, as the block is left."""
+        transaction = held.transaction
         if error is None:
-            raise TransactionOver(f"the transaction is that of process {self._process}, which goes on with it: nothing was done")
+            try:
+                transaction.look_before_commit()
+            except BaseException as objection:
+                aside(functools.partial(held.end, functools.partial(transaction.leave, objection)))
+                raise
+        aside(functools.partial(held.end, functools.partial(transaction.leave, error)))
+
+    def _give_up(self) -> None:
+        """Whatever has interrupted it, the lease is ended, if that isn't under way, and that is noted."""
+        self._is_given_up = True
+        if self._lease is not None and not self._lease.is_noted and os.getpid() == self._process:
+            lease.REAPER.give_up(self._lease)

@@ -15,14 +15,23 @@ if TYPE_CHECKING:
 class Entry:
     """A block that was entered: of which transaction, by whom, and within which other one."""
 
-    __slots__ = ("manager", "transaction", "owner", "outer", "is_left")
+    __slots__ = ("manager", "transaction", "owner", "outer", "_is_left")
 
     def __init__(self, manager: TransactionManager, transaction: Transaction, outer: Optional[Entry]):
         self.manager = manager
         self.transaction = transaction
         self.owner = owner()
         self.outer = outer
-        self.is_left = False
+        self._is_left = False
+
+    @property
+    def is_left(self) -> bool:
+        """Whether nobody is in the block any more. It may have been ended without having been left."""
+        return self._is_left or self.transaction.is_let_go
+
+    def leave(self) -> None:
+        """The block is left."""
+        self._is_left = True
 
     @property
     def is_mine(self) -> bool:
@@ -68,6 +77,6 @@ def enter(manager: TransactionManager, transaction: Transaction) -> Entry:
 
 def leave(entry: Entry) -> None:
     """A block is left, in whichever context: a web framework may enter a dependency in another one than it leaves it in."""
-    entry.is_left = True
+    entry.leave()
     if _INNERMOST.get() is entry:
         _INNERMOST.set(entry.outer)

@@ -7,6 +7,7 @@ import time
 from typing import Callable, Deque, List, Optional, TypeVar
 
 from .adapters.base import Connection
+from .aside import aside, is_interrupt
 from .calls import Answer, Call
 from .codes import Code
 from .coordinator import AND, Coordinator, Reply
@@ -260,7 +261,7 @@ class Line:
             return connection.work(xid, step)
         except BaseException as error:
             # After an interrupt nobody knows what the connection would say next.
-            is_unknown = isinstance(error, (ConnectionLost, HeuristicEnd)) or not isinstance(error, Exception)
+            is_unknown = isinstance(error, (ConnectionLost, HeuristicEnd)) or is_interrupt(error)
             if is_unknown and connection.is_active(xid) and self.connection is connection:
-                self.lose()
+                aside(self.lose)
             raise

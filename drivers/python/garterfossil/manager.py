@@ -3,6 +3,7 @@
 from __future__ import annotations
 
 import contextlib
+import functools
 import logging
 import os
 import random
@@ -29,6 +30,7 @@ from typing import (
 
 from . import current
 from .adapters.base import Database, Options
+from .aside import ASIDE, aside
 from .block import Block
 from .counts import Counts
 from .databases import NAME, Databases
@@ -124,13 +126,27 @@ class TransactionManager:
         self._counts = Counts()
         self._looks: List[Callable[[Transaction], None]] = []
         try:
-            self._current(is_first=True)
+            self._begin_first(settings, name is None)
+        except XaError:
+            if self._worker is not None:
+                self._worker.close()
+            raise
+        except BaseException:
+            # It was interrupted, and what was begun goes on to its end.
+            self._is_closed = True
+            ASIDE.post(self._close)
+            raise
+
+    def _begin_first(self, settings: Callable[[], Settings], is_name_drawn: bool) -> None:
+        begin = functools.partial(self._current, is_first=True)
+        try:
+            aside(begin)
         except SetupError:
             # The coordinator of a program that was killed may have made the log since its names were looked for.
             before, self._settings = self._settings.names, settings()
-            if name is not None or self._settings.names == before or is_new_log(path):
+            if not is_name_drawn or self._settings.names == before or is_new_log(self.log):
                 raise
-            self._current(is_first=True)
+            aside(begin)
 
     def __repr__(self) -> str:
         state = "closed" if self._is_closed else "open"
@@ -207,7 +223,7 @@ class TransactionManager:
         """How the transaction of this `gtrid` ended, after an OutcomeUnknown, as the log says: COMMITTED or ROLLED_BACK. UNKNOWN if it
         was one in a single database, of which the log has nothing, or if another run of the program had it. Starts the coordinator
         again if that has ended."""
-        self._current()
+        aside(self._current)
         return self._outcomes.of(gtrid)
 
     def counts(self) -> Dict[str, float]:
@@ -265,6 +281,9 @@ class TransactionManager:
             return
         if current.innermost(self) is not None:
             raise XaError("close() in the block of a transaction: it is to be left first")
+        aside(self._close)
+
+    def _close(self) -> None:
         with self._lock:
             self._is_closed = True
             session, self._session = self._session, None
@@ -326,9 +345,12 @@ class TransactionManager:
             if gtrid is None:
                 session.let_go(thread)
 
-    def note_end(self, transaction: Transaction) -> None:
+    def count_end(self, transaction: Transaction) -> None:
         """A transaction has ended."""
         self._counts.end(transaction, time.monotonic() - transaction.begun)
+
+    def note_end(self, transaction: Transaction) -> None:
+        """It has, and the program's function is called for that."""
         if self._ended is not None:
             try:
                 self._ended(transaction)

@@ -2,13 +2,16 @@
 
 from __future__ import annotations
 
+import functools
 import logging
 import os
+import threading
 import time
 from types import TracebackType
 from typing import TYPE_CHECKING, Callable, Dict, List, Optional, Set, Type, Union
 
 from .adapters.base import Options
+from .aside import aside
 from .branch import Branch
 from .calls import Call
 from .codes import Code
@@ -40,6 +43,10 @@ class _Commits:
         self._session = session
         self._thread = thread
         self._process = os.getpid()
+        # What begins and ends branches, one after the other.
+        self._steps = threading.RLock()
+        #: Whether its thread is given back, so that nobody is in its block any more.
+        self.is_let_go = False
         self._branches = branches
 
     @property
@@ -78,6 +85,10 @@ class Transaction:
         self._session = session
         self._thread = thread
         self._process = os.getpid()
+        # What begins and ends branches, one after the other.
+        self._steps = threading.RLock()
+        #: Whether its thread is given back, so that nobody is in its block any more.
+        self.is_let_go = False
         self._branches: Dict[int, Completion] = {}
         self._looks: List[Callable[[], None]] = []
         # Why it can only be rolled back, where that isn't a branch's own matter.
@@ -95,12 +106,19 @@ class Transaction:
         self._require_time()
         number = self._session.databases.number_of(key)
         if number not in self._branches:
-            self._branches[number] = self._begin_branch(number)
+            aside(functools.partial(self._see_branch, number))
         return self._branches[number].branch
 
     def before_commit(self, look: Callable[[], None]) -> None:
         """Has a function called before the transaction is committed. If it raises an XaError, the transaction is rolled back."""
         self._looks.append(look)
+
+    def _see_branch(self, number: int) -> None:
+        """Sees that there is a branch at a database."""
+        with self._steps:
+            self._require_open()
+            if number not in self._branches:
+                self._branches[number] = self._begin_branch(number)
 
     def _begin_branch(self, number: int) -> Completion:
         label = self._session.databases.label(number)
@@ -130,12 +148,19 @@ class Transaction:
     def __exit__(
         self, kind: Optional[Type[BaseException]], error: Optional[BaseException], trace: Optional[TracebackType]
     ) -> None:
-        if self.outcome is not Outcome.OPEN:
-            return
-        if error is None:
-            self.commit()
-        else:
-            self.rollback()
+        if error is None and self.outcome is Outcome.OPEN:
+            self.look_before_commit()
+        aside(functools.partial(self.leave, error))
+
+    def leave(self, error: Optional[BaseException]) -> None:
+        """Ends it, unless that was done: by a commit, or if there is an exception, by a rollback."""
+        with self._steps:
+            if self.outcome is not Outcome.OPEN:
+                return
+            if error is None:
+                self._commit()
+            else:
+                self._roll_back()
 
     # ** its end
 
@@ -143,9 +168,27 @@ class Transaction:
         """Commits it. Once this returns the decision is in the log, and whatever ends then, each branch is committed. With
         one branch the database decides, and the log has nothing of it. Raises RolledBack, OutcomeUnknown or HeuristicEnd."""
         self._require_open()
+        self.look_before_commit()
+        aside(self._commit)
+
+    def look_before_commit(self) -> None:
+        """Calls the functions that are to look before the commit, unless it is over. Raises RolledBack for the XaError of one of them."""
+        if self.outcome is not Outcome.OPEN:
+            return
         try:
             for look in self._looks:
                 look()
+        except XaError as error:
+            aside(self.roll_back)
+            raise RolledBack(str(error)) from error
+
+    def _commit(self) -> None:
+        with self._steps:
+            self._require_open()
+            self._commit_now()
+
+    def _commit_now(self) -> None:
+        try:
             # What a look has used is a branch as well.
             branches = list(self._branches.values())
             self._require_no_fault(branches)
@@ -168,7 +211,13 @@ class Transaction:
     def rollback(self) -> None:
         """Rolls it back."""
         self._require_open()
-        self._roll_back()
+        aside(self.roll_back)
+
+    def roll_back(self) -> None:
+        """The same, unless it is over. Done by who isn't interrupted."""
+        with self._steps:
+            if self.outcome is Outcome.OPEN:
+                self._roll_back()
 
     def _require_open(self) -> None:
         if os.getpid() != self._process:
