@@ -25,6 +25,9 @@ class Wire:
         self._lock = threading.Lock()
         #: The moment of the monotonic clock when what is under way has had its time. None if nothing is.
         self.due: Optional[float] = None
+        #: The moment when the branch that is at work has had its time, whether or not something is under way: it is cut off then, so that the
+        #: database lets its locks go. None if there is no such branch.
+        self.limit: Optional[float] = None
         #: Whether it was cut off.
         self.is_cut = False
         WATCH.add(self)
@@ -76,9 +79,12 @@ class Watch:
                 wires = list(self._wires)
             now = time.monotonic()
             for wire in wires:
-                due = wire.due
+                due, limit = wire.due, wire.limit
                 if due is not None and now >= due:
                     wire.due = None
+                    wire.cut()
+                elif limit is not None and now >= limit:
+                    wire.limit = None
                     wire.cut()
 
 

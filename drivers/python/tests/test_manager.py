@@ -235,6 +235,20 @@ class Runs(Case):
             self.assertIs(raised.exception.code, Code.RBTIMEOUT)
         self.assertEqual(self.written(), ([], []))
 
+    def test_a_transaction_that_waits_for_something_else_keeps_no_locks_after_its_timeout(self):
+        with self.manager() as xa:
+            with self.assertRaises(RolledBack) as raised:
+                with xa.transaction(timeout=0.2) as t:
+                    t[0].execute("take")
+                    t[1].execute("give")
+                    for database in (self.left, self.right):
+                        database.connections[-1].server.settimeout(3)
+                        # The database sees that the connection is ended.
+                        self.assertEqual(database.connections[-1].server.recv(1), b"")
+            self.assertIs(raised.exception.code, Code.RBTIMEOUT)
+            self.move(xa)
+        self.assertEqual(self.written(), (["take"], ["give"]))
+
     def test_a_statement_that_outlasts_the_timeout(self):
         with self.manager() as xa:
             begun = time.monotonic()

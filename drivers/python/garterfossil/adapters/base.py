@@ -319,6 +319,7 @@ class Connection(abc.ABC):
         code = self._start(xid)
         if code is Code.OK:
             self._xid, self._state, self._fault, self.reason = xid, State.ACTIVE, None, None
+            self._watch(self.limit)
         return code
 
     def _end_branch(self, xid: Xid, is_failed: bool) -> Code:
@@ -326,6 +327,7 @@ class Connection(abc.ABC):
             return Code.NOTA
         if self._state is not State.ACTIVE:
             return Code.PROTO
+        self._watch(None)
         self._end(xid)
         self._state = State.ROLLBACK_ONLY if is_failed else State.IDLE
         return Code.RBROLLBACK if is_failed else Code.OK
@@ -376,7 +378,13 @@ class Connection(abc.ABC):
         self._is_over()
         return code
 
+    def _watch(self, limit: Optional[float]) -> None:
+        """Has the connection cut off at a moment, also if nothing is under way on it then."""
+        if self._wire is not None:
+            self._wire.limit = limit
+
     def _is_over(self) -> None:
+        self._watch(None)
         self._xid, self._state, self._fault, self._is_refused = None, State.NONE, None, False
         self.options, self.limit = Options(), None
 
