@@ -1,0 +1,89 @@
+/* Whether the log is the one that the databases belong to. What another log has decided would be rolled back over it: so
+ * each start looks before the coordinator starts, and a log that was refused once stays refused. */
+#include <stdarg.h>
+#include <stdio.h>
+#include <sys/stat.h>
+
+#include "databases.h"
+#include "garterfossil.h"
+#include "session.h"
+
+void refuse(const char *format, ...)
+{
+    char why[IDENTITY];
+    va_list words;
+
+    va_start(words, format);
+    vsnprintf(why, sizeof why, format, words);
+    va_end(words);
+    refuse_log(why);
+    fail("%s: put the right log back, and delete %s-databases", why, settings.log);
+}
+
+/* Whether a resource manager lists a branch of this name, or can't be asked. */
+static bool lists_ours(int rm)
+{
+    const struct xa_switch_t *xa = settings.rm[rm].xa;
+    char text[XID_TEXT], gtrid[GTRID];
+    long count, flags = TMSTARTRSCAN;
+    XID page[PAGE];
+
+    do {
+        count = xa->xa_recover_entry(page, PAGE, rm, flags);
+        for (long i = 0; i < count; i++)
+            if (is_ours(&page[i], rm, gtrid)) {
+                fail("the log %s is new, and %s lists the branch %s of an earlier one: put that back", settings.log, settings.rm[rm].name,
+                    text_of(&page[i], text));
+                return true;
+            }
+        flags = TMNOFLAGS;
+    } while (count == PAGE);
+    if (count < 0)
+        hinder("xa_recover of %s returned %ld", settings.rm[rm].name, count);
+    return count < 0;
+}
+
+/* A log is made only if each resource manager can be asked. */
+static bool may_be_made(void)
+{
+    for (int rm = 0; rm < settings.rms; rm++) {
+        if (!is_rm_open(keeper, rm)) {
+            hinder("%s", gf_error());
+            return false;
+        }
+        if (lists_ours(rm))
+            return false;
+    }
+    return true;
+}
+
+bool may_begin(void)
+{
+    const char *refusal = refusal_of_log();
+    struct stat it;
+
+    if (refusal != NULL) {
+        fail("%s: put the right log back, and delete %s-databases", refusal, settings.log);
+        return false;
+    }
+    if (stat(settings.log, &it) == 0 && it.st_size > 0)
+        return true;
+    if (last_incarnation() > 0) {
+        fail("the log %s is gone: put it back. (%s-databases says that there was one)", settings.log, settings.log);
+        return false;
+    }
+    return may_be_made();
+}
+
+bool is_log_current(void)
+{
+    if (all.incarnation <= last_incarnation()) {
+        refuse("the log is older than it was: it has started %ld times, and had %ld times", all.incarnation, last_incarnation());
+        return false;
+    }
+    meet_incarnation(all.incarnation);
+    if (save_databases())
+        return true;
+    fail("%s", gf_error());
+    return false;
+}

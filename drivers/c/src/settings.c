@@ -1,0 +1,201 @@
+/* The settings of the process: a file of lines, each a word and what it is to be. */
+#include "settings.h"
+
+#include <dlfcn.h>
+#include <pthread.h>
+#include <stdarg.h>
+#include <stdio.h>
+#include <stdlib.h>
+#include <string.h>
+
+#include "garterfossil.h"
+
+struct settings settings;
+
+static _Thread_local char reason[512];
+static char *path;
+static bool are_read;
+static pthread_mutex_t lock = PTHREAD_MUTEX_INITIALIZER;
+
+void explain(const char *format, ...)
+{
+    va_list words;
+
+    va_start(words, format);
+    vsnprintf(reason, sizeof reason, format, words);
+    va_end(words);
+}
+
+API const char *gf_error(void)
+{
+    return reason;
+}
+
+static bool is_copied(char *to, size_t room, const char *text)
+{
+    return (size_t)snprintf(to, room, "%s", text) < room;
+}
+
+static struct rm *rm_of(const char *name)
+{
+    for (int rm = 0; rm < settings.rms; rm++)
+        if (strcmp(settings.rm[rm].name, name) == 0)
+            return &settings.rm[rm];
+    return NULL;
+}
+
+/* The switch, and beside it, where there is one, a function of its name and `_identity`. */
+static bool is_loaded(struct rm *rm, const char *library, const char *symbol)
+{
+    void *object = dlopen(strcmp(library, "-") == 0 ? NULL : library, RTLD_NOW);
+    char beside[160];
+
+    rm->xa = object == NULL ? NULL : dlsym(object, symbol);
+    if (rm->xa == NULL) {
+        explain("%s: rm %s: %s", path, rm->name, dlerror());
+        return false;
+    }
+    snprintf(beside, sizeof beside, "%s_identity", symbol);
+    /* (C has no conversion from an object to a function.) */
+    *(void **)&rm->identity = dlsym(object, beside);
+    return true;
+}
+
+/* `rm NAME LIBRARY SYMBOL INFO..`; a library `-` is the program itself. */
+static bool is_rm(const char *line, bool is_embedded)
+{
+    char library[256], symbol[128];
+    struct rm *rm = &settings.rm[settings.rms];
+    int info = 0;
+
+    if (settings.rms == MOST_RMS || sscanf(line, "%64s %255s %127s %n", rm->name, library, symbol, &info) != 3 || info == 0) {
+        explain("%s: rm: it takes a name, a library, a symbol, and what xa_open takes", path);
+        return false;
+    }
+    if (rm_of(rm->name) != NULL) {
+        explain("%s: rm %s: there are two of this name", path, rm->name);
+        return false;
+    }
+    if (!is_copied(rm->open, sizeof rm->open, line + info)) {
+        explain("%s: rm %s: what xa_open takes has at most %d bytes", path, rm->name, MAXINFOSIZE - 1);
+        return false;
+    }
+    if (!is_loaded(rm, library, symbol))
+        return false;
+    rm->is_embedded = is_embedded;
+    settings.rms++;
+    return true;
+}
+
+/* `close NAME INFO..` */
+static bool is_close(const char *line)
+{
+    char name[65];
+    int info = 0;
+    bool is_right = sscanf(line, "%64s %n", name, &info) == 1 && info > 0 && rm_of(name) != NULL;
+
+    if (!is_right || !is_copied(rm_of(name)->close, MAXINFOSIZE, line + info)) {
+        explain("%s: close: it takes the name of an rm that stands before it, and what xa_close takes", path);
+        return false;
+    }
+    return true;
+}
+
+static bool is_number(const char *text, double *number, double least, double most)
+{
+    int end = 0;
+
+    return sscanf(text, "%lf%n", number, &end) == 1 && text[end] == '\0' && *number >= least && *number <= most;
+}
+
+/* Whether the word is a setting, and the value is one of it. */
+static bool is_set(const char *word, const char *value)
+{
+    double number = 0;
+
+    if (strcmp(word, "log") == 0)
+        return is_copied(settings.log, sizeof settings.log, value);
+    if (strcmp(word, "program") == 0)
+        return is_copied(settings.program, sizeof settings.program, value);
+    if (strcmp(word, "name") == 0)
+        return is_copied(settings.name, sizeof settings.name, value);
+    if (strcmp(word, "patience") == 0)
+        return is_number(value, &settings.patience, 0.01, 86400);
+    if (strcmp(word, "threads") == 0 && is_number(value, &number, 1, MOST_THREADS)) {
+        settings.threads = (int)number;
+        return settings.threads == number;
+    }
+    return false;
+}
+
+static bool is_read(char *line)
+{
+    char word[16];
+    int begun = 0;
+
+    line[strcspn(line, "\r\n")] = '\0';
+    if (line[strspn(line, " \t")] == '\0' || line[strspn(line, " \t")] == '#')
+        return true;
+    if (sscanf(line, "%15s %n", word, &begun) == 1 && begun > 0) {
+        const char *value = line + begun;
+        if (strcmp(word, "rm") == 0 || strcmp(word, "embedded") == 0)
+            return is_rm(value, word[0] == 'e');
+        if (strcmp(word, "close") == 0)
+            return is_close(value);
+        if (is_set(word, value))
+            return true;
+    }
+    explain("%s: no such setting: %s", path, line);
+    return false;
+}
+
+static bool is_file_read(void)
+{
+    char line[1024];
+    bool is_right = true;
+
+    const char *named = path == NULL ? getenv("GARTERFOSSIL_SETTINGS") : path;
+    FILE *file = named == NULL ? NULL : fopen(named, "re");
+    if (file == NULL) {
+        explain("%s: there are no settings to read", named == NULL ? "GARTERFOSSIL_SETTINGS" : named);
+        return false;
+    }
+    if (path == NULL)
+        path = strdup(named);
+    settings = (struct settings){.program = "xatm", .threads = 8, .patience = 30, .is_traced = getenv("GARTERFOSSIL_TRACE") != NULL};
+    while (is_right && fgets(line, sizeof line, file) != NULL)
+        is_right = is_read(line);
+    fclose(file);
+    if (is_right && (settings.log[0] == '\0' || settings.rms == 0)) {
+        explain("%s: it names no log, or no rm", path);
+        return false;
+    }
+    return is_right;
+}
+
+bool read_settings(void)
+{
+    pthread_mutex_lock(&lock);
+    are_read = are_read || is_file_read();
+    bool is_right = are_read;
+    pthread_mutex_unlock(&lock);
+    return is_right;
+}
+
+API int gf_settings(const char *file)
+{
+    pthread_mutex_lock(&lock);
+    if (!are_read) {
+        free(path);
+        path = strdup(file);
+    }
+    pthread_mutex_unlock(&lock);
+    return read_settings() ? 0 : -1;
+}
+
+API int gf_rmid(const char *name)
+{
+    struct rm *found = read_settings() ? rm_of(name) : NULL;
+
+    return found == NULL ? -1 : (int)(found - settings.rm);
+}

@@ -1,0 +1,176 @@
+/* Whether the log is the one that the databases belong to: another one is refused at each start, and so is another
+ * database. */
+#include <stdio.h>
+#include <string.h>
+#include <sys/wait.h>
+#include <unistd.h>
+
+#include "story.h"
+
+static const char known_rms[] = "rm a - stand_in x\nrm b - stand_in x\n";
+
+static bool is_said(const char *words)
+{
+    if (strstr(gf_error(), words) != NULL)
+        return true;
+    printf("gf_error: %s\n", gf_error());
+    return false;
+}
+
+/* A start in a process of its own, as a supervisor makes it. */
+static int start(const char *words)
+{
+    int status = 1;
+    pid_t pid = fork();
+
+    if (pid == 0) {
+        int found = tx_open();
+        _exit(found == TX_OK ? 0 : is_said(words) ? 2 : 3);
+    }
+    waitpid(pid, &status, 0);
+    return WEXITSTATUS(status);
+}
+
+static void the_file(void)
+{
+    char text[256] = "";
+
+    set_up(known_rms, NULL);
+    stand_in_is(0, "one/bank \"x\" \\ \xc3\xa4");
+    IS(tx_open(), TX_OK);
+    IS(tx_close(), TX_OK);
+    FILE *file = fopen(path_of("log-databases"), "r");
+    IS(file != NULL && fread(text, 1, sizeof text - 1, file) > 0, true);
+    SAYS(text,
+        "{\"a\": {\"kind\": \"stand-in\", \"identity\": \"one/bank \\\"x\\\" \\\\ \xc3\xa4\"},\n"
+        " \"the log\": {\"kind\": \"incarnation\", \"identity\": \"1\"}}\n");
+    fclose(file);
+    IS(tx_open(), TX_OK);
+}
+
+/* That of another driver, with what this one doesn't know. */
+static void the_file_of_another(void)
+{
+    write_file("log-databases",
+        "{ \"a\" : {\"identity\": \"\\u00e4\\ud83d\\ude00\\n\", \"kind\": \"stand-in\"},"
+        "\"x\":{\"kind\":\"y\",\"identity\":\"z\"} }");
+    stand_in_is(0, "\xc3\xa4\xf0\x9f\x98\x80\n");
+    IS(tx_open(), TX_OK);
+    IS(tx_close(), TX_OK);
+    stand_in_is(0, "other");
+    IS(tx_open(), TX_ERROR);
+}
+
+static void a_broken_file(void)
+{
+    static const char *const texts[] = {"", "{", "{\"a\"}", "{\"a\": {\"kind\": 1}}", "{\"a\": {\"kind\": \"k\"}",
+        "{\"a\": {\"kind\": \"\\ud800\"}}", "[]", "{} x", "{\"a\": {\"kind\": \"\\x\"}}", "{\"a\": {\"kind\": \"k"};
+
+    for (size_t i = 0; i < sizeof texts / sizeof texts[0]; i++) {
+        write_file("log-databases", texts[i]);
+        IS(tx_open(), TX_ERROR);
+        IS(is_said("it isn't what a driver has written"), true);
+    }
+}
+
+static void another_database(void)
+{
+    stand_in_is(0, "one");
+    IS(tx_open(), TX_OK);
+    IS(tx_close(), TX_OK);
+    stand_in_is(0, "two");
+    stand_in_journal();
+    IS(tx_open(), TX_ERROR);
+    IS(is_said("a is stand-in two, and the log"), true);
+    SAYS(stand_in_journal(), "xa_open 0, xa_close 0, xa_open 1, xa_close 1"); /* nothing is asked of it */
+    stand_in_is(0, "one");
+    IS(tx_open(), TX_OK);
+    /* Also one that a connection leads to later. */
+    stand_in_is(0, "two");
+    stand_in_answers(0, "xa_start", XAER_RMFAIL, false);
+    IS(tx_begin(), TX_ERROR);
+    IS(tx_begin(), TX_ERROR);
+    IS(is_said("a is stand-in two"), true);
+}
+
+/* A branch of this name is listed, and there is no log: it was lost. */
+static void a_new_log(void)
+{
+    stand_in_lists(0, "7:6300000000000000030000000000000001:0000000100000000");
+    for (int i = 0; i < 4; i++)
+        IS(start("the log"), 2);
+    IS(is_file("log"), false); /* no coordinator has made it */
+    IS(stand_in_prepared(0), 1);
+    /* Those of others don't count. */
+    stand_in_lists(1, "7:6400000000000000030000000000000001:0000000100000001");
+    stand_in_lists(1, "7:6300000000000000030000000000000001:0000000100000000");
+    stand_in_lists(1, "1:61:62");
+}
+
+static void others_branches(void)
+{
+    stand_in_lists(0, "7:6400000000000000030000000000000001:0000000100000000");
+    stand_in_lists(0, "7:6300000000000000030000000000000001:0000000100000001");
+    stand_in_lists(0, "1:61:62");
+    IS(tx_open(), TX_OK);
+    IS(tx_close(), TX_OK);
+    IS(stand_in_prepared(0), 3);
+}
+
+static void a_lost_log(void)
+{
+    IS(start(""), 0);
+    remove(path_of("log"));
+    for (int i = 0; i < 3; i++)
+        IS(start("is gone"), 2);
+    IS(is_file("log"), false);
+}
+
+/* An older one, put back while the file beside it stayed. */
+static void an_older_log(void)
+{
+    for (int i = 0; i < 3; i++)
+        IS(start(""), 0);
+    write_file("log", "{\"incarnation\": 1, \"rows\": {}}");
+    for (int i = 0; i < 5; i++)
+        IS(start("older"), 2);
+    write_file("log", "{\"incarnation\": 3, \"rows\": {}}");
+    IS(start("older"), 2); /* until somebody says so */
+    remove(path_of("log-databases"));
+    IS(start(""), 0);
+}
+
+/* An older one, with what stood beside it: a branch is listed of which it knows nothing. */
+static void an_older_folder(void)
+{
+    write_file("log", "{\"incarnation\": 1, \"rows\": {}}");
+    stand_in_lists(1, "7:6300000000000000040000000000000001:0000000100000001");
+    for (int i = 0; i < 6; i++)
+        IS(start("7:6300000000000000040000000000000001:0000000100000001"), 2);
+    IS(count_told("answer 0 1 xa_rollback"), 0);
+}
+
+/* What an earlier session left is ended as its log says. */
+static void earlier_branches(void)
+{
+    write_file("log",
+        "{\"incarnation\": 4, \"rows\": {\"00000000000000030000000000000001\": "
+        "[\"7:6300000000000000030000000000000001:0000000100000000\"]}}");
+    stand_in_lists(0, "7:6300000000000000030000000000000001:0000000100000000");
+    for (int i = 0; i < 100; i++) {
+        char text[80];
+        snprintf(text, sizeof text, "7:630000000000000003%016x:0000000100000001", 2 + i);
+        stand_in_lists(1, text);
+    }
+    IS(tx_open(), TX_OK);
+    IS(tx_close(), TX_OK);
+    IS(stand_in_prepared(0) + stand_in_prepared(1), 0);
+    IS(count_told("answer 0 0 xa_commit"), 2); /* that of the page, and that of the row */
+    IS(count_told("answer 0 1 xa_rollback"), 100);
+    IS(count_told("done 00000000000000030000000000000001"), 1);
+}
+
+const struct story of_logs[] = {{"logs: the file beside one", the_file}, {"logs: the file of another driver", the_file_of_another},
+    {"logs: a broken file", a_broken_file}, {"logs: another database", another_database}, {"logs: a new one", a_new_log},
+    {"logs: branches of others", others_branches}, {"logs: a lost one", a_lost_log}, {"logs: an older one", an_older_log},
+    {"logs: an older folder", an_older_folder}, {"logs: earlier branches", earlier_branches}, {NULL, NULL}};
