@@ -9,8 +9,8 @@ extern "C" {
 #endif
 
 /* Its branches begin as the transaction does; or, of the second, as gf_mariadb_connection is first called in it. xa_open
- * takes words as `host=..`, with one space between two: host, port, socket, user, password, db, and label, by which a
- * later process finds the connections of this one. */
+ * takes words as `host=..`, with one space between two: host, port, socket, user, password, db, lock_timeout
+ * (seconds), and label, by which a later process finds the connections of this one. */
 extern const struct xa_switch_t gf_mariadb_switch, gf_mariadb_dynamic_switch;
 
 /* The thread's connection, NULL if it has none. It is the resource manager's: the program neither closes it nor ends its

@@ -73,15 +73,28 @@ static void note_failed_start(enum seen seen)
         hinder("the coordinator doesn't start: %s", said);
 }
 
+/* `restarted <incarnation> <decisions> <heuristics>`: notes the incarnation. False if it isn't so. */
+static bool is_greeted(const char *greeting)
+{
+    long incarnation = 0;
+    int end = 0;
+
+    if (greeting == NULL || sscanf(greeting, "restarted %ld %*u %*u%n", &incarnation, &end) != 1 || greeting[end] != '\0' || incarnation < 1)
+        return false;
+    if (incarnation != all.incarnation + 1)
+        all.first_of_own = incarnation;
+    all.incarnation = incarnation;
+    return true;
+}
+
 /* False if it doesn't start; for ever, if what it said says so. */
 static bool is_coordinator_started(void)
 {
     struct command command;
-    int end = 0;
 
     set_command(&command);
     char *greeting = coordinator_start(&coordinator, command.words, &keeper->wake);
-    bool is_up = greeting != NULL && sscanf(greeting, "restarted %ld %*u %*u%n", &all.incarnation, &end) == 1 && greeting[end] == '\0';
+    bool is_up = is_greeted(greeting);
     free(greeting);
     lock();
     keeper->session = coordinator.session;
@@ -116,14 +129,21 @@ static void end_session(void)
         warn(said, "");
 }
 
-/* What became of decisions whose reply never came: the very next session says it, by the rows that it finds. If another
- * process had the log in between, nobody knows. */
+/* What became of a decision whose reply never came: the rows say it, before anything is recovered. If another process had
+ * the log in between, it may have ended the transaction, and that there is no row says nothing. */
+static enum outcome outcome_by_rows(const char *gtrid)
+{
+    if (is_owed(gtrid))
+        return COMMITTED;
+    return incarnation_of(gtrid) >= all.first_of_own ? ROLLED_BACK : UNKNOWN;
+}
+
 static void tell_outcomes(void)
 {
     lock();
     for (struct thread *t = all.threads; t != NULL; t = t->next)
-        if (t->is_expecting && t->outcome == UNKNOWN && incarnation_of(t->gtrid) == all.incarnation - 1)
-            t->outcome = is_owed(t->gtrid) ? COMMITTED : ROLLED_BACK;
+        if (t->is_expecting && t->outcome == UNKNOWN)
+            t->outcome = outcome_by_rows(t->gtrid);
     pthread_cond_broadcast(&all.changed);
     unlock();
 }

@@ -52,6 +52,7 @@ extern struct all {
     bool is_kept, has_failed, is_taken[MOST_THREADS + 1];
     unsigned session; /* that is up, or 0 */
     long incarnation;
+    long first_of_own; /* from this incarnation on each was this process's: nobody else had the log in between */
     struct thread *threads; /* those that have joined */
     char fault[512]; /* why there is no session, or never will be */
     struct {

@@ -38,6 +38,15 @@ static const char *or_null(const char *text)
     return text[0] == '\0' ? NULL : text;
 }
 
+/* A lock that another branch has isn't waited for any longer: no database sees a deadlock that goes over two. */
+static bool is_timeout_set(struct connection *c, const char *seconds)
+{
+    char statement[64];
+
+    snprintf(statement, sizeof statement, "SET SESSION innodb_lock_wait_timeout = %s", seconds);
+    return seconds[0] == '\0' || mysql_query(c->link, statement) == 0;
+}
+
 /* Work outside of a branch would be committed by itself: so one that begins later finds the connection read-only. */
 static bool is_connected(struct connection *c, const struct words *words)
 {
@@ -50,7 +59,7 @@ static bool is_connected(struct connection *c, const struct words *words)
     if (mysql_real_connect(c->link, or_null(words->host), words->user, words->password, or_null(words->db), (unsigned)atoi(words->port),
             or_null(words->socket), 0)
             != NULL
-        && (c->label[0] == '\0' || is_lock_taken(c))
+        && (c->label[0] == '\0' || is_lock_taken(c)) && is_timeout_set(c, words->lock_timeout)
         && (!c->held.is_dynamic || mysql_query(c->link, "SET SESSION TRANSACTION READ ONLY") == 0))
         return true;
     fprintf(stderr, "gf_mariadb: %s\n", mysql_error(c->link));

@@ -27,7 +27,7 @@ char *value_of(MYSQL *, const char *statement);
 
 /* What xa_open takes. */
 struct words {
-    char host[65], port[8], socket[108], user[65], password[65], db[65], label[65];
+    char host[65], port[8], socket[108], user[65], password[65], db[65], label[65], lock_timeout[8];
 };
 bool are_words_read(const char *info, struct words *);
 #endif

@@ -28,7 +28,8 @@ bool are_words_read(const char *info, struct words *to)
 {
     const struct known known[] = {{"host=", to->host, sizeof to->host}, {"port=", to->port, sizeof to->port},
         {"socket=", to->socket, sizeof to->socket}, {"user=", to->user, sizeof to->user}, {"password=", to->password, sizeof to->password},
-        {"db=", to->db, sizeof to->db}, {"label=", to->label, sizeof to->label}};
+        {"db=", to->db, sizeof to->db}, {"label=", to->label, sizeof to->label},
+        {"lock_timeout=", to->lock_timeout, sizeof to->lock_timeout}};
 
     memset(to, 0, sizeof *to);
     while (*info != '\0') {
@@ -37,5 +38,7 @@ bool are_words_read(const char *info, struct words *to)
             return false;
         info += length + (info[length] == ' ');
     }
+    if (strspn(to->lock_timeout, "0123456789") != strlen(to->lock_timeout))
+        return false;
     return strspn(to->label, "abcdefghijklmnopqrstuvwxyz0123456789-_") == strlen(to->label);
 }

@@ -94,6 +94,22 @@ static void it_ends_once_it_has_decided(void)
     IS(stand_in_sum(0) + stand_in_sum(1), 0);
 }
 
+/* The next one is lost, too, before it could tell: the one after that does. */
+static void it_ends_twice(void)
+{
+    IS(tx_open(), TX_OK);
+    BEGIN(5);
+    write_file("log.fail-at", "owed 1");
+    write_file("log.die-at", "decided");
+    IS(tx_commit(), TX_OK);
+    BEGIN(5);
+    write_file("log.fail-at", "owed 1");
+    write_file("log.die-at", "decide");
+    IS(tx_commit(), TX_ROLLBACK);
+    IS(is_settled(), true);
+    IS(stand_in_sum(1), 5);
+}
+
 static void it_ends_in_a_rollback(void)
 {
     IS(tx_open(), TX_OK);
@@ -195,6 +211,6 @@ static void an_embedded_one(void)
 const struct story of_losses[] = {{"losses: the coordinator ends", it_ends}, {"losses: it is silent", it_is_silent},
     {"losses: it is stopped", it_is_stopped}, {"losses: its log fails", its_log_fails}, {"losses: it refuses", it_refuses},
     {"losses: it ends once it has decided", it_ends_once_it_has_decided}, {"losses: it ends in a rollback", it_ends_in_a_rollback},
-    {"losses: it is killed", it_is_killed}, {"losses: it is out of step", it_is_out_of_step},
+    {"losses: it ends twice", it_ends_twice}, {"losses: it is killed", it_is_killed}, {"losses: it is out of step", it_is_out_of_step},
     {"losses: it doesn't start", it_does_not_start}, {"losses: it isn't there", it_is_not_there}, {"losses: one is away", one_is_away},
     {"losses: closed at once", closed_at_once}, {"losses: an embedded one", an_embedded_one}, {NULL, NULL}};
