@@ -157,17 +157,18 @@ static void begin_session(void)
             pause_for(0.1);
         return;
     }
-    if (is_log_current() && read_owed()) {
+    bool is_up = is_log_current() && read_owed();
+    if (is_up) {
         tell_outcomes();
         for (int rm = 0; rm < settings.rms; rm++)
             recover(rm);
         lock();
-        if (!coordinator.is_gone && !all.has_failed)
-            all.session = coordinator.session;
+        is_up = !coordinator.is_gone && !all.has_failed;
+        all.session = is_up ? coordinator.session : 0;
         pthread_cond_broadcast(&all.changed);
         unlock();
     }
-    if (all.session == 0)
+    if (!is_up)
         end_session();
 }
 

@@ -13,7 +13,7 @@
 struct settings settings;
 
 static _Thread_local char reason[512];
-static char *path;
+static char *path, read_from[512];
 static bool are_read;
 static pthread_mutex_t lock = PTHREAD_MUTEX_INITIALIZER;
 
@@ -52,7 +52,7 @@ static bool is_loaded(struct rm *rm, const char *library, const char *symbol)
 
     rm->xa = object == NULL ? NULL : dlsym(object, symbol);
     if (rm->xa == NULL) {
-        explain("%s: rm %s: %s", path, rm->name, dlerror());
+        explain("%s: rm %s: %s", read_from, rm->name, dlerror());
         return false;
     }
     snprintf(beside, sizeof beside, "%s_identity", symbol);
@@ -69,15 +69,15 @@ static bool is_rm(const char *line, bool is_embedded)
     int info = 0;
 
     if (settings.rms == MOST_RMS || sscanf(line, "%64s %255s %127s %n", rm->name, library, symbol, &info) != 3 || info == 0) {
-        explain("%s: rm: it takes a name, a library, a symbol, and what xa_open takes", path);
+        explain("%s: rm: it takes a name, a library, a symbol, and what xa_open takes", read_from);
         return false;
     }
     if (rm_of(rm->name) != NULL) {
-        explain("%s: rm %s: there are two of this name", path, rm->name);
+        explain("%s: rm %s: there are two of this name", read_from, rm->name);
         return false;
     }
     if (!is_copied(rm->open, sizeof rm->open, line + info)) {
-        explain("%s: rm %s: what xa_open takes has at most %d bytes", path, rm->name, MAXINFOSIZE - 1);
+        explain("%s: rm %s: what xa_open takes has at most %d bytes", read_from, rm->name, MAXINFOSIZE - 1);
         return false;
     }
     if (!is_loaded(rm, library, symbol))
@@ -95,7 +95,7 @@ static bool is_close(const char *line)
     bool is_right = sscanf(line, "%64s %n", name, &info) == 1 && info > 0 && rm_of(name) != NULL;
 
     if (!is_right || !is_copied(rm_of(name)->close, MAXINFOSIZE, line + info)) {
-        explain("%s: close: it takes the name of an rm that stands before it, and what xa_close takes", path);
+        explain("%s: close: it takes the name of an rm that stands before it, and what xa_close takes", read_from);
         return false;
     }
     return true;
@@ -145,7 +145,7 @@ static bool is_read(char *line)
         if (is_set(word, value))
             return true;
     }
-    explain("%s: no such setting: %s", path, line);
+    explain("%s: no such setting: %s", read_from, line);
     return false;
 }
 
@@ -160,14 +160,13 @@ static bool is_file_read(void)
         explain("%s: there are no settings to read", named == NULL ? "GARTERFOSSIL_SETTINGS" : named);
         return false;
     }
-    if (path == NULL)
-        path = strdup(named);
+    snprintf(read_from, sizeof read_from, "%s", named);
     settings = (struct settings){.program = "xatm", .threads = 8, .patience = 30, .is_traced = getenv("GARTERFOSSIL_TRACE") != NULL};
     while (is_right && fgets(line, sizeof line, file) != NULL)
         is_right = is_read(line);
     fclose(file);
     if (is_right && (settings.log[0] == '\0' || settings.rms == 0)) {
-        explain("%s: it names no log, or no rm", path);
+        explain("%s: it names no log, or no rm", read_from);
         return false;
     }
     return is_right;
@@ -184,13 +183,18 @@ bool read_settings(void)
 
 API int gf_settings(const char *file)
 {
+    bool is_kept = true;
+
     pthread_mutex_lock(&lock);
     if (!are_read) {
         free(path);
         path = strdup(file);
+        is_kept = path != NULL;
     }
     pthread_mutex_unlock(&lock);
-    return read_settings() ? 0 : -1;
+    if (!is_kept)
+        explain("no memory");
+    return is_kept && read_settings() ? 0 : -1;
 }
 
 API int gf_rmid(const char *name)
