@@ -47,6 +47,8 @@ class ResourceManager:
         # is left alone.
         self._undone: Dict[Xid, None] = {}
         self._put_off: Dict[Xid, float] = {}
+        # Whether the program has never had a connection to it yet, by which it could see how it keeps what it is told.
+        self._is_unseen = False
         #: What was found against it before the session.
         self.objection: Optional[Exception] = None
         #: The branches of the manager that it listed then; None if nobody knows.
@@ -68,6 +70,9 @@ class ResourceManager:
                 connection = self._database.connect(self.place)
                 try:
                     self._see_identity(connection, keep=True)
+                    if self._is_unseen:
+                        with connection.timed(self.place.patience):
+                            self._see_durable(connection)
                     if self._has_strays:
                         self._end_strays(connection)
                 except BaseException:
@@ -84,6 +89,12 @@ class ResourceManager:
         if self._identities is not None:
             with connection.timed(self.place.patience):
                 self._identities.see(self.number, self.label, self._database, connection, keep)
+
+    def _see_durable(self, connection: Connection) -> None:
+        """Warns of what the database may lose, once. Raises SetupError if that is too much."""
+        for text in connection.see_durable():
+            log.warning("%s: %s", self.label, text)
+        self._is_unseen = False
 
     def _end_strays(self, new: Connection) -> None:
         ended = self._database.end_connections(self._kept | {new.number}, self.place)
@@ -146,7 +157,7 @@ class ResourceManager:
             self._put_off = {xid: until for xid, until in self._put_off.items() if until > now}
             return set(self._put_off)
 
-    def look(self) -> None:
+    def look(self, is_first: bool) -> None:
         """Looks, before a session, whether a connection is to be had, whether the database is the one that the log belongs to, and what it
         lists of the manager's, which is then in `listed`. What is against it is in `objection`."""
         self.objection, self.listed = None, None
@@ -155,8 +166,11 @@ class ResourceManager:
             try:
                 self._see_identity(connection, keep=False)
                 with connection.timed(self.place.patience):
+                    if is_first:
+                        self._see_durable(connection)
                     self.listed = connection.listed()
             finally:
                 connection.close()
         except Exception as error:
             self.objection = error
+            self._is_unseen = is_first

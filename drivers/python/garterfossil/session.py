@@ -96,7 +96,7 @@ class Session:
         """Looks at the databases, at the log and at the mirror before the coordinator starts: each start raises the log's incarnation, so
         that after some of them an older log would pass for a newer one. If the log is new, all databases have to be looked at. How a
         database is set up is said at the first start."""
-        looks = [threading.Thread(target=rm.look, daemon=True) for rm in self._rms]
+        looks = [threading.Thread(target=rm.look, args=[is_first], daemon=True) for rm in self._rms]
         for look in looks:
             look.start()
         for look in looks:

@@ -26,6 +26,8 @@ class FakeDatabase(Database):
         self.refuses = None
         #: How each branch was to run.
         self.modes = []
+        #: What it warns of, or why it may lose what it votes for.
+        self.worries = []
         #: What it calls itself.
         self.identity = None
 
@@ -117,6 +119,11 @@ class FakeConnection(Connection):
 
     def _descriptor(self):
         return self.socket.fileno()
+
+    def see_durable(self):
+        if isinstance(self.database.worries, Exception):
+            raise self.database.worries
+        return self.database.worries
 
     def identity(self, kept):
         return self.database.identity

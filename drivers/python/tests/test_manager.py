@@ -337,6 +337,37 @@ class Runs(Case):
                 self.assertEqual([event[1] for event in events if event in ([rm, call], [rm, made])], [call, made] * 2)
 
 
+class Durable(Case):
+    """Databases that may lose what they have voted for."""
+
+    def test_what_may_be_lost_is_warned_of_once(self):
+        self.left.worries = ["fsync = off: all may be lost"]
+        with self.assertLogs("garterfossil", logging.WARNING) as logged:
+            with self.manager() as xa:
+                self.move(xa)
+                xa._session.coordinator.kill()
+                self.move(xa)
+        self.assertEqual(len([line for line in logged.output if "fsync" in line and "database 0" in line]), 1)
+
+    def test_one_that_loses_votes_is_refused(self):
+        self.right.worries = SetupError("it loses votes")
+        for _ in range(2):
+            with self.assertRaisesRegex(SetupError, "loses votes"):
+                self.manager()
+        self.assertFalse(os.path.exists(self.log))
+
+    def test_one_that_was_down_at_the_start_is_looked_at_later(self):
+        self.manager().close()
+        self.right.is_up, self.right.worries = False, SetupError("it loses votes")
+        with self.manager(patience=0.5) as xa:
+            self.right.is_up = True
+            with self.assertRaisesRegex(SetupError, "loses votes"):
+                self.move(xa)
+            self.right.worries = []
+            self.move(xa)
+        self.assertEqual(self.written(), (["take"], ["give"]))
+
+
 class Stopped(Case):
     """A coordinator that is stopped (SIGSTOP), or whose disk hangs."""
 

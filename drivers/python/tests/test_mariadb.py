@@ -45,6 +45,8 @@ class Server:
         #: By its name, the connection that holds a lock.
         self.locks = {}
         self.is_in_cluster = False
+        self.variables, self.tables = {"innodb_flush_log_at_trx_commit": "1"}, []
+        self.identity, self.uid, self.may_create = None, "AbC=", True
         #: What XA RECOVER lists besides, of other programs.
         self.others = []
 
@@ -129,6 +131,20 @@ class Cursor:
         xa = re.fullmatch(r"XA (\w+) (X'.*?',X'.*?',7)( ONE PHASE)?", statement)
         if statement == "XA RECOVER FORMAT='SQL'":
             self.rows = self.server.others + [(7, 16, 8, text) for text, (state, _) in self.server.branches.items() if state == "PREPARED"]
+        elif statement.startswith("SHOW GLOBAL VARIABLES WHERE"):
+            self.rows = list(self.server.variables.items())
+        elif statement.startswith("SELECT TABLE_NAME, ENGINE"):
+            self.rows = self.server.tables
+        elif statement == "SHOW GLOBAL VARIABLES LIKE 'server_uid'":
+            self.rows = [("server_uid", self.server.uid)] if self.server.uid else []
+        elif statement.startswith("SELECT id FROM garterfossil_identity"):
+            if self.server.identity is None:
+                raise error(1146)
+            self.rows = [(self.server.identity,)]
+        elif statement.startswith("CREATE SQL SECURITY INVOKER VIEW"):
+            if not self.server.may_create:
+                raise error(1142)
+            self.server.identity = self.server.identity or statement.split("'")[1]
         elif statement == "SHOW VARIABLES LIKE 'wsrep_on'":
             self.rows = [("wsrep_on", "ON" if self.server.is_in_cluster else "OFF")]
         elif statement.startswith("SELECT GET_LOCK("):
@@ -303,6 +319,34 @@ class MariaDBs(unittest.TestCase):
         self.do(f"xa_prepare {XID}")
         self.assertEqual([str(xid) for xid in self.connection.all_listed()], ["1:00ff:62", "4:2278:79", "5:67:62", XID])
         self.assertEqual([str(xid) for xid in self.connection.listed()], [XID])
+
+    def test_what_may_be_lost(self):
+        self.assertEqual(self.connection.see_durable(), [])
+        self.server.variables["innodb_flush_log_at_trx_commit"] = "2"
+        self.server.tables = [("old", "MyISAM")]
+        flush, tables = self.connection.see_durable()
+        self.assertIn("innodb_flush_log_at_trx_commit = 2", flush)
+        self.assertIn("old (MyISAM)", tables)
+        self.server.variables["innodb_flush_log_at_trx_commit"] = "0"
+        with self.assertRaisesRegex(SetupError, "innodb_flush_log_at_trx_commit"):
+            self.connection.see_durable()
+
+    def test_a_database_has_an_identity_of_its_own_from_its_first_use(self):
+        first = self.connection.identity(None)
+        self.assertEqual(self.database.connect().identity(first), first)
+        self.assertIn(self.server.identity, first)
+        self.server.identity = None
+        self.assertNotEqual(self.connection.identity(first), first)
+
+    def test_where_none_can_be_made_it_is_the_servers(self):
+        self.server.may_create = False
+        kept = self.connection.identity(None)
+        self.assertIn("AbC=", kept)
+        # It stays that, also if one could be made by now.
+        self.server.may_create = True
+        self.assertEqual(self.connection.identity(kept), kept)
+        self.server.may_create, self.server.uid = False, None
+        self.assertIsNone(self.connection.identity(None))
 
     def test_a_connection_that_is_lost(self):
         self.worked()

@@ -199,6 +199,20 @@ class PostgreSQLs(unittest.TestCase):
             self.do(f"xa_prepare {XID}")
         self.assertEqual([it for it in self.link.statements if it.startswith("PREPARE")], [])
 
+    def test_what_may_be_lost(self):
+        self.link.says.update({"SHOW": [("on",)], "SELECT c.oid": []})
+        self.assertEqual(self.connection.see_durable(), [])
+        self.link.says.update({"SHOW": [("off",)], "SELECT c.oid": [("cache",)]})
+        said = self.connection.see_durable()
+        self.assertEqual([text.split(" ")[0] for text in said], ["fsync", "full_page_writes", "synchronous_commit", "tables"])
+        self.assertIn("cache", said[-1])
+
+    def test_what_the_database_calls_itself(self):
+        self.link.says["SELECT system_identifier"] = [(7714107633713814263, 5)]
+        self.assertIn("7714107633713814263", self.connection.identity(None))
+        self.link.says["SELECT system_identifier"] = psycopg2.ProgrammingError("42501")
+        self.assertIsNone(self.connection.identity(None))
+
     def test_pages_are_in_order_and_leave_out_other_names(self):
         self.link.says["SELECT gid"] = [(OTHER,), ("somebody else's",), (XID,)]
         answer = self.connection.do(Call.parse("xa_recover 1 TMSTARTRSCAN"))

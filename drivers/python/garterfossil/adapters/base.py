@@ -428,6 +428,11 @@ class Connection(abc.ABC):
         """What the database has warned of since this was asked last."""
         return []
 
+    def see_durable(self) -> List[str]:
+        """Looks at settings and tables by which the database may lose what it has voted for, or what it said is committed: what a warning
+        is to say. Raises SetupError if it may do so whenever its own process is killed."""
+        return []
+
     def identity(self, kept: Optional[str]) -> Optional[str]:
         """What the database calls itself, which no other one does: the same as what was kept of it, if it is the same. None if it has
         nothing of the kind."""

@@ -28,6 +28,8 @@ VOTES = {
     CHECK_FAILED: Code.RBINTEGRITY,
 }
 NO_SUCH_TABLE = 1146
+#: So many tables are named in a warning.
+MOST_NAMED = 10
 #: The view in a database that says which one it is, and how a server says that of itself.
 IDENTITY = "garterfossil_identity"
 SERVER = "the server"
@@ -283,6 +285,28 @@ class MariaDBConnection(Connection):
 
     def _listed(self) -> List[Xid]:
         return [xid for xid in map(xid_of, self.run("XA RECOVER FORMAT='SQL'")) if xid is not None]
+
+    def see_durable(self) -> List[str]:
+        names = ("innodb_flush_log_at_trx_commit", "innodb_doublewrite", "default_storage_engine")
+        rows = self.run("SHOW GLOBAL VARIABLES WHERE Variable_name IN %s", [names]).rows
+        found = {name.lower(): value for name, value in rows}
+        flush = found.get(names[0], "1")
+        if flush == "0":
+            raise SetupError(f"{names[0]} of MariaDB is 0: a branch that it has voted for is lost if it is killed. Set it to 1")
+        said = []
+        if flush != "1":
+            said.append(f"{names[0]} = {flush}: what it has voted for, and what is committed, may be lost with its machine's power")
+        if found.get(names[1], "ON") == "OFF":
+            said.append(f"{names[1]} = OFF: what it has voted for may be damaged if its machine's power fails")
+        if found.get(names[2], "InnoDB") != "InnoDB":
+            said.append(f"{names[2]} = {found[names[2]]}: such tables keep what is rolled back")
+        tables = self.run(
+            "SELECT TABLE_NAME, ENGINE FROM information_schema.TABLES WHERE TABLE_SCHEMA = DATABASE() AND TABLE_TYPE = 'BASE TABLE'"
+            f" AND ENGINE IN ('MyISAM', 'Aria', 'MEMORY', 'CSV', 'MRG_MyISAM') ORDER BY 1 LIMIT {MOST_NAMED}"
+        ).rows
+        if tables:
+            said.append("tables that keep what is rolled back: " + ", ".join(f"{name} ({engine})" for name, engine in tables))
+        return said
 
     def identity(self, kept: Optional[str]) -> Optional[str]:
         # What the server calls itself changes with its machine. So it is only taken where the database can't have a name of its own.

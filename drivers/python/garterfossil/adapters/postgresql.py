@@ -26,6 +26,14 @@ NO_SUCH_BRANCH = "42704"
 OTHER_DATABASE, OTHER_USER = "0A000", "42501"
 #: A setting by which a branch's transaction is known.
 MARK = "garterfossil.branch"
+#: What PostgreSQL may lose while a setting is off.
+LOSSES = {
+    "fsync": "what it has voted for, and what is committed, may be lost with its machine's power",
+    "full_page_writes": "what it has voted for, and what is committed, may be damaged if its machine's power fails",
+    "synchronous_commit": "a transaction in this database alone may be told as committed, and be lost in a crash",
+}
+#: So many tables are named in a warning.
+MOST_NAMED = 10
 #: libpq's PQTRANS_IDLE and PQTRANS_INERROR.
 IDLE, IN_ERROR = 0, 3
 
@@ -290,6 +298,15 @@ class PostgreSQLConnection(Connection):
     def _listed(self) -> List[Xid]:
         rows = self.run("SELECT gid FROM pg_prepared_xacts WHERE database = current_database()")
         return xids_in(gid for gid, in rows)
+
+    def see_durable(self) -> List[str]:
+        said = [f"{name} = off: {loss}" for name, loss in LOSSES.items() if self.run(f"SHOW {name}").rows == [("off",)]]
+        tables = self.run(
+            "SELECT c.oid::regclass::text FROM pg_class c JOIN pg_namespace n ON n.oid = c.relnamespace"
+            f" WHERE c.relpersistence = 'u' AND c.relkind IN ('r', 'p') ORDER BY 1 LIMIT {MOST_NAMED}"
+        ).rows
+        names = ", ".join(str(name) for name, in tables)
+        return [*said, f"tables that are UNLOGGED are empty after a crash: {names}"] if tables else said
 
     def identity(self, kept: Optional[str]) -> Optional[str]:
         try:
