@@ -66,10 +66,10 @@ class Tour:
         for place, name in places:
             setattr(place, name, functools.partial(self.done_before, getattr(place, name), moment, do))
 
-    def done_before(self, step, moment, do, words):
+    def done_before(self, step, moment, do, words, *more):
         if moment in str(words) and do:
             do.pop()()
-        return step(words)
+        return step(words, *more)
 
     def at(self, moment, do, xa=None):
         """Has something done at a moment: before the first call or request of this name, or behind the decision to commit."""
@@ -389,10 +389,13 @@ class Tour:
         print(f"{'ok   ' if seconds <= most else 'WRONG'} {name}: {seconds:.1f} seconds, at most {most:.1f}", flush=True)
 
     def goes_on(self):
-        """The next transaction of the same program, before which what is due is recovered."""
+        """The next transaction of the same program; and what is due is recovered beside it."""
         time.sleep(1.1)
         with self.xa.transaction() as t:
             self.write(t, 0, 1)
+        until = time.monotonic() + 15
+        while self.xa.counts()["owed"] and time.monotonic() < until:
+            time.sleep(0.05)
         if self.holds(t.gtrid) != BOTH:
             self.told("the next transaction", t, BOTH)
 
@@ -427,7 +430,8 @@ class Tour:
             if line is not t._branches[rm].line:
                 # MariaDB lets no other connection end the branch while its own one lives.
                 t._branches[rm].line.lose()
-            line.make_ready()
+            # The driver's own scans leave out what their session has prepared.
+            line.make_ready().scanned_before = None
             line.call(Call("xa_recover", count=32, flags=("TMSTARTRSCAN", "TMENDRSCAN")))
             line.see_heard()
             for _ in range(int(session.coordinator.ask(f"resolve-open {rm}").split(" ")[1])):

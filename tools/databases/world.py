@@ -119,7 +119,7 @@ class World:
 
     def prepare(self):
         """Makes the tables anew, with 1,000 on each account, and a new log."""
-        for path in (self.log, f"{self.log}-wal", f"{self.log}-resources", f"{self.home}/told"):
+        for path in (self.log, f"{self.log}-wal", f"{self.log}-databases", f"{self.home}/told"):
             if os.path.exists(path):
                 os.remove(path)
         from garterfossil.adapters.base import Place

@@ -7,6 +7,7 @@ import functools
 import logging
 import os
 import random
+import signal
 import threading
 import time
 from types import TracebackType
@@ -34,7 +35,7 @@ from .aside import ASIDE, aside
 from .block import Block
 from .counts import Counts
 from .databases import NAME, Databases
-from .errors import CoordinatorGone, LogInUse, NestedTransaction, SetupError, TransactionOver, XaError
+from .errors import CoordinatorGone, LogInUse, NestedTransaction, Overdue, SetupError, TransactionOver, XaError
 from .coordinator import serve_command
 from .line import PAUSE
 from .logs import Names, free_log, is_new_log, names_for
@@ -274,25 +275,56 @@ class TransactionManager:
         databases = self._settings.databases
         return databases[databases.number_of(key)]
 
-    def close(self) -> None:
-        """Ends the coordinator, once all transactions are over. Raises Overdue if they aren't within the patience: they are rolled
-        back. Raises XaError, and does nothing, in a block of a transaction. In another process than its own does nothing."""
+    def close(self, patience: Optional[float] = None) -> None:
+        """Ends the coordinator, once all transactions are over. Raises Overdue if they aren't within so many seconds, or the patience: they
+        are rolled back then, and nothing stays prepared at a database that can be reached. Raises XaError, and does nothing, in a
+        block of a transaction. In another process than its own does nothing."""
         if os.getpid() != self._process:
             return
         if current.innermost(self) is not None:
             raise XaError("close() in the block of a transaction: it is to be left first")
-        aside(self._close)
+        aside(functools.partial(self._close, patience))
 
-    def _close(self) -> None:
+    def _close(self, patience: Optional[float] = None) -> None:
         with self._lock:
             self._is_closed = True
             session, self._session = self._session, None
         try:
             if session is not None and not session.coordinator.is_gone:
-                session.close()
+                session.close(patience)
+        except Overdue:
+            self._end_what_was_left()
+            raise
         finally:
             if self._worker is not None:
                 self._worker.close()
+
+    def _end_what_was_left(self) -> None:
+        """Ends what open transactions had prepared, or had begun: by a session that does nothing else, as the next start would."""
+        try:
+            Session(self._settings, self._outcomes).close()
+        except XaError as error:
+            log.warning("what open transactions left is ended by the next start: %s", error)
+
+    def close_at(self, number: int = signal.SIGTERM, patience: Optional[float] = None) -> None:
+        """Has the manager closed at a signal, as a service manager sends it to stop the program: open transactions have so many seconds
+        to end, or the patience. Then the signal does what it did before. To be called by the main thread."""
+        before = signal.getsignal(number)
+
+        def close(*_: Any) -> None:
+            # A second one does at once what it did before.
+            signal.signal(number, before)
+            threading.Thread(target=self._close_for, args=[number, patience], name="garterfossil close").start()
+
+        signal.signal(number, close)
+
+    def _close_for(self, number: int, patience: Optional[float]) -> None:
+        try:
+            self._close(patience)
+        except XaError as error:
+            log.warning("%s", error)
+        finally:
+            os.kill(os.getpid(), number)
 
     # ** for the blocks of transactions
 

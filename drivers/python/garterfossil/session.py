@@ -276,10 +276,11 @@ class Session:
 
     # ** its end
 
-    def close(self) -> None:
-        """Ends the session, once all transactions are over. Where they aren't within the patience, ends it all the same and raises
-        Overdue: the next session rolls them back."""
-        until = time.monotonic() + self.patience
+    def close(self, patience: Optional[float] = None) -> None:
+        """Ends the session, once all transactions are over. Where they aren't within so many seconds, or the patience, ends it all the same
+        and raises Overdue: the next session rolls them back."""
+        seconds = self.patience if patience is None else patience
+        until = time.monotonic() + seconds
         self.keeper.finish(until)
         try:
             with self.threads.all(until):
@@ -290,7 +291,9 @@ class Session:
                 self._leave()
         except Overdue as error:
             self.coordinator.quit()
-            raise Overdue(f"transactions were open for {self.patience} seconds after the end: they are rolled back") from error
+            if self.mirror is not None:
+                self.mirror.close()
+            raise Overdue(f"transactions were open for {seconds} seconds after the end: they are rolled back") from error
 
     def _try_to_recover(self, rm: ResourceManager) -> None:
         try:

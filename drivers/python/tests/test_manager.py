@@ -1,5 +1,6 @@
 """The transaction manager's life: what it is given, how it starts, what it does for transactions, and its end."""
 
+import contextlib
 import logging
 import os
 import signal
@@ -12,6 +13,7 @@ import unittest
 from garterfossil import (
     Code,
     ConnectionLost,
+    CoordinatorGone,
     LogInUse,
     NestedTransaction,
     Outcome,
@@ -401,6 +403,59 @@ class Ends(Case):
                 xa.close()
         xa.close()
         self.assertEqual(self.left.written, ["take"])
+
+    def test_a_transaction_that_another_thread_leaves_open_keeps_nothing_prepared(self):
+        xa = self.manager(patience=0.3)
+        is_there, may_go_on = threading.Event(), threading.Event()
+
+        def prepared(*_):
+            is_there.set()
+            may_go_on.wait(10)
+            raise CoordinatorGone("it was closed meanwhile")
+
+        def keep():
+            with contextlib.suppress(XaError):
+                with xa.transaction() as t:
+                    t[0].execute("take")
+                    t[1].execute("give")
+                    # It stands between its votes and its decision.
+                    xa._session.commits.decide = prepared
+
+        thread = threading.Thread(target=keep)
+        thread.start()
+        is_there.wait(10)
+        self.assertEqual((len(self.left.prepared), len(self.right.prepared)), (1, 1))
+        with self.assertRaises(Overdue):
+            xa.close()
+        self.assertEqual((self.left.prepared, self.right.prepared), ({}, {}))
+        may_go_on.set()
+        thread.join()
+        self.assertEqual(self.written(), ([], []))
+
+    def test_a_signal_closes_it_and_then_does_what_it_did_before(self):
+        seen, closed = [], threading.Event()
+
+        def before(*_):
+            seen.append(xa._is_closed)
+            closed.set()
+
+        self.addCleanup(signal.signal, signal.SIGTERM, signal.signal(signal.SIGTERM, before))
+        xa = self.manager(patience=5.0)
+        xa.close_at(signal.SIGTERM)
+        with xa.transaction() as t:
+            t[0].execute("take")
+            os.kill(os.getpid(), signal.SIGTERM)
+            time.sleep(0.2)
+            # What is open may end.
+            self.assertEqual(seen, [])
+            t[1].execute("give")
+        until = time.monotonic() + 10
+        while not closed.is_set() and time.monotonic() < until:
+            time.sleep(0.01)
+        self.assertEqual(seen, [True])
+        self.assertEqual(self.written(), (["take"], ["give"]))
+        with self.assertRaises(CoordinatorGone):
+            self.move(xa)
 
     def test_a_transaction_that_another_thread_leaves_open_does_not_keep_the_coordinator(self):
         xa = self.manager(patience=0.3)
