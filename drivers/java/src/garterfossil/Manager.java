@@ -271,6 +271,7 @@ public final class Manager implements AutoCloseable {
 
     private void tick() {
         seeDone(() -> {
+            rms.forEach(ResourceManager::tidy);
             if (!isClosed) {
                 session().tick();
             }
@@ -409,8 +410,13 @@ public final class Manager implements AutoCloseable {
     }
 
     /** A connection for work outside of any transaction. */
+    public Borrowed borrow(Resource resource) throws Fault {
+        return borrow(resource, resource.pooling().wait);
+    }
+
+    /** The same, which waits so long for one. */
     public Borrowed borrow(Resource resource, Duration patience) throws Fault {
-        return resourceManager(resource).borrow(patience);
+        return resourceManager(resource).borrowOutside(patience);
     }
 
     /** Ends it: no transaction begins any more. Waits for what is under way, and rolls back what is open after {@link Builder#grace}. */

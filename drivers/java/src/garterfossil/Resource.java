@@ -27,6 +27,15 @@ public interface Resource {
     /** How many connections it may have at a time. */
     int maxConnections();
 
+    /** How long its connections are waited for, and kept. */
+    default Pooling pooling() {
+        return Pooling.usual();
+    }
+
+    /** A session begins: {@link #endOthers} ends what other pools have, too, as far as that was there before. */
+    default void startAnew() {
+    }
+
     /** How long it may be silent, as a connection is made or in one of XA's calls. */
     default Duration patience() {
         return Duration.ofSeconds(10);

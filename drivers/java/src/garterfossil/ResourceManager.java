@@ -16,23 +16,26 @@ import javax.transaction.xa.XAResource;
 
 /** A resource under its number, with a pool of connections to it. */
 final class ResourceManager {
-    /** A connection that was idle for longer is asked whether it still works before it is used. */
-    private static final long FRESH = TimeUnit.SECONDS.toNanos(20);
     /** For so long a connection that is being made is waited for, by whoever wants one. */
     private static final long LONGEST = TimeUnit.SECONDS.toNanos(60);
 
     private static final class Idle {
         final Link link;
-        final long since = System.nanoTime();
+        final long born, since = System.nanoTime();
 
-        Idle(Link link) {
+        Idle(Link link, long born) {
             this.link = link;
+            this.born = born;
         }
     }
 
     final int number;
     final Resource resource;
     private final Semaphore places;
+    private final Pooling pooling;
+    private final Holders holders = new Holders();
+    // Since then a connection was lost: others may be, too.
+    private volatile long lostAt = System.nanoTime();
     // Under the monitor of this object.
     private final ArrayDeque<Idle> idle = new ArrayDeque<>();
     private int session;
@@ -42,12 +45,15 @@ final class ResourceManager {
     // One that took too long, or null; under that lock.
     private Attempt pending;
     private final Set<Long> kept = ConcurrentHashMap.newKeySet();
+    // Those of them that are lent for work outside of transactions.
+    private final Set<Long> outside = ConcurrentHashMap.newKeySet();
     // Connections that are no one's any more may be there: those of earlier managers, and later those that were lost.
     private volatile boolean hasStrays = true;
 
     ResourceManager(int number, Resource resource) {
         this.number = number;
         this.resource = resource;
+        pooling = resource.pooling();
         places = new Semaphore(resource.maxConnections(), true);
     }
 
@@ -63,7 +69,7 @@ final class ResourceManager {
         try {
             if (!places.tryAcquire() && !places.tryAcquire(patience.toNanos(), TimeUnit.NANOSECONDS)) {
                 throw new Fault.Unavailable("all " + resource.maxConnections() + " connections to " + this + " are in use for "
-                    + patience.toSeconds() + " s. Let the pool have more, or end transactions sooner");
+                    + patience.toSeconds() + " s, by " + holders + ". Let the pool have more, or end transactions sooner");
             }
         } catch (InterruptedException error) {
             Thread.currentThread().interrupt();
@@ -71,28 +77,57 @@ final class ResourceManager {
         }
         try {
             int lentIn = session();
-            Link link = fromPool();
-            return new Lease(link != null ? link : connect(patience), lentIn);
+            Idle found = fromPool();
+            return found != null ? new Lease(found.link, lentIn, found.born) : new Lease(connect(patience), lentIn, System.nanoTime());
         } catch (Fault | RuntimeException | Error error) {
             places.release();
             throw error;
         }
     }
 
-    private Link fromPool() {
+    private Idle fromPool() {
         while (true) {
             Idle found;
             synchronized (this) {
                 found = idle.pollLast();
             }
-            if (found == null) {
-                return null;
-            }
-            if (System.nanoTime() - found.since < FRESH || found.link.isUsable()) {
-                return found.link;
+            if (found == null || isFresh(found) || found.link.isUsable()) {
+                return found;
             }
             discard(found.link);
         }
+    }
+
+    private boolean isFresh(Idle it) {
+        return it.since - lostAt > 0 && System.nanoTime() - it.since < pooling.test.toNanos();
+    }
+
+    /** Closes what is idle for too long, or too old, and warns of what is in use for too long. */
+    void tidy() {
+        ArrayDeque<Idle> over = new ArrayDeque<>();
+        long now = System.nanoTime();
+        synchronized (this) {
+            idle.removeIf(it -> (now - it.since > pooling.idle.toNanos() || now - it.born > pooling.life.toNanos()) && over.add(it));
+        }
+        over.forEach(it -> discard(it.link));
+        holders.warn(this, pooling.leak);
+    }
+
+    int idle() {
+        synchronized (this) {
+            return idle.size();
+        }
+    }
+
+    int used() {
+        return holders.count();
+    }
+
+    /** A connection for work outside of any transaction: it stays while sessions come and go. */
+    Lease borrowOutside(Duration patience) throws Fault {
+        Lease lease = borrow(patience);
+        outside.add(lease.link.number());
+        return lease;
     }
 
     private synchronized int session() {
@@ -103,11 +138,14 @@ final class ResourceManager {
     final class Lease implements Borrowed {
         final Link link;
         private final int lentIn;
+        private final long born;
         private boolean isOver;
 
-        private Lease(Link link, int lentIn) {
+        private Lease(Link link, int lentIn, long born) {
             this.link = link;
             this.lentIn = lentIn;
+            this.born = born;
+            holders.add(this, pooling.leak.compareTo(Duration.ofDays(365)) < 0);
         }
 
         ResourceManager owner() {
@@ -137,14 +175,18 @@ final class ResourceManager {
         /** For the next one. False if it can't be kept. */
         private boolean keep() {
             synchronized (ResourceManager.this) {
-                return lentIn == session && !isClosed && idle.offerLast(new Idle(link));
+                return lentIn == session && !isClosed && System.nanoTime() - born < pooling.life.toNanos()
+                    && idle.offerLast(new Idle(link, born));
             }
         }
 
         /** Its place is free, whatever becomes of the connection. */
         private void leave(boolean isKept) {
+            holders.remove(this);
+            outside.remove(link.number());
             try {
                 if (!isKept) {
+                    lostAt = link.isLetOut() ? lostAt : System.nanoTime();
                     discard(link);
                 }
             } finally {
@@ -296,7 +338,8 @@ final class ResourceManager {
             idle.clear();
         }
         old.forEach(it -> it.link.close());
-        kept.clear();
+        kept.retainAll(outside);
+        resource.startAnew();
         hasStrays = true;
         if (connecting.tryLock()) {
             // It would be taken for one of the last session's.

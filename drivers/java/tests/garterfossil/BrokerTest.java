@@ -33,6 +33,7 @@ public class BrokerTest {
     private final StandInResource inner = new StandInResource("inner");
     /** What was sent and received, and by which kind of session. */
     private final List<String> done = new ArrayList<>();
+    private final List<Long> made = java.util.Collections.synchronizedList(new ArrayList<>());
     private Manager manager;
     private JmsResource resource;
     private ConnectionFactory factory;
@@ -43,7 +44,7 @@ public class BrokerTest {
         world.manager.close();
         Files.delete(world.folder.resolve("log"));
         resource = JmsResource.of("broker", of(XAConnectionFactory.class, Map.of("createXAConnection", (proxy, method, words) -> xaConnection())))
-            .maxConnections(3);
+            .maxConnections(20);
         Session session = of(Session.class, working("outside"));
         Connection plain = of(Connection.class, Map.of("createSession", (proxy, method, words) -> session));
         resource.outside(of(ConnectionFactory.class, Map.of("createConnection", (proxy, method, words) -> plain)));
@@ -59,6 +60,7 @@ public class BrokerTest {
 
     private XAConnection xaConnection() throws Fault {
         StandInResource.StandInLink link = (StandInResource.StandInLink) inner.connect();
+        made.add(link.number());
         Map<String, InvocationHandler> methods = new java.util.HashMap<>(working("in a transaction"));
         methods.put("getXAResource", (proxy, method, words) -> link.xaResource());
         methods.put("getSession", (proxy, method, words) -> proxy);
@@ -116,6 +118,23 @@ public class BrokerTest {
         consumer.receive(10);
         session.commit();
         assertEquals(List.of("outside sends", "outside receives", "outside commits"), done);
+    }
+
+    @Test
+    public void aLossTriesItsOwnIdentifierAlone() throws Exception {
+        begin();
+        session().createProducer(null).send(null);
+        transaction.commit();
+        made.clear();
+        inner.restart();
+        begin();
+        assertThrows(javax.jms.JMSException.class, this::session);
+        transaction.rollback();
+        begin();
+        session();
+        transaction.commit();
+        // Once to see that it is gone, and once to have it; and so the keeper, which ends the branch that was lost.
+        assertTrue("made " + made, made.size() <= 5);
     }
 
     @Test

@@ -214,6 +214,40 @@ public class DataSourceTest {
     }
 
     @Test
+    public void afterALossTheOthersAreAsked() throws Exception {
+        begin();
+        GlobalTransaction first = transaction;
+        source.getConnection();
+        begin();
+        source.getConnection();
+        transaction.commit();
+        first.commit();
+        // Two are idle, and its server is restarted: one transaction finds that out.
+        database.resource.restart();
+        begin();
+        assertThrows(SQLException.class, source::getConnection);
+        transaction.rollback();
+        for (int count = 0; count < 2; count++) {
+            begin();
+            source.getConnection();
+            transaction.commit();
+        }
+    }
+
+    @Test
+    public void connectionsThatAreTooOld() throws Exception {
+        manager.close();
+        JdbcResource resource = JdbcResource.of("database", database.source()).pooling(Pooling.usual().closingAfter(Duration.ofMillis(500)));
+        manager = world.builder().resource(resource).start();
+        DataSource other = resource.dataSource(manager);
+        other.getConnection().close();
+        ResourceManager rm = manager.resourceManager(resource);
+        assertEquals(1, rm.idle());
+        World.eventually(() -> rm.idle() == 0);
+        assertThrows(IllegalArgumentException.class, () -> resource.maxConnections(0));
+    }
+
+    @Test
     public void noConnectionIsLeft() throws Exception {
         source.getConnection();
         source.getConnection();
@@ -221,6 +255,7 @@ public class DataSourceTest {
         manager.associate(transaction);
         SQLException error = assertThrows(SQLException.class, source::getConnection);
         assertTrue(error.getMessage(), error.getMessage().contains("2 connections to database are in use"));
+        assertTrue(error.getMessage(), error.getMessage().contains("thread '" + Thread.currentThread().getName() + "' for "));
         transaction.rollback();
     }
 }

@@ -115,6 +115,25 @@ public class RecoveryTest {
     }
 
     @Test
+    public void workOutsideGoesOnWithoutTheCoordinator() throws Exception {
+        Borrowed borrowed = world.manager.borrow(world.a);
+        Session before = world.manager.session();
+        GlobalTransaction transaction = world.begin();
+        transaction.enlist(world.a);
+        before.coordinator.kill("a test");
+        assertThrows(Fault.RolledBack.class, transaction::commit);
+        World.eventually(() -> {
+            try {
+                return world.manager.session() != before;
+            } catch (Fault fault) {
+                return false;
+            }
+        });
+        assertEquals(Set.of(borrowed.link().number()), world.a.lastKept);
+        borrowed.giveBack();
+    }
+
+    @Test
     public void theManagerEndsAfterTheDecision() throws Exception {
         world.b.answer("commit", StandInResource.LOST_BEFORE);
         GlobalTransaction transaction = world.overBoth();

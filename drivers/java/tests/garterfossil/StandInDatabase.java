@@ -36,7 +36,7 @@ final class StandInDatabase {
     private XAConnection connection() throws SQLException {
         try {
             StandInResource.StandInLink link = (StandInResource.StandInLink) resource.connect();
-            Connection connection = connection(link.number());
+            Connection connection = connection(link);
             return of(XAConnection.class, Map.of(
                 "getConnection", (proxy, method, words) -> connection,
                 "getXAResource", (proxy, method, words) -> link.xaResource(),
@@ -49,7 +49,8 @@ final class StandInDatabase {
         }
     }
 
-    private Connection connection(long number) {
+    private Connection connection(StandInResource.StandInLink link) {
+        long number = link.number();
         int[] isolation = {Connection.TRANSACTION_READ_COMMITTED};
         DatabaseMetaData data = of(DatabaseMetaData.class, Map.of("getDatabaseProductName", (proxy, method, words) -> "a stand-in"));
         return of(Connection.class, Map.of(
@@ -63,7 +64,7 @@ final class StandInDatabase {
             },
             "getAutoCommit", (proxy, method, words) -> true,
             "unwrap", (proxy, method, words) -> (Plain) text -> done.add(number + " " + text),
-            "isValid", (proxy, method, words) -> true));
+            "isValid", (proxy, method, words) -> link.isUsable()));
     }
 
     private <S extends Statement> S statement(Class<S> face, long number) {

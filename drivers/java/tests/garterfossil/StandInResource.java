@@ -35,6 +35,9 @@ final class StandInResource implements Resource {
     /** What it calls itself; null if it has nothing of the kind. */
     volatile String identity;
     private volatile Known known;
+    /** The connections that weren't ended by the last {@code endOthers}. */
+    volatile Set<Long> lastKept = Set.of();
+    private final List<StandInLink> links = Collections.synchronizedList(new ArrayList<>());
     private final String name;
     private final Map<String, IntSupplier> answers = new HashMap<>();
     private final int max;
@@ -47,6 +50,12 @@ final class StandInResource implements Resource {
 
     StandInResource(String name) {
         this(name, 8);
+    }
+
+    /** It is restarted: each connection is lost, with what is active on it. */
+    void restart() {
+        List.copyOf(links).forEach(StandInLink::close);
+        links.clear();
     }
 
     /** The next call of this name is answered by the code. */
@@ -91,6 +100,7 @@ final class StandInResource implements Resource {
         if (known != null) {
             known.see(identity, "the place of " + name);
         }
+        lastKept = Set.copyOf(kept);
         calls.add("endOthers");
     }
 
@@ -128,6 +138,7 @@ final class StandInResource implements Resource {
 
         StandInLink(long number) {
             this.number = number;
+            links.add(this);
         }
 
         @Override

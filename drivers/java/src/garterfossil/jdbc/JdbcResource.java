@@ -4,9 +4,11 @@ import garterfossil.Fault;
 import garterfossil.Known;
 import garterfossil.Link;
 import garterfossil.Manager;
+import garterfossil.Pooling;
 import garterfossil.Resource;
 import java.sql.Connection;
 import java.sql.SQLException;
+import java.time.Duration;
 import java.util.HashSet;
 import java.util.Set;
 import javax.sql.DataSource;
@@ -23,6 +25,8 @@ public final class JdbcResource implements Resource {
     private final XADataSource source;
     private final OwnedXaDataSource owned;
     private int maxConnections = 32;
+    private Pooling pooling = Pooling.usual();
+    private Duration patience = Duration.ofSeconds(10);
     private volatile String manager = "";
     private volatile Dialect dialect;
     private volatile Known known;
@@ -41,8 +45,33 @@ public final class JdbcResource implements Resource {
 
     /** How many connections there may be at a time, beside one for the recovery: 32 where none is given. */
     public JdbcResource maxConnections(int count) {
+        if (count < 1) {
+            throw new IllegalArgumentException("maxConnections: 1 or more, and not " + count);
+        }
         maxConnections = count;
         return this;
+    }
+
+    /** How long its connections are waited for, and kept. */
+    public JdbcResource pooling(Pooling given) {
+        pooling = given;
+        return this;
+    }
+
+    @Override
+    public Pooling pooling() {
+        return pooling;
+    }
+
+    /** How long the database may be silent, as a connection is made or in one of XA's calls: 10 seconds where none is given. Then the connection is lost. */
+    public JdbcResource patience(Duration duration) {
+        patience = duration;
+        return this;
+    }
+
+    @Override
+    public Duration patience() {
+        return patience;
     }
 
     /** Connections for programs: in a transaction of the manager each takes part in it. */
@@ -118,17 +147,20 @@ public final class JdbcResource implements Resource {
         return dialect;
     }
 
+    /** What another pool has is ended, too. */
+    @Override
+    public void startAnew() {
+        owned.open().clear();
+    }
+
     @Override
     public void endOthers(Set<Long> kept) throws Fault.Lost {
         if (dialect == Dialect.OTHER) {
             return;
         }
         JdbcLink link = connection();
-        // With none to keep, a session begins: then what another pool has is ended, too.
         Set<Long> all = new HashSet<>(kept);
-        if (!kept.isEmpty()) {
-            all.addAll(owned.open());
-        }
+        all.addAll(owned.open());
         try {
             dialect.endOthers(link.connection(), label(), link.number(), all);
         } catch (SQLException | RuntimeException error) {

@@ -8,7 +8,6 @@ import java.io.PrintWriter;
 import java.sql.Connection;
 import java.sql.SQLException;
 import java.sql.SQLFeatureNotSupportedException;
-import java.time.Duration;
 import java.util.logging.Logger;
 import javax.sql.DataSource;
 import javax.sql.XADataSource;
@@ -43,7 +42,7 @@ final class PooledDataSource implements DataSource {
     }
 
     private Connection ofNoTransaction() throws Fault {
-        Borrowed borrowed = manager.borrow(resource, Duration.ofSeconds(30));
+        Borrowed borrowed = manager.borrow(resource);
         return ConnectionHandle.alone(manager, (JdbcLink) borrowed.link(), borrowed::giveBack);
     }
 

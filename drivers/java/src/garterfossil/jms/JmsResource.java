@@ -3,7 +3,9 @@ package garterfossil.jms;
 import garterfossil.Fault;
 import garterfossil.Link;
 import garterfossil.Manager;
+import garterfossil.Pooling;
 import garterfossil.Resource;
+import java.time.Duration;
 import java.util.BitSet;
 import java.util.Set;
 import java.util.concurrent.TimeUnit;
@@ -28,6 +30,11 @@ public final class JmsResource implements Resource {
     private final BitSet used = new BitSet();
     private ConnectionFactory outside;
     private int maxConnections = 16;
+    private Pooling pooling = Pooling.usual();
+    private Duration patience = Duration.ofSeconds(10);
+    // Whether all identifiers were seen to be free since the session began, and those that were given back since then.
+    private boolean areSeen;
+    private final BitSet left = new BitSet();
     private volatile String manager = "";
 
     private JmsResource(String name, XAConnectionFactory factory) {
@@ -42,8 +49,33 @@ public final class JmsResource implements Resource {
 
     /** How many connections there may be at a time, beside one for the recovery: 16 where none is given. Don't make it less later. */
     public JmsResource maxConnections(int count) {
+        if (count < 1) {
+            throw new IllegalArgumentException("maxConnections: 1 or more, and not " + count);
+        }
         maxConnections = count;
         return this;
+    }
+
+    /** How long its connections are waited for, and kept. */
+    public JmsResource pooling(Pooling given) {
+        pooling = given;
+        return this;
+    }
+
+    @Override
+    public Pooling pooling() {
+        return pooling;
+    }
+
+    /** How long the broker may be silent as a connection is made: 10 seconds where none is given. */
+    public JmsResource patience(Duration duration) {
+        patience = duration;
+        return this;
+    }
+
+    @Override
+    public Duration patience() {
+        return patience;
     }
 
     /** What makes the sessions outside of any transaction; there are none where this isn't given. */
@@ -97,6 +129,26 @@ public final class JmsResource implements Resource {
     private void giveBack(int number) {
         synchronized (used) {
             used.clear(number);
+            left.set(number);
+        }
+    }
+
+    @Override
+    public void startAnew() {
+        synchronized (used) {
+            areSeen = false;
+        }
+    }
+
+    /** The identifiers of which connections may be there that nobody has. */
+    private BitSet unseen() {
+        synchronized (used) {
+            BitSet found = (BitSet) left.clone();
+            if (!areSeen) {
+                found.set(0, maxConnections + 1);
+            }
+            left.clear();
+            return found;
         }
     }
 
@@ -132,17 +184,25 @@ public final class JmsResource implements Resource {
         }
     }
 
-    /** Sees that each identifier is free that isn't kept: then no connection of an earlier manager is there. */
+    /** Sees that each identifier is free that isn't kept: then no connection of an earlier manager is there. In a session, of those that were left. */
     @Override
     public void endOthers(Set<Long> kept) throws Fault.Lost {
-        for (int number = 0; number <= maxConnections; number++) {
-            boolean isKept = kept.contains(number + 1L);
-            try {
-                if (!isKept) {
+        BitSet unseen = unseen();
+        try {
+            for (int number = unseen.nextSetBit(0); number >= 0; number = unseen.nextSetBit(number + 1)) {
+                if (!kept.contains(number + 1L)) {
                     connection(number).close();
                 }
-            } catch (JMSException | RuntimeException error) {
-                throw new Fault.Lost("no connection to " + name, error);
+                unseen.clear(number);
+            }
+            synchronized (used) {
+                areSeen = true;
+            }
+        } catch (JMSException | RuntimeException error) {
+            throw new Fault.Lost("no connection to " + name, error);
+        } finally {
+            synchronized (used) {
+                left.or(unseen);
             }
         }
     }
