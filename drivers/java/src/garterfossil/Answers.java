@@ -82,6 +82,7 @@ final class Answers {
     /** A code that is no answer: nobody knows what was done. */
     static Fault.Lost unanswered(String call, XAException error) {
         Throwable cause = error.getCause() == null ? error : error.getCause();
-        return new Fault.Lost(call + " has no answer, " + Code.name(error.errorCode), cause);
+        // (Some have no code where they don't know the error.)
+        return new Fault.Lost(call + " has no answer" + (error.errorCode == 0 ? "" : ", " + Code.name(error.errorCode)), cause);
     }
 }

@@ -24,6 +24,7 @@ final class Branch {
     private final XAResource resource;
     // How long its transaction may still go on.
     private final Supplier<Duration> left;
+    private final Counts counts;
     private int may = S0;
     private boolean isFailed, isLost, isOver, isVoteIssued, isCommitIssued;
     // Why it can only be rolled back, by a code of XA; 0 if it may still be committed.
@@ -32,12 +33,14 @@ final class Branch {
     private Fault objection;
     private int answer = Code.RETRY;
 
-    Branch(BranchXid xid, Line line, ResourceManager.Lease lease, XAResource resource, Supplier<Duration> left) {
+    Branch(BranchXid xid, Line line, ResourceManager.Lease lease, XAResource resource, Supplier<Duration> left,
+        Counts counts) {
         this.xid = xid;
         this.line = line;
         this.lease = lease;
         this.resource = resource;
         this.left = left;
+        this.counts = counts;
     }
 
     /** How long the calls that follow may take: before the decision no longer than the transaction, but a second at least. */
@@ -308,7 +311,7 @@ final class Branch {
             line.ask();
         }
         isOver = code != Code.RETRY;
-        forgetIf(code);
+        forgetIf("xa_commit", code);
         answer = code;
     }
 
@@ -374,12 +377,13 @@ final class Branch {
         line.report("xa_rollback ", name(), code);
         line.ask();
         isOver = true;
-        forgetIf(code);
+        forgetIf("xa_rollback", code);
         return code;
     }
 
-    private void forgetIf(int code) throws Fault {
+    private void forgetIf(String call, int code) throws Fault {
         if (Code.isHeuristic(code)) {
+            counts.heuristicEnd(xid, rm(), call, code);
             Keeper.forget(line, xid, resource);
         }
     }

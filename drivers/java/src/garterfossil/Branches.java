@@ -112,7 +112,7 @@ final class Branches {
             lease = brought == null ? rm.borrow(transaction.left()) : null;
             XAResource resource = brought == null ? lease.link.xaResource() : brought;
             Branch branch = new Branch(BranchXid.of(session.name, gtrid, slot.number, rm.number), slot.line(rm), lease, resource,
-                transaction::left);
+                transaction::left, session.counts);
             all.add(branch);
             return branch;
         } catch (Fault | RuntimeException | Error error) {

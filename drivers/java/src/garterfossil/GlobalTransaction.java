@@ -41,6 +41,8 @@ public final class GlobalTransaction {
     private final Completions completions = new Completions();
     private final Map<Object, Object> things = new HashMap<>();
     private final String begunBy = Thread.currentThread().getName();
+    private final long begun = System.nanoTime();
+    private boolean isCounted;
     private final long deadline;
     private final Duration timeout;
     private Future<?> alarm;
@@ -62,6 +64,12 @@ public final class GlobalTransaction {
     public String toString() {
         String gtrid = branches.gtrid();
         return (gtrid == null ? "a transaction" : "transaction " + gtrid) + " that thread '" + begunBy + "' began";
+    }
+
+    /** The same, and how it stands. */
+    String told() {
+        return this + ": " + outcome + ", for " + (System.nanoTime() - begun) / 1_000_000_000 + " s, at " + branches.all().stream()
+            .map(branch -> branch.rm().toString()).collect(java.util.stream.Collectors.joining(", "));
     }
 
     public Outcome outcome() {
@@ -164,6 +172,8 @@ public final class GlobalTransaction {
         }
         if (!rollBackSince("it took longer than its time-out of " + timeout.toSeconds() + " s")) {
             alarm = manager.later(this::timeOut, Duration.ofMillis(200));
+        } else if (outcome == Outcome.ROLLED_BACK) {
+            manager.counts.timeOut();
         }
     }
 
@@ -176,7 +186,7 @@ public final class GlobalTransaction {
         }
         try {
             if (outcome.isOpen()) {
-                Manager.LOG.log(Level.WARNING, () -> this + " is rolled back: " + why);
+                Manager.LOG.log(Level.WARNING, () -> told() + ": it is rolled back: " + why);
                 branches.shut(this + " is rolled back: " + why);
                 rollBack(true);
             }
@@ -423,6 +433,10 @@ public final class GlobalTransaction {
                 alarm.cancel(false);
             }
             if (outcome.isOver()) {
+                if (!isCounted) {
+                    isCounted = true;
+                    manager.counts.end(outcome, System.nanoTime() - begun);
+                }
                 branches.release();
             }
         } finally {

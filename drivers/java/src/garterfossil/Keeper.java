@@ -353,6 +353,7 @@ final class Keeper {
             session.noteUndone(xid);
         }
         if (Code.isHeuristic(code)) {
+            session.counts.heuristicEnd(xid, rm, call, code);
             forgetOrScan(xid);
         }
         return code;
@@ -423,11 +424,6 @@ final class Keeper {
         }
         if (code == Code.RETRY) {
             return false;
-        }
-        if (Code.isHeuristic(code)) {
-            int odd = code;
-            Manager.LOG.log(Level.ERROR, () -> debt.call() + " of " + debt.xid + " at " + rm + " is answered " + Code.name(odd)
-                + ": the resource ended it by itself. The log has a record");
         }
         debts.remove(debt);
         debt.pay(code);

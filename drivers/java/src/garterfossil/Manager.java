@@ -6,6 +6,7 @@ import java.nio.file.Path;
 import java.time.Duration;
 import java.util.ArrayList;
 import java.util.List;
+import java.util.Map;
 import java.util.concurrent.Future;
 import java.util.concurrent.FutureTask;
 import java.util.concurrent.RejectedExecutionException;
@@ -122,6 +123,8 @@ public final class Manager implements AutoCloseable {
     }
 
     final Decisions decisions = new Decisions();
+    final Counts counts = new Counts();
+    private final ManagerBean bean = new ManagerBean(this);
     final Helpers helpers;
     private final Builder made;
     private final List<ResourceManager> rms = new ArrayList<>();
@@ -170,6 +173,7 @@ public final class Manager implements AutoCloseable {
                 start(coordinator());
             }
             seconds.scheduleWithFixedDelay(this::tick, 1, 1, TimeUnit.SECONDS);
+            bean.register();
         } catch (Fault | RuntimeException | Error error) {
             close();
             throw error;
@@ -192,6 +196,7 @@ public final class Manager implements AutoCloseable {
                 Session old = session;
                 if (old != null) {
                     old.seeWhole();
+                    LOG.log(Level.WARNING, () -> old.coordinator.lost().getMessage() + ". It is started again");
                     old.abandon();
                 }
                 start(coordinator());
@@ -201,7 +206,7 @@ public final class Manager implements AutoCloseable {
     }
 
     private void start(Coordinator coordinator) throws Fault {
-        Session next = new Session(coordinator, names.manager, List.copyOf(rms), made.threads, identities);
+        Session next = new Session(coordinator, names.manager, List.copyOf(rms), made.threads, identities, counts);
         try {
             identities.begin(next.incarnation);
             decisions.find(next.incarnation, next.owed());
@@ -215,7 +220,8 @@ public final class Manager implements AutoCloseable {
             coordinator.failed(error);
             throw error;
         }
-        LOG.log(Level.INFO, () -> "the coordinator is up: " + coordinator.greeting);
+        counts.session();
+        LOG.log(Level.INFO, () -> "the coordinator is up, for session " + next.incarnation + ": " + coordinator.greeting);
     }
 
     private Coordinator coordinator() throws Fault {
@@ -380,6 +386,7 @@ public final class Manager implements AutoCloseable {
             throw new Fault.Unavailable("the manager is closed");
         }
         GlobalTransaction transaction = new GlobalTransaction(this, timeout);
+        counts.begin();
         transaction.startClock();
         return transaction;
     }
@@ -407,6 +414,30 @@ public final class Manager implements AutoCloseable {
     public int owing() {
         Session up = session;
         return up == null ? 0 : up.owing();
+    }
+
+    /**
+     * How many transactions were begun, are open, committed, rolled back, unknown, over their time (timed_out), and had an end that a resource made
+     * by itself (heuristic); for how many seconds they were open; how many sessions the coordinator had; and what is owed.
+     */
+    public Map<String, Number> counts() {
+        Map<String, Number> found = counts.shown();
+        found.put("owed", owing());
+        return found;
+    }
+
+    /** The last ends that a resource made by itself, also those of which no program was told since it had its answer by then. */
+    public List<String> heuristicEnds() {
+        return counts.heuristicEnds();
+    }
+
+    Path log() {
+        return made.log;
+    }
+
+    /** The session, or null. */
+    Session up() {
+        return session;
     }
 
     /** A connection for work outside of any transaction. */
@@ -440,6 +471,7 @@ public final class Manager implements AutoCloseable {
             last.abandon();
         }
         seconds.shutdownNow();
+        bean.unregister();
         helpers.stop();
         rms.forEach(ResourceManager::close);
     }

@@ -121,6 +121,7 @@ final class Session {
     private final BlockingDeque<Slot> free = new LinkedBlockingDeque<>();
     private final int threads;
     private final Identities identities;
+    final Counts counts;
     private final Set<GlobalTransaction> live = ConcurrentHashMap.newKeySet();
     // Branches that were prepared and that this session rolled back: a resource may forget that in a crash of its own, if it was a moment ago.
     private final Recent<BranchXid> undone = new Recent<>(UNDONE);
@@ -130,12 +131,13 @@ final class Session {
     private Coordinator.Reply oldest;
     private long oldestSince;
 
-    Session(Coordinator coordinator, String name, List<ResourceManager> rms, int threads, Identities identities) {
+    Session(Coordinator coordinator, String name, List<ResourceManager> rms, int threads, Identities identities, Counts counts) {
         this.coordinator = coordinator;
         this.name = name;
         this.rms = rms;
         this.threads = threads;
         this.identities = identities;
+        this.counts = counts;
         commits = new Commits(coordinator);
         String[] words = coordinator.greeting.split(" ");
         incarnation = Long.parseLong(words[1]);
@@ -374,6 +376,16 @@ final class Session {
 
     int open() {
         return live.size();
+    }
+
+    List<String> openTransactions() {
+        List<String> found = new ArrayList<>();
+        live.forEach(transaction -> found.add(transaction.told()));
+        return found;
+    }
+
+    List<Keeper> keepers() {
+        return List.copyOf(keepers);
     }
 
     int owing() {

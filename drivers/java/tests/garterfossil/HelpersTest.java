@@ -26,7 +26,7 @@ public class HelpersTest {
         ResourceManager rm = new ResourceManager(0, new StandInResource("a"));
         List<Branch> branches = new ArrayList<>();
         for (int count = 0; count < 3; count++) {
-            branches.add(new Branch(BranchXid.of("", "0".repeat(32), 1, count), null, rm.borrow(Duration.ofSeconds(1)), null, () -> Duration.ZERO));
+            branches.add(new Branch(BranchXid.of("", "0".repeat(32), 1, count), null, rm.borrow(Duration.ofSeconds(1)), null, () -> Duration.ZERO, new Counts()));
         }
         CountDownLatch othersMade = new CountDownLatch(2);
         Set<Branch> made = ConcurrentHashMap.newKeySet();

@@ -563,6 +563,8 @@ public class RecoveryTest {
         world.b.answer("commit", XAException.XA_HEURRB);
         world.manager = world.builder().start();
         World.eventually(() -> world.manager.owing() == 0 && world.rows().isEmpty());
+        // No program waits for it any more, but it is told.
+        assertEquals(1, world.manager.heuristicEnds().size());
         world.overBoth().commit();
         world.manager.close();
     }

@@ -48,6 +48,14 @@ enum Dialect {
             return Traits.weaknessesOfPostgreSql(connection);
         }
 
+        /** The server tells its driver of each change of it. */
+        @Override
+        void labelAgain(Connection connection, String label) throws SQLException {
+            if (!application(label).equals(connection.getClientInfo("ApplicationName"))) {
+                number(connection, label);
+            }
+        }
+
         /** PostgreSQL keeps 63 bytes of it. */
         private String application(String label) {
             return label.length() < 64 ? label : String.format("%s~%08x", label.substring(0, 54), label.hashCode());
@@ -212,6 +220,10 @@ enum Dialect {
 
     /** The number by which the database knows the connection, which has this label from now on. */
     abstract long number(Connection connection, String label) throws SQLException;
+
+    /** The connection has its label again, if a program took it away. */
+    void labelAgain(Connection connection, String label) throws SQLException {
+    }
 
     /** The numbers of all connections of this label, of this one too. */
     abstract List<Long> all(Connection connection, String label) throws SQLException;

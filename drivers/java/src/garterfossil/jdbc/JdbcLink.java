@@ -21,6 +21,7 @@ final class JdbcLink implements Link {
         void run() throws SQLException;
     }
 
+    private final JdbcResource owner;
     private final XAConnection xa;
     private final Connection connection;
     private final List<Undo> undos = new ArrayList<>();
@@ -32,6 +33,7 @@ final class JdbcLink implements Link {
     private volatile boolean isLetOut;
 
     JdbcLink(XAConnection xa, JdbcResource owner) throws SQLException, Fault.Lost {
+        this.owner = owner;
         this.xa = xa;
         try {
             connection = xa.getConnection();
@@ -125,6 +127,7 @@ final class JdbcLink implements Link {
                 connection.rollback();
                 connection.setAutoCommit(true);
             }
+            owner.dialect(connection).labelAgain(connection, owner.label());
             connection.clearWarnings();
         } catch (SQLException | RuntimeException error) {
             return false;

@@ -1,0 +1,112 @@
+package garterfossil;
+
+import java.lang.System.Logger.Level;
+import java.lang.management.ManagementFactory;
+import java.util.LinkedHashMap;
+import java.util.List;
+import java.util.Map;
+import javax.management.JMException;
+import javax.management.ObjectName;
+
+/** What JMX shows of a manager. */
+final class ManagerBean implements ManagerMXBean {
+    private final Manager manager;
+    private ObjectName name;
+
+    ManagerBean(Manager manager) {
+        this.manager = manager;
+    }
+
+    /** Shows it. Where that can't be, the manager works all the same. */
+    void register() {
+        try {
+            ObjectName wanted = new ObjectName("garterfossil", new java.util.Hashtable<>(Map.of("type", "Manager", "name", ObjectName.quote(manager.name()))));
+            ManagementFactory.getPlatformMBeanServer().registerMBean(this, wanted);
+            name = wanted;
+        } catch (JMException | RuntimeException error) {
+            Manager.LOG.log(Level.INFO, "JMX doesn't show the manager: " + error);
+        }
+    }
+
+    void unregister() {
+        ObjectName old = name;
+        name = null;
+        try {
+            if (old != null) {
+                ManagementFactory.getPlatformMBeanServer().unregisterMBean(old);
+            }
+        } catch (JMException | RuntimeException error) {
+            Manager.LOG.log(Level.DEBUG, "JMX", error);
+        }
+    }
+
+    @Override
+    public String getName() {
+        return manager.name();
+    }
+
+    @Override
+    public String getLog() {
+        return manager.log().toString();
+    }
+
+    @Override
+    public long getIncarnation() {
+        Session up = manager.up();
+        return up == null ? 0 : up.incarnation;
+    }
+
+    @Override
+    public boolean isUp() {
+        return getWhyNot() == null;
+    }
+
+    @Override
+    public String getWhyNot() {
+        Session up = manager.up();
+        return up == null ? "there is no session" : up.fatal() != null ? up.fatal() : up.coordinator.isGone() ? up.coordinator.lost().getMessage() : null;
+    }
+
+    @Override
+    public Map<String, Double> getCounts() {
+        Map<String, Double> found = new LinkedHashMap<>();
+        manager.counts().forEach((name, count) -> found.put(name, count.doubleValue()));
+        return found;
+    }
+
+    @Override
+    public int getOwing() {
+        return manager.owing();
+    }
+
+    @Override
+    public List<String> getOpenTransactions() {
+        Session up = manager.up();
+        return up == null ? List.of() : up.openTransactions();
+    }
+
+    @Override
+    public Map<String, Map<String, Integer>> getResources() {
+        Session up = manager.up();
+        Map<String, Map<String, Integer>> found = new LinkedHashMap<>();
+        if (up != null) {
+            up.keepers().forEach(keeper -> found.put(keeper.rm.toString(), of(keeper)));
+        }
+        return found;
+    }
+
+    private static Map<String, Integer> of(Keeper keeper) {
+        Map<String, Integer> found = new LinkedHashMap<>();
+        found.put("used", keeper.rm.used());
+        found.put("idle", keeper.rm.idle());
+        found.put("most", keeper.rm.resource.maxConnections());
+        found.put("owed", keeper.debts());
+        found.put("recovered", keeper.isRecovered() ? 1 : 0);
+        return found;
+    }
+
+    @Override
+    public List<String> getHeuristicEnds() {
+        return manager.heuristicEnds();
+    }
+}
