@@ -6,6 +6,7 @@ mod JobRows
 mod LaterProcesses
 mod LogSwaps
 mod OwnLogs
+mod PathProcesses
 mod Recoveries
 mod Results
 mod Sessions

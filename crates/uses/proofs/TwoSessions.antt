@@ -7,10 +7,11 @@ use Rattle.xa_base.specs.declared.state.Standing.TheVariants.{Committed, Complet
 use Rattle.xa_base.specs.declared.branch.Gtrid.{Gtrid}
 use Rattle.xa_server.proofs.LogLemmas.{replies_keep}
 use Rattle.xa_server.proofs.TurnLemmas.{nothing_is_left}
+use Rattle.xa_server.proofs.WithoutName.{lines_as_are}
 use Rattle.xa_server.specs.Lines.{text_lines}
 use Rattle.xa_server.specs.Replies.{greeting_of}
 use Rattle.xa_server.specs.Serving.{HaveReplies, replies_given, requests_done}
-use Rattle.xa_server.specs.Sessions.{AreServed, AreServed.NoneYet, AreServed.OneMore, CommitStandsInLog, IsEmptyLog, IsHandedOn, IsSession, IsSessionLeft.AfterLine, ServedCommitsStand, ServedLogsDecide, ServedSessionsAgree, ServedSessionsAreSeen, StartsOver, WasFoundDecidedInLog}
+use Rattle.xa_server.specs.Sessions.{AreServed, AreServed.NoneYet, AreServed.OneMore, CommitStandsInLog, HoldsLeft, IsEmptyLog, IsHandedOn, IsSession, IsSessionLeft.AfterLine, ServedCommitsStand, ServedLogsDecide, ServedSessionsAgree, ServedSessionsAreSeen, StartsOver, WasFoundDecidedInLog}
 use Rattle.xa_server.specs.Telling.{HaveTold, is_log_fault}
 use Rattle.xa_server.specs.Votes.{VotedCommitsAreLogged}
 use Rattle.xa_server.specs.Rows.{is_gtrid_among}
@@ -19,6 +20,7 @@ use Rattle.xa_log.specs.Content.{Content, with_bump}
 use Rattle.xa_log.specs.Contract.{Honestly, Moment}
 use Rattle.xa_model.specs.Promises.Agreement.{IsUndone}
 use Rattle.xa_model.specs.Trace.{Branch, Line}
+use Rattle.xa_names.specs.Laws.{LinesStay}
 use Rattle.xa_requests.specs.declared.response.Response.{Response}
 use Rattle.xa_session.proofs.LogStarts.{later_sessions_are_newer}
 use Rattle.xa_session.specs.Logging.{HoldsItsBook, KeepsLog}
@@ -62,31 +64,37 @@ ends_committed f c b stands = record {
   in_the_end = λ gone. committing_ends (f b) stands.commits (λ prepared. let row = stands.row_stays prepared in let no : ⊥ = cc in no);
 }
 
-module _ {L : Type 0} (moment : L → Moment) (agree : ServedSessionsAgree moment) (are_seen : ServedSessionsAreSeen moment) (threads rms : ℕ) where
-  -- what lines and replies tell of a session over a log
+module _ {L : Type 0} (moment : L → Moment) (agree : ServedSessionsAgree moment) (are_seen : ServedSessionsAreSeen moment) (stay : LinesStay)
+    (threads rms : ℕ) where
+  -- what lines and replies tell of a session over a log, of a manager without a name
   seen_in : (handed : L) (first last : Server L) (lines : List (List ℕ)) (replies : List Response) → StartsOver moment threads rms handed first
       → HaveReplies moment lines replies first last → list_any is_log_fault replies ≡ false
-      → (more : Seen) × HaveTold threads lines replies Start more × IsSession moment handed (start_of threads rms first) more last
+      → (more : Seen) × HaveTold threads lines replies Start more × IsSession moment [] handed (start_of threads rms first) more last
   seen_in handed first last lines replies starts have none =
-      are_seen threads rms lines replies handed first last starts have none (start_of threads rms first) (begins_so threads rms first)
+      let as_are = lines_as_are stay lines in
+      let told = are_seen [] threads rms lines replies handed first last starts
+      (subst (λ ls. HaveReplies moment ls replies first last) (sym as_are) have) none (start_of threads rms first) (begins_so threads rms first) in
+      (told.0, subst (λ ls. HaveTold threads ls replies Start told.0) as_are told.1, told.2)
 
   -- a driver that says nothing
   none_read : (read unread : List ℕ) → [] ≡ read ++ unread → read ≡ []
   none_read [] unread e = refl
   none_read (x ∷ read) unread e = absurd (cc)
 
+  -- a log in order holds what it has
+  holds_it : (handed : L) → (moment handed).is_in_order → (c : Content) → (moment handed).content ≡ Some c → HoldsLeft moment c handed
+  holds_it handed order c has = record {
+    order = order;
+    content = c;
+    has = has;
+    same = record { decisions = refl; heuristics = refl };
+    raised = let least : c.incarnation ≤ c.incarnation = omega arith in least;
+  }
+
   empty_handed : (handed : L) → (moment handed).is_in_order → IsSomeAnd (moment handed).content IsEmptyLog → IsHandedOn moment None handed
   empty_handed handed order empty =
       let found = there_is (moment handed).content IsEmptyLog empty in
-      record {
-        order = order;
-        left = found.0;
-        was_left = found.2;
-        content = found.0;
-        has = found.1;
-        same = record { decisions = refl; heuristics = refl };
-        raised = let least : found.0.incarnation ≤ found.0.incarnation = omega arith in least;
-      }
+      record { left = found.0; was_left = found.2; holds = holds_it handed order found.0 found.1 }
 
   pub silent_so : (handed left : L) (written : List ℕ) → IsServedOver moment threads rms handed [] written left → Honestly (moment handed) (moment left)
       (IsSomeAnd (moment handed).content IsEmptyLog → AreServedTo moment left (λ b. Unstarted))
@@ -120,10 +128,10 @@ module _ {L : Type 0} (moment : L → Moment) (agree : ServedSessionsAgree momen
     mid_order : (moment (log_in b.session.manager)).is_in_order
     mid_order = one_keeps.order (one.over.order order)
 
-    s : (more : Seen) × HaveTold threads one_lines one_replies Start more × IsSession moment handed (start_of threads rms a) more b
+    s : (more : Seen) × HaveTold threads one_lines one_replies Start more × IsSession moment [] handed (start_of threads rms a) more b
     s = seen_in handed a b one_lines one_replies one one_have one_well
 
-    t : (more : Seen) × HaveTold threads two_lines two_replies Start more × IsSession moment (log_in b.session.manager) (start_of threads rms x) more y
+    t : (more : Seen) × HaveTold threads two_lines two_replies Start more × IsSession moment [] (log_in b.session.manager) (start_of threads rms x) more y
     t = seen_in (log_in b.session.manager) x y two_lines two_replies two two_have two_well
 
     mid_content : (c : Content) × ((moment (log_in b.session.manager)).content ≡ Some c) × ((moment (log_in x.session.manager)).content ≡ Some (with_bump c))
@@ -131,18 +139,14 @@ module _ {L : Type 0} (moment : L → Moment) (agree : ServedSessionsAgree momen
 
     second_handed : IsHandedOn moment (Some b) (log_in b.session.manager)
     second_handed = record {
-      order = mid_order;
       left = mid_content.0;
       was_left = inl mid_content.1;
-      content = mid_content.0;
-      has = mid_content.1;
-      same = record { decisions = refl; heuristics = refl };
-      raised = let least : mid_content.0.incarnation ≤ mid_content.0.incarnation = omega arith in least;
+      holds = holds_it (log_in b.session.manager) mid_order mid_content.0 mid_content.1;
     }
 
     all : (one_done one_cut two_done two_cut : List Line) (from to : Branch → Standing)
         → MayAllStand (start_of threads rms a) s.0 (λ c. Comes s.0 c Unstarted) one_done one_cut from
-        → MayAllStand (start_of threads rms x) t.0 (λ c. Comes t.0 c (broken (from c))) two_done two_cut to → AreServed moment (Some y) to
+        → MayAllStand (start_of threads rms x) t.0 (λ c. Comes t.0 c (broken (from c))) two_done two_cut to → AreServed moment [] (Some y) to
     all one_done one_cut two_done two_cut from to one_may two_may =
         OneMore (Some b) from to (log_in b.session.manager) (start_of threads rms x) t.0 t.0 y y two_done two_cut
         (OneMore None (λ c. Unstarted) from handed (start_of threads rms a) s.0 s.0 b b one_done one_cut NoneYet (empty_handed handed order empty) s.2
@@ -169,7 +173,7 @@ module _ {L : Type 0} (moment : L → Moment) (agree : ServedSessionsAgree momen
         (one_may : MayAllStand (start_of threads rms a) s.0 (λ c. Comes s.0 c Unstarted) one_done one_cut from)
         (two_may : MayAllStand (start_of threads rms x) t.0 (λ c. Comes t.0 c (broken (from c))) two_done two_cut to)
         (d : Branch) → is_gtrid_among gs d.gtrid ≡ true → from d ≡ Prepared
-        → WasFoundDecidedInLog moment d (Some y) to (all one_done one_cut two_done two_cut from to one_may two_may)
+        → WasFoundDecidedInLog moment [] d (Some y) to (all one_done one_cut two_done two_cut from to one_may two_may)
     unfolding all
     found_decided gs end one_done one_cut two_done two_cut from to one_may two_may d among prepared =
         inl (prepared, rows_logged moment law threads rms handed a b one_lines one_replies one one_have order b_honest gs d.gtrid end among)
@@ -185,9 +189,9 @@ module _ {L : Type 0} (moment : L → Moment) (agree : ServedSessionsAgree momen
       two_told = t.1;
       agree = λ one_done one_cut two_done two_cut from to one_may two_may.
           let served = all one_done one_cut two_done two_cut from to one_may two_may in
-          (agree (Some y) to served, λ c is. decide y to c served (inl is));
+          (agree [] (Some y) to served, λ c is. decide [] y to c served (inl is));
       commits = λ gs end one_done one_cut two_done two_cut from to one_may two_may d among prepared c is.
-          ends_committed to c d (stand y to c d (all one_done one_cut two_done two_cut from to one_may two_may)
+          ends_committed to c d (stand [] y to c d (all one_done one_cut two_done two_cut from to one_may two_may)
           (found_decided gs end one_done one_cut two_done two_cut from to one_may two_may d among prepared) (inl is));
     }
 

@@ -1,6 +1,7 @@
 pub mod Crashes
 pub mod FirstRuns
 pub mod Managers
+pub mod Paths
 pub mod Processes
 pub mod Sessions
 pub mod Starts

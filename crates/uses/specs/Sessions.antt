@@ -88,9 +88,9 @@ pub record IsServedOver {L : Type 0} (moment : L → Moment) (threads rms : ℕ)
   pub serves : Serves moment (greeting_of first) (Some text) (Some unread) (Some []) (Some written) first last
   pub log : left ≡ log_in last.session.manager
 
--- sessions that agree left this log, and the branches so
+-- sessions that agree, of a manager without a name, left this log, and the branches so
 abbrev pub AreServedTo : {L : Type 0} → (L → Moment) → L → (Branch → Standing) → Type 0
-AreServedTo {L} moment left f = (last : Server L) × (left ≡ log_in last.session.manager) × AreServed moment (Some last) f
+AreServedTo {L} moment left f = (last : Server L) × (left ≡ log_in last.session.manager) × AreServed moment [] (Some last) f
 
 -- The driver was told the first line of a session, and a line for each line of what was read of its text: up to `quit`, or all.
 pub record IsReplied (text written : List ℕ) : Type 0 where

@@ -1,5 +1,5 @@
 //! Callers of the libraries, each proved to do what its contract says. A file is named after its library, without the
-//! `xa_`; `serve` and `managers` are callers of `xa_server`, `own_log`, `processes`, `recovery`, `swaps` and `crash` are
+//! `xa_`; `serve`, `managers` and `paths` are callers of `xa_server`, `own_log`, `processes`, `recovery`, `swaps` and `crash` are
 //! further callers of `xa_system`, and `sql_jobs` of `xa_workers`.
 //!
 //! Nothing runs them: that a call comes to its end is said by the tests of the libraries that it calls.
@@ -15,6 +15,7 @@ pub mod log;
 pub mod managers;
 pub mod model;
 pub mod own_log;
+pub mod paths;
 pub mod processes;
 pub mod recovery;
 pub mod rm;

@@ -12,6 +12,7 @@ ghost use Rattle.xa_log.specs.Contract.{Honestly};
 use std::alloc::Global;
 use std::io::BufReader;
 use xa_log::{DecisionLog, MemLog};
+use xa_names::laws::without_a_name_nothing_changes;
 use xa_server::laws::{served_databases_agree, served_sessions_agree, voted_commits_are_logged};
 use xa_server::{ServeFault, Server};
 use xa_tm::StartFault;
@@ -105,6 +106,7 @@ pub fn silent<L: DecisionLog + Drop>(
         AreServedTo L.moment left.1 (λ b. Unstarted))) }
 {
     served_sessions_agree::<L>();
+    without_a_name_nothing_changes();
     served_over(alloc, threads, rms, log, &[])
 }
 
@@ -133,6 +135,7 @@ pub fn served_twice<L: DecisionLog + Drop>(
 {
     served_sessions_agree::<L>();
     voted_commits_are_logged::<L>();
+    without_a_name_nothing_changes();
     let one = served_over(alloc, threads, rms, log, first)?;
     let two = served_over(alloc, threads, rms, one.1, second)?;
     Ok((one.0, two.0, two.1))
