@@ -27,6 +27,8 @@ use Rattle.xa_sql_log.proofs.FoundDecisions.{some_is}
 use Rattle.xa_requests.specs.declared.request.Request.{Request}
 use Rattle.xa_requests.specs.declared.response.Response.{Response}
 use Rattle.xa_requests.specs.declared.response.Response.TheVariants as responses
+use Rattle.xa_base.specs.StateTable.{broken}
+use Rattle.xa_server.proofs.LeftSessions.{begun_under}
 use Rattle.xa_server.proofs.LogLemmas.{replies_keep}
 use Rattle.xa_server.proofs.TurnLemmas.{split_replies}
 use Rattle.xa_server.specs.Faults.{MayChangeRows}
@@ -207,7 +209,8 @@ module _ {L M : Type 0} (moment : L → Moment) (later : M → Moment) (begin : 
         one_told = a.told;
         two_told = b.told;
         agree = λ one_done one_cut two_done two_cut from to decided c one_may two_may are_decided left_so.
-            let after_one = a.leaves (λ r x. Unstarted) from nothing content [] [] one_done one_cut begun (none_found_in name nothing) one_has one_may
+            let after_one = a.leaves (λ r x. Unstarted) from nothing content [] [] one_done one_cut begun (none_found_in name nothing) one_has
+            (begun_under name (λ f. MayAllStand a.start a.seen (λ b. Comes a.seen b (broken (f b))) one_done one_cut (under name from)) one_may)
             (leaves_last moment mid first.session.last content first.session.log leaves) in
             let after_two = b.leaves from to content c [] decided two_done two_cut after_one are_decided two_has two_may
             (leaves_last later left second.session.last c second.session.log left_so) in
@@ -237,7 +240,8 @@ module _ {L : Type 0} (moment : L → Moment) (begin : SessionsBegin) (law : Man
           has = found.1;
           same = record { decisions = refl; heuristics = refl };
           raised = let least : found.0.incarnation ≤ found.0.incarnation = omega arith in least;
-        }) may (subst (λ l. LeavesIt (moment l) c) is.log leaves)
+        }) (begun_under name (λ f. MayAllStand on.start on.seen (λ b. Comes on.seen b (broken (f b))) done cut (under name F)) may)
+        (subst (λ l. LeavesIt (moment l) c) is.log leaves)
 
   pub beside_so : (m n : List ℕ) (log other left beside : L) (first second first_written second_written : List ℕ)
       → IsSessionOver moment m log first first_written left → IsSessionOver moment n other second second_written beside

@@ -1,15 +1,18 @@
 -- Sessions one after another, each over a log of whatever type, agree.
-use Rattle.std.proofs.Common.{◌≡◌, ◌<◌, ◌⊎◌, inl, inr, ℕ, List, [], Some, refl, sym, subst, arith}
+use Rattle.std.proofs.Common.{◌≡◌, ◌<◌, ◌⊎◌, inl, inr, ℕ, List, [], Some, refl, sym, subst, arith, Bool, true, false, Option, None, ap}
 use Rattle.std.proofs.lemmas.List.Elements.{All-contains, Contains-append_cases}
 use Rattle.std.specs.FinMap.{get}
 use Rattle.std.specs.List.{Contains}
-use Rattle.std.specs.Prelude.{◌≢◌, IsSome}
+use Rattle.std.specs.Prelude.{◌≢◌, IsSome, if◌then◌else◌}
 use Rattle.xa_base.specs.Branch.{IsBranch}
 use Rattle.xa_base.specs.declared.branch.Gtrid.{Gtrid}
 use Rattle.xa_base.specs.declared.state.Standing.{Standing}
-use Rattle.xa_base.specs.declared.state.Standing.TheVariants.{Prepared}
+use Rattle.xa_base.specs.declared.state.Standing.TheVariants.{Prepared, Unstarted}
 use Rattle.xa_log.specs.Content.{Content}
 use Rattle.xa_log.specs.Contract.{Moment}
+use Rattle.xa_base.specs.Branch.{branch_of_xid}
+use Rattle.xa_model.proofs.ProcessLemmas.Leaving.{fits_branch}
+use Rattle.xa_model.specs.Facts.{fits}
 use Rattle.xa_model.specs.Trace.{Branch, Origin}
 use Rattle.xa_monitor.specs.Agreement.{StandAlike}
 use Rattle.xa_monitor.specs.Seen.{Seen}
@@ -20,7 +23,7 @@ use Rattle.xa_server.proofs.LeftLogs.{commit_stands, log_decides, raised_once, s
 use Rattle.xa_server.proofs.LogLemmas.{replies_keep}
 use Rattle.xa_server.proofs.LogStarts.{empty_found, raised_from}
 use Rattle.xa_server.proofs.SessionChains.{AreSessions, Laws, one_more}
-use Rattle.xa_server.specs.LeftSessions.{IsBehind, LeftSessionsAgree, ServedSessionsGoOn, SessionsBegin, SessionsGoOn, SessionsWait, under}
+use Rattle.xa_server.specs.LeftSessions.{IsBehind, LeftSessionsAgree, ServedSessionsGoOn, SessionsBegin, SessionsGoOn, SessionsWait, StandingsAreUnder, under}
 use Rattle.xa_server.specs.NamedLines.{lines_read}
 use Rattle.xa_server.specs.Sessions.{HasOneHistory, HoldsLeft, IsSessionLeft, IsSessionLeft.AfterLine, IsSessionLeft.InAnswer, IsSessionLeft.InRequest, ServedSessionsAreSeen, StartsOver}
 use Rattle.xa_server.specs.Votes.{IsLogged}
@@ -34,10 +37,26 @@ use Rattle.xa_tm.specs.Starting.{StartsHaveContent}
 
 -- ** how they come to be
 
+-- where nothing is, no branch is started
+nothing_under : (name : List ℕ) (b : Branch) → Unstarted ≡ under name (λ r x. Unstarted) b
+nothing_under name b = by (fits b)
+  where
+    by : (t : Bool) → Unstarted ≡ (if t then Unstarted else Unstarted)
+    by true = refl
+    by false = refl
+
+-- so all that holds where none is started holds there
+pub begun_under : (name : List ℕ) (P : (Branch → Standing) → Type 0) → P (λ b. Unstarted) → P (under name (λ r x. Unstarted))
+begun_under name P holds = subst P (λ i. λ b. nothing_under name b i) holds
+
 pub begin : SessionsBegin
 begin name c empty = record {
-  behind = λ next raised.
-      record { log = Empty 0; after = NoneYet 0; finds = empty_found c next empty raised; decided = λ b found. absurd (none b found) };
+  behind = λ next raised. record {
+    log = Empty 0;
+    after = begun_under name (AfterSessions (Empty 0)) (NoneYet 0);
+    finds = empty_found c next empty raised;
+    decided = λ b found. absurd (none b found);
+  };
 }
   where
     none : (b : Branch) → Contains [] b → ⊥
@@ -154,6 +173,21 @@ module _ (agree : (log : Log) (f : Branch → Standing) → AfterSessions log f 
     where
       on : IsBehind (under name F) (Contains found) (start_of c)
       on = left.behind (start_of c) (raised_once content are_apart c)
+
+-- ** databases
+
+-- where an identifier stands, by the branch that it names
+at_branch : (Branch → Standing) → Option Branch → Standing
+at_branch f None = Unstarted
+at_branch f (Some b) = f b
+
+pub are_under : BranchesAreRead → StandingsAreUnder
+unfolding at_branch
+are_under read name f none = (λ r x. at_branch f (branch_of_xid (renamed name x)), λ b. by b (fits b) refl)
+  where
+    by : (b : Branch) (t : Bool) → fits b ≡ t → (if t then at_branch f (branch_of_xid (renamed name (xid_under name b))) else Unstarted) ≡ f b
+    by b true e = ap (at_branch f) (read name b (fits_branch b e))
+    by b false e = sym (none b e)
 
 -- ** managers of different names
 

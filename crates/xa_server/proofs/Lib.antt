@@ -27,3 +27,4 @@ pub mod TurnLemmas
 pub mod UnchangedLemmas
 pub mod VoteLemmas
 pub mod LoggedCommits
+pub mod WorkedSessions

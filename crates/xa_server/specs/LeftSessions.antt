@@ -9,6 +9,7 @@ use Rattle.xa_base.specs.declared.state.Standing.{Standing}
 use Rattle.xa_base.specs.declared.state.Standing.TheVariants.{Completed, Prepared, Unstarted}
 use Rattle.xa_log.specs.Content.{Content}
 use Rattle.xa_log.specs.Contract.{Moment}
+use Rattle.xa_model.specs.Facts.{fits}
 use Rattle.xa_model.specs.Trace.{Branch, How, Line, Origin}
 use Rattle.xa_monitor.specs.Agreement.{MayAllStand, StandAlike}
 use Rattle.xa_monitor.specs.Seen.{Seen, Seen.Start}
@@ -32,9 +33,15 @@ use Rattle.xa_tm.specs.Calls.{log_in}
 abbrev pub Databases : Type 0
 Databases = (rm : ℕ) → Xid → Standing
 
--- where the branches of a manager of this name stand there
+-- where the branches of a manager of this name stand there; one whose numbers don't fit has no identifier, and is never started
 abbrev pub under : List ℕ → Databases → Branch → Standing
-under name F b = F b.rm (xid_under name b)
+under name F b = if fits b then F b.rm (xid_under name b) else Unstarted
+
+-- However branches stand, if those without an identifier aren't started, there are such databases.
+abbrev pub StandingsAreUnder : Type 0
+StandingsAreUnder =
+    (name : List ℕ) (f : Branch → Standing) → ((b : Branch) → fits b ≡ false → f b ≡ Unstarted)
+    → (F : Databases) × ((b : Branch) → under name F b ≡ f b)
 
 -- ** what is left
 

@@ -20,3 +20,4 @@ pub mod Standing
 pub mod Telling
 pub mod Tracking
 pub mod Votes
+pub mod WorkedSessions

@@ -4,7 +4,7 @@ ghost use Rattle.xa_server.specs.Branches.{CallsAreOnBranches};
 ghost use Rattle.xa_server.specs.Faults.{FaultsLeaveAllOrNone, NothingBehindFaults};
 ghost use Rattle.xa_server.specs.LeftSessions.{LeftSessionsAgree, ManagersAgree};
 ghost use Rattle.xa_server.specs.LeftSessions.{ServedManagersAgree, ServedSessionsGoOn, SessionsBegin};
-ghost use Rattle.xa_server.specs.LeftSessions.{SessionsGoOn, SessionsWait};
+ghost use Rattle.xa_server.specs.LeftSessions.{SessionsGoOn, SessionsWait, StandingsAreUnder};
 ghost use Rattle.xa_server.specs.Managers.{ManagersAreApart, RepliesTellOwn};
 ghost use Rattle.xa_server.specs.Sessions.{ServedCommitsStand, ServedLogsDecide};
 ghost use Rattle.xa_server.specs.Sessions.{ServedSessionsAgree, ServedSessionsAreSeen};
@@ -12,6 +12,7 @@ ghost use Rattle.xa_server.specs.Sessions.{ServedSessionsHaveOneHistory};
 ghost use Rattle.xa_server.specs.Tracking.{RepliesAreTracked, ServedDatabasesAgree};
 ghost use Rattle.xa_server.specs.Tracking.{ServedSessionsAreExplained, SessionsAreTracked};
 ghost use Rattle.xa_server.specs.Votes.{CommitsAreLogged, VotedCommitsAreLogged};
+ghost use Rattle.xa_server.specs.WorkedSessions.{SessionsAreThere};
 
 use xa_log::DecisionLog;
 use xa_monitor::laws::{answers_are_explained, sessions_agree};
@@ -131,15 +132,25 @@ pub fn sessions_go_on<L: DecisionLog + Drop>()
 }
 
 /// Such sessions begin with an empty log and no branch (`begin`), and between two a database may end a prepared branch by
-/// itself (`between`). All that [`served_sessions_agree`] says is so of them (`agree`, at `AreLeftAlike`).
+/// itself (`between`). All that [`served_sessions_agree`] says is so of them (`agree`, at `AreLeftAlike`). They are told of databases by
+/// identifiers, and however branches stand, there are such databases (`standings`).
 pub fn left_sessions_agree()
     ensures begin { SessionsBegin }
     ensures between { SessionsWait }
     ensures agree { LeftSessionsAgree }
+    ensures standings { StandingsAreUnder }
 {
     sessions_agree();
     starts_are_histories();
+    names_part_identifiers();
 }
+
+/// What is supposed of sessions can be met: of a transaction with a branch at each of two databases the first session hears both votes
+/// and is left in its `decide`; the second finds the row. Then the one branch is committed, and the other one is prepared still, or
+/// was ended by its database.
+pub fn sessions_are_there()
+    ensures { SessionsAreThere }
+{}
 
 /// Two managers of different names agree over databases that they share, each through any number of sessions over logs of its own:
 /// where all identifiers stand, the branches of each stand alike, and no identifier is of a branch of both.
