@@ -11,8 +11,10 @@ mod halves;
 mod labels;
 mod looking;
 mod opening;
+mod starts;
 
 use crate::{decisions, groups, heuristics, meta, participants, removals, rows, tables};
+pub use files::journal_path;
 pub use opening::memory_is_honest;
 use sqlite::{Alter, Connection};
 use std::alloc::Global;

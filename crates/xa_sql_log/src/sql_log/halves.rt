@@ -1,12 +1,13 @@
 //! Half of a log: a journal whose database file is lost. An open would make a new log over it, and lose what is decided.
-ghost use Rattle.std.specs.Prelude.{◌≡◌, true, nat_le, IfErr, IfOk, Ok};
+ghost use Rattle.std.specs.Prelude.{◌≡◌, ◌≢◌, ◌&&◌, ◌<◌, true, false, nat_le, IfErr, IfOk, Ok};
 ghost use Rattle.std.specs.IoError.{error_kind};
 ghost use Rattle.xa_log.specs.Contract.{IsStoreFault};
 ghost use Rattle.xa_sql_log.specs.Halves.{is_rest};
 
 use super::SqlLog;
-use super::files::{bytes_at, read_fault};
+use super::files::{bytes_at, bytes_or_none, journal_path, read_fault};
 use sqlite::{FileFrom, FileStore, Unknown};
+use std::alloc::Global;
 use std::fs;
 use std::io::{self, ErrorKind};
 use xa_log::LogFault;
@@ -21,7 +22,7 @@ const NO_CHECKPOINTS: [u8; 4] = [0xff; 4];
 
 /// Whether a journal beside a database file that is missing or empty was that of a database: it is longer than one that is
 /// being made, or counts its checkpoints. The first byte of one that is being made is set last.
-fn is_rest(journal: &[u8]) -> bool
+pub(super) fn is_rest(journal: &[u8]) -> bool
     ensures { result ≡ is_rest journal.now }
 {
     journal.len() > NEW_JOURNAL_LEN
@@ -44,14 +45,33 @@ fn is_lost_by(len: io::Result<u64>) -> Result<bool, LogFault>
     }
 }
 
-/// Whether the file at a path is lost.
-fn is_lost(rt: &HostRuntime, path: &str) -> Result<bool, LogFault>
+/// Whether a file of this length and a journal that was read so are half of a log: the file is lost, and the journal is what is
+/// left of it.
+fn half_of(
+    alloc: Global,
+    len: io::Result<u64>,
+    journal: io::Result<Vec<u8>>,
+) -> Result<bool, LogFault>
+    ensures whole { IfOk len (λ len. 1 < len → result ≡ Ok false) }
+    ensures lost { IfOk len (λ len. IfOk journal (λ bytes. IfOk result (λ half.
+        half ≡ (nat_le len 1 && is_rest bytes.items)))) }
+    ensures missing { IfErr len (λ error. error_kind error ≡ ErrorKind.NotFound →
+        IfOk journal (λ bytes. IfOk result (λ half. half ≡ is_rest bytes.items))) }
+    ensures found { IfOk journal (λ _. IfErr result (λ _. IfErr len (λ error.
+        error_kind error ≢ ErrorKind.NotFound))) }
+    ensures unread { IfErr journal (λ error. error_kind error ≢ ErrorKind.NotFound →
+        IfOk result (λ half. IfOk len (λ len. 1 < len))) }
     ensures cause { IfErr result IsStoreFault }
 {
-    match fs::metadata(rt, path) {
-        Ok(found) => is_lost_by(Ok(found.len())),
-        Err(error) => is_lost_by(Err(error)),
+    if !is_lost_by(len)? {
+        return Ok(false);
     }
+    Ok(is_rest(bytes_or_none(alloc, journal)?.as_slice()))
+}
+
+/// The length of the file at a path.
+fn length_at(rt: &HostRuntime, path: &str) -> io::Result<u64> {
+    Ok(fs::metadata(rt, path)?.len())
 }
 
 /// The path of the journal of the database file at a path. As in SQLite, it lies where a link leads.
@@ -59,10 +79,8 @@ fn journal_of(rt: &HostRuntime, path: &str) -> Result<String, LogFault>
     ensures cause { IfErr result IsStoreFault }
 {
     match fs::canonicalize(rt, path) {
-        Ok(real) => Ok(format!(in rt.alloc(); "{}-wal", real.as_str())?),
-        Err(error) if error.kind() == ErrorKind::NotFound => {
-            Ok(format!(in rt.alloc(); "{path}-wal")?)
-        }
+        Ok(real) => Ok(journal_path(rt.alloc(), real.as_str())?),
+        Err(error) if error.kind() == ErrorKind::NotFound => Ok(journal_path(rt.alloc(), path)?),
         Err(error) => Err(read_fault(error)),
     }
 }
@@ -74,10 +92,20 @@ impl SqlLog<FileStore<FileFrom<Unknown>>> {
     pub fn is_half(rt: &HostRuntime, path: &str) -> Result<bool, LogFault>
         ensures cause { IfErr result IsStoreFault }
     {
-        if !is_lost(rt, path)? {
-            return Ok(false);
-        }
         let journal = journal_of(rt, path)?;
-        Ok(is_rest(bytes_at(rt, journal.as_str())?.as_slice()))
+        half_of(
+            rt.alloc(),
+            length_at(rt, path),
+            bytes_at(rt, journal.as_str()),
+        )
+    }
+
+    /// Whether the journal PATH-wal that belongs to a path is that of a database, whatever lies at the path.
+    pub fn has_journal(rt: &HostRuntime, path: &str) -> Result<bool, LogFault>
+        ensures cause { IfErr result IsStoreFault }
+    {
+        let journal = journal_of(rt, path)?;
+        let bytes = bytes_or_none(rt.alloc(), bytes_at(rt, journal.as_str()))?;
+        Ok(is_rest(bytes.as_slice()))
     }
 }

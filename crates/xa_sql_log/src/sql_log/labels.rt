@@ -1,16 +1,17 @@
 //! The label of a log in files: read without a look at its rows, and given to a log when it is made.
-ghost use Rattle.std.specs.Prelude.{IsTrue, IfErr};
+ghost use Rattle.std.specs.Prelude.{◌≡◌, false, Err, IsTrue, IfErr, IfOk, IsErrAnd, Ok};
 ghost use Rattle.xa_log.specs.Contract.{IsStoreFault};
+ghost use Rattle.xa_sql_log.specs.Labels.{is_label};
 
 use super::SqlLog;
-use super::files::{connection_to, copies_of, options_of};
+use super::files::{connection_to, copies_of, options_of, read_fault};
 use crate::label::{find_label, is_label, labelled_text};
 use crate::statements::{of_store, store_fault};
 use crate::tables::make_tables;
 use sqlite::{Alter, Connection, FileFrom, FileStore, Files, Unknown};
 use sqlite_disk::Disk;
 use std::alloc::Global;
-use std::fs;
+use std::{fs, io};
 use xa_log::LogFault;
 
 /// The label of the log in a database, which is closed.
@@ -63,16 +64,27 @@ fn make_in_files<D: Disk + Drop>(
     of_store(with_log(conn, participants)?.close())
 }
 
+/// Whether a file is there, by what the system says. Of a path that can't be looked at nobody says that there is no log.
+fn is_there(found: io::Result<bool>) -> Result<bool, LogFault>
+    ensures found { IfOk found (λ there. result ≡ Ok there) }
+    ensures unread { IfErr found (λ _. IsErrAnd result IsStoreFault) }
+{
+    match found {
+        Ok(there) => Ok(there),
+        Err(error) => Err(read_fault(error)),
+    }
+}
+
 impl SqlLog<FileStore<FileFrom<Unknown>>> {
     /// The label of the log in the file at a path: empty where the log has none, and nothing where no log is there. The
     /// files are read into memory, and written neither.
     pub fn label(rt: &HostRuntime, path: &str) -> Result<Option<String>, LogFault>
         ensures cause { IfErr result IsStoreFault }
     {
-        match fs::exists(rt, path) {
-            Ok(true) => label_in_files(rt.alloc(), copies_of(rt, path)?),
-            Ok(false) => Ok(None),
-            Err(_) => Err(LogFault::Store),
+        if is_there(fs::exists(rt, path))? {
+            label_in_files(rt.alloc(), copies_of(rt, path)?)
+        } else {
+            Ok(None)
         }
     }
 
@@ -83,6 +95,7 @@ impl SqlLog<FileStore<FileFrom<Unknown>>> {
     ///   failed.
     /// - [`LogFault::Memory`]: a request for memory was refused.
     pub fn make(rt: &HostRuntime, path: &str, label: &str) -> Result<(), LogFault>
+        ensures no_label { is_label label.now ≡ false → result ≡ Err LogFault.Store }
         ensures cause { IfErr result IsStoreFault }
     {
         if !is_label(label) {
