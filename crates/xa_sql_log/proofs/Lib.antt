@@ -11,6 +11,7 @@ pub mod Deletes
 pub mod FoundDatabase
 pub mod GroupedRows
 pub mod FoundDecisions
+pub mod HeldContents
 pub mod HeuristicReads
 pub mod HeuristicRows
 pub mod Inserts

@@ -1,6 +1,7 @@
 pub mod ClosedFiles
 pub mod Faults
 pub mod Halves
+pub mod HeldContents
 pub mod Labels
 pub mod OpenedDatabase
 pub mod PreparedDatabase

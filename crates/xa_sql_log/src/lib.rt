@@ -17,4 +17,4 @@ mod tables;
 mod version;
 
 pub use label::is_label;
-pub use sql_log::{SqlLog, journal_path, memory_is_honest};
+pub use sql_log::{LockFault, SqlLog, journal_path, memory_is_honest};

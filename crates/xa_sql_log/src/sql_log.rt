@@ -5,6 +5,7 @@ ghost use Rattle.sqlite.specs.Held.{state};
 ghost use Rattle.xa_sql_log.specs.OpenedDatabase.{IsFoundLog, IsKnownDatabase};
 ghost use Rattle.xa_sql_log.specs.PreparedDatabase.{Prepares};
 
+mod claiming;
 mod closing;
 mod files;
 mod halves;
@@ -14,6 +15,7 @@ mod opening;
 mod starts;
 
 use crate::{decisions, groups, heuristics, meta, participants, removals, rows, tables};
+pub use claiming::LockFault;
 pub use files::journal_path;
 pub use opening::memory_is_honest;
 use sqlite::{Alter, Connection};

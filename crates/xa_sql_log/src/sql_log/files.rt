@@ -41,7 +41,7 @@ pub(super) fn options_of(seed: u64) -> Options {
 }
 
 /// The options of a log with a seed by chance.
-fn options_by_chance(rt: &HostRuntime) -> Result<Options, LogFault>
+pub(super) fn options_by_chance(rt: &HostRuntime) -> Result<Options, LogFault>
     ensures { IfErr result IsStoreFault }
 {
     let Ok(state) = RandomState::new(rt) else {
@@ -62,7 +62,7 @@ pub(super) fn read_fault(error: io::Error) -> LogFault
 }
 
 /// The fault of files that don't open.
-fn open_fault(error: OpenError) -> LogFault
+pub(super) fn open_fault(error: OpenError) -> LogFault
     ensures { IsStoreFault result }
 {
     match error {

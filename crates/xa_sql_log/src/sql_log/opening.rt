@@ -21,7 +21,7 @@ use xa_log::{DecisionLog, LogFault};
 
 impl<S: Alter + Drop> SqlLog<S> {
     /// Does what `adopt` does, and closes the connection where that fails.
-    fn adopt_or_close(conn: Connection<S>) -> Result<SqlLog<S>, LogFault>
+    pub(super) fn adopt_or_close(conn: Connection<S>) -> Result<SqlLog<S>, LogFault>
         ensures faults { IfOk result (λ log. log.faults ≡ 0) }
         ensures taken { IfOk result (λ log. HasCleanDisk (state S.Store log.conn) →
             Prepares (state S.Store conn) (state S.Store log.conn) (Ok tt)) }
