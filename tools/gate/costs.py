@@ -44,6 +44,10 @@ def slowness():
     return (1 + 2 * seconds_of_squares() / SECONDS) / 3
 
 
+def rounded(minutes):
+    return f"{max(1, round(minutes))} minute{'s' * (round(minutes) > 1)}"
+
+
 class Costs:
     def __init__(self, top):
         self.crates = crates_of(top).values()
@@ -60,7 +64,7 @@ class Costs:
 
     def quick(self):
         minutes = QUICK * slowness() / jobs_for(BYTES_A_JOB)
-        return f"the quick part is done, and nothing is proved: at most about {self.rounded(minutes)}, {self.on()}"
+        return f"the quick part is done, and nothing is proved: at most about {rounded(minutes)}, {self.on()}"
 
     def whole(self):
         """By the lines of the crates that are left."""
@@ -68,7 +72,7 @@ class Costs:
         parts = [self.part(self.left, self.crates) * PROOFS, edits / 60]
         minutes = ((QUICK_PART + sum(parts)) / jobs_for(BYTES_A_JOB) + (LAST if self.left else LAST_KEPT)) * slowness()
         kept = f"of {len(self.crates)} crates {len(self.crates) - len(self.left)} have passed here as they are"
-        return f"the quick part is done, and the whole gate: about {self.rounded(minutes)}, {self.on()}; {kept}"
+        return f"the quick part is done, and the whole gate: about {rounded(minutes)}, {self.on()}; {kept}"
 
     def first(self):
         """The crate that all others rest on that are left, if there is one."""
@@ -82,10 +86,6 @@ class Costs:
     def on():
         """Of a machine that is busy now the free memory alone counts, not how long others make it wait."""
         return f"{jobs_for(BYTES_A_JOB)} at a time, if nothing else uses the {processors()} processors"
-
-    @staticmethod
-    def rounded(minutes):
-        return f"{max(1, round(minutes))} minute{'s' * (round(minutes) > 1)}"
 
     def keep(self):
         """Notes which crates have passed, for the next estimate alone."""

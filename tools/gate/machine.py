@@ -44,20 +44,21 @@ class Busy:
         return processors() * (1 - (idle - was_idle) / max(1, all_times - was_all))
 
 
-def put_last(pid):
-    """Gives a process that leads a session the lowest priority, and so what it starts from now on."""
-    with contextlib.suppress(OSError):
-        os.setpriority(os.PRIO_PROCESS, pid, 19)
-    nice_as_session(pid, 19)
+def put_last(leader):
+    """Gives all that runs in the session of this leader the lowest priority, and so what it starts from now on."""
+    nice_all(leader, 19)
 
 
-def put_back(pid):
-    """Gives all that runs in the session of this leader the priority of this program, if it may."""
-    nice = os.getpriority(os.PRIO_PROCESS, 0)
-    for group in {int(fields[2]) for _, fields in of_session(pid)}:
+def put_back(leader):
+    """Gives it the priority of this program, if this program may."""
+    nice_all(leader, os.getpriority(os.PRIO_PROCESS, 0))
+
+
+def nice_all(leader, nice):
+    for group in {int(fields[2]) for _, fields in of_session(leader)}:
         with contextlib.suppress(OSError):
             os.setpriority(os.PRIO_PGRP, group, nice)
-    nice_as_session(pid, nice)
+    nice_as_session(leader, nice)
 
 
 def nice_as_session(pid, nice):
