@@ -92,7 +92,7 @@ show() {
         fi
         run=$((run + 1))
     done
-    awk -F '|' -f bench/table.awk "$work"/figures.*
+    awk -F '|' -v benchmark="$name" -v ratios="${BENCH_RATIOS:-}" -f bench/table.awk "$work"/figures.*
 }
 
 work=$(mktemp -d)

@@ -1,5 +1,6 @@
 # Prints the lines 'CASE|WHO|FIGURE' of some runs as a table: a row for each who of a case, a column for each run, and the
 # middle of them. Below each row of a case but the first stands the first divided by it, run by run, unless it ends in ', cold'.
+# Where the file `ratios` is named, each of these ratios is added to it too: 'BENCHMARK|CASE|WHO|OURS|THEIRS|RATIO', each the middle.
 
 # 1234567 as 1,234,567; and 12.34 as 12.3.
 function shown(figure,   text, groups) {
@@ -25,13 +26,14 @@ function sort_row(   i, j, low) {
     }
 }
 
-# Prints row[1..runs] and the middle of it, and leaves it sorted.
+# Prints row[1..runs] and the middle of it, returns that, and leaves the row sorted.
 function print_row(title, is_ratio,   run, middle) {
     printf "  %-28s", title
     for (run = 1; run <= runs; run++) printf " %11s", is_ratio ? shown_ratio(row[run]) : shown(row[run])
     sort_row()
     middle = row[int((runs + 1) / 2)]
     printf " %11s\n", is_ratio ? shown_ratio(middle) : shown(middle)
+    return middle
 }
 
 {
@@ -50,10 +52,12 @@ END {
         print name
         for (w = 1; w <= whos[name]; w++) {
             for (run = 1; run <= runs; run++) row[run] = figure[name, who[name, w], run]
-            print_row(who[name, w], 0)
+            middle = print_row(who[name, w], 0)
+            if (w == 1) ours = middle
             if (w == 1 || who[name, w] ~ /, cold$/) continue
             for (run = 1; run <= runs; run++) row[run] = figure[name, who[name, 1], run] / figure[name, who[name, w], run]
-            print_row("ratio", 1)
+            ratio = print_row("ratio", 1)
+            if (ratios) print benchmark "|" name "|" who[name, w] "|" shown(ours) "|" shown(middle) "|" shown_ratio(ratio) >> ratios
         }
     }
 }
