@@ -3,6 +3,7 @@ pub mod BehindFaults
 pub mod BranchLemmas
 pub mod Failures
 pub mod FaultLemmas
+pub mod HeardEnds
 pub mod KnownCalls
 pub mod LineLemmas
 pub mod LogLemmas

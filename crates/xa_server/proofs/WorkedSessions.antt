@@ -1,7 +1,6 @@
 -- Two sessions, worked out.
-use Rattle.std.proofs.Common.{◌≡◌, ◌∙◌, ◌⊎◌, ◌<◌, inl, inr, ℕ, zero, suc, ◌+◌, Bool, true, false, List, [], ◌∷◌, ◌++◌, length, Option, Some, None, refl, sym, ap, subst, arith}
+use Rattle.std.proofs.Common.{◌≡◌, ◌∙◌, ◌<◌, inl, inr, ℕ, suc, Bool, true, false, List, [], ◌∷◌, ◌++◌, length, Option, Some, None, refl, sym, ap, subst, arith}
 use Rattle.std.specs.Prelude.{◌==◌, ◌||◌, if◌then◌else◌, filter, slice_get}
-use Rattle.std.proofs.lemmas.Bool.{true≢false}
 use Rattle.xa_base.proofs.BranchKeys.{branch_eq-true, gtrid_eq-true}
 use Rattle.xa_base.specs.Branch.{branch_eq, gtrid_eq}
 use Rattle.xa_base.specs.HeldBranch.{HeldBranch, new_branch}
@@ -14,18 +13,16 @@ use Rattle.xa_base.specs.declared.call.Call.TheVariants as Calls
 use Rattle.xa_base.specs.declared.code.Code.TheVariants.{Success}
 use Rattle.xa_base.specs.declared.state.Standing.{Standing}
 use Rattle.xa_base.specs.declared.state.Standing.TheVariants.{Active, Committed, Completed, Idle, Prepared, Unstarted}
-use Rattle.xa_base.specs.declared.step.Outcome.TheVariants as Outcomes
 use Rattle.xa_base.specs.declared.vote.Vote.TheVariants.{Yes}
-use Rattle.xa_model.specs.Facts.{Change, Change.AddRows, Change.NoChange, branches, doubt, fault_change, fits, has_gtrid, heard, heuristic_rows, heuristics_changed, incarnation, issued, lists_row, live, log, next_call, record_of, row_for, rows_changed, says_yes, says_yes_in, started, taken, takes_part, up, was_told}
-use Rattle.xa_model.specs.Promises.Processes.{SameRecords, SameRows, resumed}
-use Rattle.xa_model.specs.Protocol.{HasVoted, IsRun, Right, RightFault}
-use Rattle.xa_model.specs.Trace.{Answer, Branch, Call, Code, Fault.InDecide, Happening, Happening.Begun, Happening.CompletedAlone, Happening.Failed, Happening.Heard, Happening.Issued, Happening.PutOff, Happening.Took, Happening.Voted, How, Line, Origin, Row, Trace, Trace.From, Trace.Then, line}
+use Rattle.xa_model.specs.Facts.{Change, Change.AddRows, Change.NoChange, branches, doubt, fits, heard, heuristic_rows, heuristics_changed, incarnation, issued, lists_row, live, log, record_of, row_for, rows_changed, says_yes, says_yes_in, started, taken, takes_part, up, was_told}
+use Rattle.xa_model.specs.Promises.Processes.{SameRecords, SameRows}
+use Rattle.xa_model.specs.Protocol.{HasVoted, Right, RightFault}
+use Rattle.xa_model.specs.Trace.{Answer, Branch, Call, Code, Fault.InDecide, Happening, Happening.Begun, Happening.CompletedAlone, Happening.Failed, Happening.Heard, Happening.Issued, Happening.PutOff, Happening.Took, Happening.Voted, How, Line, Origin, Row, Trace, Trace.Then, line}
 use Rattle.xa_monitor.specs.Agreement.{IsLineOf, MayAllStand, MayAllStand.AsTold, MayAllStand.UnderWay, WaitsAt, waiting_call_at}
-use Rattle.xa_monitor.specs.Explained.{HasOnlyOlderRows}
 use Rattle.xa_monitor.specs.Named.{AreOnBranches, IsNamedCall}
-use Rattle.xa_monitor.specs.Seen.{Alone, Alone.Ends as Ended, Alone.NoMore, Alone.PutsOff, Alone.Votes, IsHistory, IsHistory.Does, IsHistory.Hears, IsHistory.Starts as Begins, HasAnswer, IsManagers, KeepsRules, Seen, Seen.Answered, Seen.Did, Seen.Start, Waits, start_with}
-use Rattle.xa_monitor.specs.Sessions.{AfterSessions, AfterSessions.Between, AfterSessions.NoneYet, AfterSessions.OneMore, Finds, FindsLog, IsSession, Log, Log.Empty, Log.LeftBy, nothing_yet}
-use Rattle.xa_monitor.specs.Standings.{Comes, Explained, Explains, ExplainsIf}
+use Rattle.xa_monitor.specs.Seen.{Alone, Alone.Ends as Ended, Alone.NoMore, Alone.PutsOff, Alone.Votes, IsHistory, IsHistory.Does, IsHistory.Hears, IsHistory.Starts as Begins, HasAnswer, IsManagers, KeepsRules, Seen, Seen.Answered, Seen.Did, Seen.Start, start_with}
+use Rattle.xa_monitor.specs.Sessions.{AfterSessions, AfterSessions.Between, AfterSessions.NoneYet, AfterSessions.OneMore, Finds, FindsLog, IsSession, Log.Empty, Log.LeftBy, nothing_yet}
+use Rattle.xa_monitor.specs.Standings.{Comes, Explains, ExplainsIf}
 use Rattle.xa_server.specs.WorkedSessions.{AreWorked, SessionsAreThere}
 
 -- ** the transaction, its branches and their lines

@@ -3,6 +3,7 @@ pub mod Calls
 pub mod Crashes
 pub mod Decisions
 pub mod Faults
+pub mod HeardEnds
 pub mod LeftSessions
 pub mod Lines
 pub mod Looks

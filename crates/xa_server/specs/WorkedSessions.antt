@@ -1,6 +1,6 @@
 -- Two sessions, worked out: of a transaction with a branch at each of two databases the first session hears both votes, and is left in its
 -- `decide`; the second finds the row and has one of the two committed. So what is supposed of sessions can be met.
-use Rattle.std.specs.Prelude.{◌≡◌, ◌≢◌, ◌⊎◌, List, [], ◌∷◌, Some}
+use Rattle.std.specs.Prelude.{◌≡◌, ◌≢◌, ◌⊎◌, [], ◌∷◌, Some}
 use Rattle.xa_base.specs.declared.branch.Gtrid.{Gtrid}
 use Rattle.xa_base.specs.declared.state.Standing.{Standing}
 use Rattle.xa_base.specs.declared.state.Standing.TheVariants.{Committed, Completed, Prepared}

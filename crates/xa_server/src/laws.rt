@@ -2,6 +2,7 @@
 
 ghost use Rattle.xa_server.specs.Branches.{CallsAreOnBranches};
 ghost use Rattle.xa_server.specs.Faults.{FaultsLeaveAllOrNone, NothingBehindFaults};
+ghost use Rattle.xa_server.specs.HeardEnds.{HeardEndsStay};
 ghost use Rattle.xa_server.specs.LeftSessions.{LeftSessionsAgree, ManagersAgree};
 ghost use Rattle.xa_server.specs.LeftSessions.{ServedManagersAgree, ServedSessionsGoOn, SessionsBegin};
 ghost use Rattle.xa_server.specs.LeftSessions.{SessionsGoOn, SessionsWait, StandingsAreUnder};
@@ -144,6 +145,15 @@ pub fn left_sessions_agree()
     starts_are_histories();
     names_part_identifiers();
 }
+
+/// What was heard of the end of a branch is so for ever, over databases that obey the branch state table: where the answer to a call on
+/// it told that it is committed (XA_OK to xa_commit) or rolled back (XA_OK to xa_rollback, or an XA_RB code), it stands so
+/// behind all sessions, whatever was asked and answered since.
+///
+/// The sessions are those of `xa_monitor`, each with what was seen in it (`AfterSessions`).
+pub fn heard_ends_stay()
+    ensures { HeardEndsStay }
+{}
 
 /// What is supposed of sessions can be met: of a transaction with a branch at each of two databases the first session hears both votes
 /// and is left in its `decide`; the second finds the row. Then the one branch is committed, and the other one is prepared still, or
