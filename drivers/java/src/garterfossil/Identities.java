@@ -113,6 +113,11 @@ final class Identities {
         };
     }
 
+    /** The same, for one who only looks: null if nothing is known, and nothing is kept. */
+    synchronized Known onlySeen(int number, String name) {
+        return known.containsKey(number) ? of(number, name) : null;
+    }
+
     private synchronized void see(int number, String name, String identity, String at) throws Fault.Lost {
         Entry before = known.get(number);
         if (before == null) {

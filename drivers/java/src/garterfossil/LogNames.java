@@ -83,7 +83,7 @@ final class LogNames {
     }
 
     /** What {@code xatm log} prints. */
-    private static String listed(Path log, Coordinator.Starter starter, String program) throws Fault.Gone {
+    static String listed(Path log, Coordinator.Starter starter, String program) throws Fault.Gone {
         try {
             Process process = starter.start(List.of(program, "log", log.toString()));
             process.getOutputStream().close();

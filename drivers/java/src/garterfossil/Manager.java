@@ -114,6 +114,22 @@ public final class Manager implements AutoCloseable {
             return this;
         }
 
+        /** What is in doubt at the resources of the log. It only looks, also beside a manager that has the log. */
+        public Doubt status() throws Fault {
+            return Doubt.of(log, starter, program, resources);
+        }
+
+        /** Ends what is in doubt, and nothing else: how many branches and recoveries still wait for a resource after so long. */
+        public int recover(Duration longest) throws Fault {
+            try (Manager manager = start()) {
+                long until = System.nanoTime() + longest.toNanos();
+                while (manager.owing() > 0 && System.nanoTime() < until) {
+                    pause();
+                }
+                return manager.owing();
+            }
+        }
+
         /** Starts it: recovers each resource that can be reached. The others are recovered as soon as they can be. */
         public Manager start() throws Fault {
             Manager manager = new Manager(this);

@@ -48,9 +48,15 @@ final class ResourceManager {
     // Those of them that are lent for work outside of transactions.
     private final Set<Long> outside = ConcurrentHashMap.newKeySet();
     // Connections that are no one's any more may be there: those of earlier managers, and later those that were lost.
-    private volatile boolean hasStrays = true;
+    private volatile boolean hasStrays;
 
     ResourceManager(int number, Resource resource) {
+        this(number, resource, true);
+    }
+
+    /** Of one that only looks no connections are to be ended. */
+    ResourceManager(int number, Resource resource, boolean hasStrays) {
+        this.hasStrays = hasStrays;
         this.number = number;
         this.resource = resource;
         pooling = resource.pooling();

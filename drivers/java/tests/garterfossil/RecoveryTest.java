@@ -555,6 +555,30 @@ public class RecoveryTest {
     }
 
     @Test
+    public void whatIsInDoubt() throws Exception {
+        world.manager.close();
+        BranchXid decided = BranchXid.of(world.manager.name(), "0000000000000001" + "0000000000000008", 1, 1);
+        BranchXid others = BranchXid.of("other", "0000000000000001" + "0000000000000008", 1, 0);
+        rowsOfAnEarlierSession(decided);
+        world.a.branches.put(world.own(1, 9), StandInResource.State.PREPARED);
+        world.a.branches.put(others, StandInResource.State.PREPARED);
+        world.a.calls.clear();
+        Doubt doubt = world.builder().status();
+        assertEquals(2, doubt.branches());
+        assertTrue(doubt.toString(), doubt.toString().contains("resource 0, a: 1 in doubt\n  " + world.own(1, 9) + ": waits for xa_rollback"));
+        assertTrue(doubt.toString(), doubt.toString().contains("resource 1, b: 1 in doubt\n  " + decided + ": waits for xa_commit"));
+        // It only looks.
+        assertEquals(List.of("recover"), world.a.calls);
+        assertEquals(0, world.builder().recover(Duration.ofSeconds(10)));
+        assertEquals(List.of(decided), world.b.committed);
+        assertEquals(Set.of(others), world.a.branches.keySet());
+        assertEquals(0, world.builder().status().branches());
+        world.b.isDown = true;
+        assertEquals(1, world.builder().status().unreachable());
+        assertEquals(1, world.builder().recover(Duration.ofMillis(300)));
+    }
+
+    @Test
     public void aHeuristicEndThatNoPageLists() throws Exception {
         world.manager.close();
         BranchXid one = BranchXid.of(world.manager.name(), "0000000000000001" + "0000000000000008", 1, 1);

@@ -39,7 +39,7 @@ import java.util.stream.Collectors;
  * several. Where `slow` is there, a decision takes 20 ms. The file `refuse-at` has the beginning of a request that is refused once.
  * Where the file `die-at` has a word, it ends at the first request that begins with it, instead of a reply, and removes the file;
  * {@code decided} is a decision to commit that it makes and doesn't tell. It begins with the line of the protocol where the file
- * `protocol` has its words. The file `names` has what {@code xatm log} prints of its log. From the first request that begins with the word of
+ * `protocol` has its words. The files `names` and `rows` have what {@code xatm log} prints of its log. From the first request that begins with the word of
  * the file `silent` on it says nothing, and the file is removed.
  */
 final class StandInCoordinator extends Process {
@@ -76,7 +76,7 @@ final class StandInCoordinator extends Process {
     /** The process of a command, as {@code xatm} has it. */
     static Process of(Path folder, List<String> words) throws IOException {
         if (words.get(1).equals("log")) {
-            return new ProcessBuilder("cat", folder.resolve("names").toString()).start();
+            return new ProcessBuilder("cat", folder.resolve("names").toString(), folder.resolve("rows").toString()).start();
         }
         return new StandInCoordinator(folder, words);
     }

@@ -1,0 +1,118 @@
+package garterfossil;
+
+import garterfossil.jdbc.JdbcResource;
+import java.io.IOException;
+import java.io.Reader;
+import java.lang.reflect.InvocationTargetException;
+import java.lang.reflect.Method;
+import java.nio.file.Files;
+import java.nio.file.Path;
+import java.time.Duration;
+import java.util.LinkedHashMap;
+import java.util.Locale;
+import java.util.Map;
+import java.util.Properties;
+import java.util.TreeMap;
+import javax.sql.XADataSource;
+
+/**
+ * The command line: {@code java -cp .. garterfossil.Command status FILE}, or {@code recover FILE}. The file has properties: {@code log}, {@code
+ * program}, and of each resource {@code resource.NAME.class}, its XADataSource or XAConnectionFactory, and what is to be set on that, as {@code
+ * resource.NAME.url}.
+ *
+ * <p>The status is 0; or 1 if something is in doubt still; or 2 if a resource, or the log, can't be had.
+ */
+public final class Command {
+    private static final String RESOURCE = "resource.";
+    private static final Duration LONGEST = Duration.ofSeconds(60);
+
+    private Command() {
+    }
+
+    public static void main(String[] words) {
+        System.exit(run(words));
+    }
+
+    static int run(String[] words) {
+        if (words.length != 2 || !words[0].equals("status") && !words[0].equals("recover")) {
+            System.err.println("usage: garterfossil.Command status FILE, or recover FILE");
+            return 3;
+        }
+        try {
+            Manager.Builder builder = builder(Path.of(words[1]));
+            int owing = words[0].equals("recover") ? builder.recover(LONGEST) : 0;
+            Doubt doubt = builder.status();
+            System.out.println(doubt);
+            return doubt.unreachable() > 0 ? 2 : owing + doubt.branches() > 0 ? 1 : 0;
+        } catch (Fault | IOException | ReflectiveOperationException | IllegalArgumentException error) {
+            System.err.println("garterfossil: " + words[1] + ": " + error.getMessage());
+            return 2;
+        }
+    }
+
+    private static Manager.Builder builder(Path file) throws IOException, ReflectiveOperationException {
+        Properties found = new Properties();
+        try (Reader reader = Files.newBufferedReader(file)) {
+            found.load(reader);
+        }
+        Manager.Builder builder = Manager.over(Path.of(required(found, "log")));
+        if (found.containsKey("program")) {
+            builder.program(found.getProperty("program"));
+        }
+        for (Map.Entry<String, Map<String, String>> it : resources(found).entrySet()) {
+            builder.resource(resource(it.getKey(), it.getValue()));
+        }
+        return builder;
+    }
+
+    private static String required(Properties found, String key) {
+        if (!found.containsKey(key)) {
+            throw new IllegalArgumentException("there is no " + key);
+        }
+        return found.getProperty(key);
+    }
+
+    /** What is set of each resource, by their names. */
+    private static Map<String, Map<String, String>> resources(Properties found) {
+        Map<String, Map<String, String>> all = new TreeMap<>();
+        for (String key : found.stringPropertyNames()) {
+            String[] parts = key.split("\\.", 3);
+            if (key.startsWith(RESOURCE) && parts.length == 3) {
+                all.computeIfAbsent(parts[1], it -> new LinkedHashMap<>()).put(parts[2], found.getProperty(key));
+            }
+        }
+        return all;
+    }
+
+    private static Resource resource(String name, Map<String, String> set) throws ReflectiveOperationException {
+        if (!set.containsKey("class")) {
+            throw new IllegalArgumentException("there is no " + RESOURCE + name + ".class");
+        }
+        Object source = Class.forName(set.remove("class")).getDeclaredConstructor().newInstance();
+        for (Map.Entry<String, String> it : set.entrySet()) {
+            set(source, it.getKey(), it.getValue());
+        }
+        if (source instanceof XADataSource) {
+            return JdbcResource.of(name, (XADataSource) source);
+        }
+        // JMS isn't everywhere.
+        Method of = Class.forName("garterfossil.jms.JmsResource").getMethod("of", String.class, Class.forName("javax.jms.XAConnectionFactory"));
+        return (Resource) of.invoke(null, name, source);
+    }
+
+    private static void set(Object target, String name, String text) throws ReflectiveOperationException {
+        String setter = "set" + name.substring(0, 1).toUpperCase(Locale.ROOT) + name.substring(1);
+        for (Method method : target.getClass().getMethods()) {
+            Class<?> kind = method.getParameterCount() == 1 && method.getName().equals(setter) ? method.getParameterTypes()[0] : null;
+            if (kind == String.class || kind == int.class || kind == boolean.class) {
+                try {
+                    method.invoke(target, kind == int.class ? (Object) Integer.valueOf(text) : kind == boolean.class ? (Object) Boolean.valueOf(text) : text);
+                    return;
+                } catch (InvocationTargetException error) {
+                    throw new IllegalArgumentException(name + ": " + error.getCause().getMessage());
+                }
+            }
+        }
+        throw new IllegalArgumentException(target.getClass().getName() + " has no " + name + " to be set");
+    }
+}
