@@ -14,7 +14,7 @@ import javax.transaction.xa.XAResource;
 
 /** The part of a transaction at one resource, over one connection. Its transaction calls it, one call after the other. */
 final class Branch {
-    private static final Duration A_SECOND = Duration.ofSeconds(1);
+    private static final Duration A_SECOND = Duration.ofSeconds(1), SHORTLY = Duration.ofSeconds(3);
     private static final String NO_MORE_WORK = "the transaction is over for this connection: get a new one";
 
     final BranchXid xid;
@@ -41,6 +41,18 @@ final class Branch {
         this.resource = resource;
         this.left = left;
         this.counts = counts;
+    }
+
+    /** Its rollback may take so long, since its time is over: then its connection is given up, which ends it too. */
+    void boundShortly() {
+        if (lease != null) {
+            Duration most = rm().resource.patience();
+            lease.link.bound(most.compareTo(SHORTLY) < 0 ? most : SHORTLY);
+        }
+    }
+
+    void boundAsUsual() {
+        bound(false);
     }
 
     /** How long the calls that follow may take: before the decision no longer than the transaction, but a second at least. */
@@ -342,7 +354,6 @@ final class Branch {
 
     /** xa_end, if it waits on the line; and the no to xa_prepare, if that does. */
     void endToRollBack() throws Fault {
-        bound(false);
         if (may == ACTIVE && !isLost) {
             endWork();
         }

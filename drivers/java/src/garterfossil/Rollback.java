@@ -33,8 +33,10 @@ final class Rollback {
         List<Branch> ending = new ArrayList<>(branches.all());
         ending.removeIf(branch -> !isIssued(branch));
         if (isApart) {
+            ending.forEach(Branch::boundShortly);
             apart(ending);
         } else {
+            ending.forEach(Branch::boundAsUsual);
             manager.helpers.each(ending, branches.session().isBusy(), this::end);
         }
         transaction.awaitAll(new ArrayList<>(debts), PATIENCE);
