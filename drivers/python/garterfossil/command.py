@@ -5,17 +5,18 @@ from __future__ import annotations
 import argparse
 import logging
 import sys
-from typing import Iterator, List, Mapping, Optional, Sequence, Tuple
+from typing import Any, Callable, Dict, Iterator, List, Mapping, Optional, Sequence, Tuple
 
 from . import __version__
 from .calls import Call
 from .codes import Code
 from .configuration import Configuration
 from .coordinator import Coordinator, serve_command
-from .doubt import IN_USE, Listing, Log, incarnation_in, listings_of, logs_of, manager_in, place_of
+from .doubt import IN_USE, Listing, Log, incarnation_in, listings_of, logs_of, manager_in, place_of, settled_listings_of
 from .errors import LogInUse, SetupError, XaError
 from .failover import fail_over
 from .logs import logs_of_workers
+from .metrics import Metric, in_json, in_prometheus
 from .xid import Xid
 
 #: So many branches of another manager are shown.
@@ -46,7 +47,7 @@ def main(words: Sequence[str]) -> int:
             return _fail_over(configuration, given)
         if given.does == "recover":
             _recover(configuration)
-        return _status(configuration)
+        return _status(configuration, getattr(given, "format", "text"))
     except XaError as error:
         print(f"garterfossil: {error}", file=sys.stderr)
         return 2
@@ -63,6 +64,7 @@ def _parser() -> argparse.ArgumentParser:
     failover = does.add_parser("failover", help="make the log anew from the mirror, where the machine that had it is lost")
     for one in (status, recover, end, failover):
         one.add_argument("--config", required=True, metavar="FILE", help="what the manager is made of")
+    status.add_argument("--format", choices=["text", "json", "prometheus"], default="text", help="how it is printed")
     end.add_argument("branch", metavar="BRANCH", help="its identifier, as status shows it")
     end.add_argument("--yes", action="store_true", help="don't ask")
     end.add_argument("--left-by", metavar="NAME", help="it is of another manager, of this name, which is gone for good with its log")
@@ -85,12 +87,72 @@ def _recover(configuration: Configuration) -> None:
             logging.getLogger("garterfossil").info("%s", error)
 
 
-def _status(configuration: Configuration) -> int:
+def _status(configuration: Configuration, form: str) -> int:
     logs = logs_of(configuration)
-    found = listings_of(configuration, [log.names.manager for log in logs.values()])
-    for line in _lines(configuration, logs, found):
-        print(line)
+    found = settled_listings_of(configuration, logs)
+    if form == "json":
+        print(in_json(_shown(configuration, logs, found)))
+    elif form == "prometheus":
+        print(in_prometheus(_metrics(configuration, logs, found)), end="")
+    else:
+        for line in _lines(configuration, logs, found):
+            print(line)
     return 1 if any(one.own or one.fault for one in found) else 0
+
+
+def _shown(configuration: Configuration, logs: Mapping[str, Log], found: List[Listing]) -> Dict[str, Any]:
+    """The same as objects, for programs."""
+    by_manager = {log.names.manager: log for log in logs.values()}
+
+    def branch(one: Listing, xid: Xid) -> Dict[str, Any]:
+        log = by_manager[manager_in(xid)]
+        waits_for = None if log.objection(xid) is not None else log.call_for(xid)
+        return {"branch": str(xid), "seconds": one.ages.get(xid), "waits_for": waits_for}
+
+    return {
+        "logs": [
+            {
+                "path": path,
+                "manager": log.names.manager or None,
+                "decided": sorted(log.decided),
+                "heuristics": list(log.heuristics),
+                "incarnation": log.incarnation,
+                "fault": log.fault,
+            }
+            for path, log in logs.items()
+        ],
+        "databases": [
+            {
+                "number": rm,
+                "name": configuration.names[rm] if configuration.names else None,
+                "fault": one.fault,
+                "in_doubt": [branch(one, xid) for xid in one.own],
+                "of_others": {name: sum(manager_in(xid) == name for xid in one.others) for name in map(manager_in, one.others)},
+            }
+            for rm, one in enumerate(found)
+        ],
+    }
+
+
+def _metrics(configuration: Configuration, logs: Mapping[str, Log], found: List[Listing]) -> List[Metric]:
+    """The same as numbers."""
+
+    def at_each(value: Callable[[Listing], float]) -> List[Tuple[Dict[str, str], float]]:
+        names = configuration.names or [str(rm) for rm in range(len(found))]
+        return [({"database": name}, value(one)) for name, one in zip(names, found)]
+
+    def of_each(value: Callable[[Log], float]) -> List[Tuple[Dict[str, str], float]]:
+        return [({"log": path}, value(log)) for path, log in logs.items()]
+
+    return [
+        Metric("in_doubt", "Branches in doubt.", "gauge", at_each(lambda one: len(one.own))),
+        Metric("in_doubt_seconds", "Since when the oldest is.", "gauge", at_each(lambda one: max([one.ages.get(xid, 0) for xid in one.own], default=0))),
+        Metric("of_others", "Branches of other managers.", "gauge", at_each(lambda one: len(one.others))),
+        Metric("reachable", "1 if the database can be asked.", "gauge", at_each(lambda one: int(one.fault is None))),
+        Metric("log_in_use", "1 while a program has the log.", "gauge", of_each(lambda log: int(log.fault == IN_USE))),
+        Metric("log_decided", "Decisions in the log.", "gauge", of_each(lambda log: len(log.decided))),
+        Metric("log_heuristics", "Records of heuristic ends in the log.", "gauge", of_each(lambda log: len(log.heuristics))),
+    ]
 
 
 def _lines(configuration: Configuration, logs: Mapping[str, Log], found: List[Listing]) -> Iterator[str]:
@@ -101,7 +163,7 @@ def _lines(configuration: Configuration, logs: Mapping[str, Log], found: List[Li
     for rm, one in enumerate(found):
         yield f"database {rm}, {configuration.label(rm)}: {one.fault or f'{len(one.own)} in doubt'}"
         for xid in one.own:
-            yield from _lines_of(configuration, by_manager[manager_in(xid)], rm, xid)
+            yield from _lines_of(configuration, by_manager[manager_in(xid)], rm, xid, one.ages.get(xid))
         for name in sorted({manager_in(xid) for xid in one.others}):
             yield from _lines_of_others(name, [xid for xid in one.others if manager_in(xid) == name], one)
     decided = frozenset(gtrid for log in logs.values() for gtrid in log.decided)
@@ -138,14 +200,18 @@ def _time(seconds: float) -> str:
     return f"{seconds:.0f} seconds"
 
 
-def _lines_of(configuration: Configuration, log: Log, rm: int, xid: Xid) -> Iterator[str]:
+def _lines_of(configuration: Configuration, log: Log, rm: int, xid: Xid, age: Optional[float]) -> Iterator[str]:
     objection = log.objection(xid)
+    since = f"; prepared for {_time(age)}" if age is not None else ""
+    if log.fault == IN_USE:
+        yield f"  {xid}: the program that has the log is to end it{since}"
+        return
     if objection is not None:
-        yield f"  {xid}: what it waits for isn't known: {objection}"
+        yield f"  {xid}: what it waits for isn't known: {objection}{since}"
         return
     name = log.call_for(xid)
     why = "it is decided to commit" if name == "xa_commit" else "it isn't decided to commit"
-    yield f"  {xid}: waits for {name}, since {why}; by hand:"
+    yield f"  {xid}: waits for {name}, since {why}{since}; by hand:"
     yield f"      {configuration.databases[rm].by_hand(Call(name, xid))}"
 
 

@@ -5,9 +5,10 @@ from __future__ import annotations
 import contextlib
 import os
 import sqlite3
+import time
 import urllib.parse
-from dataclasses import dataclass, field
-from typing import Dict, FrozenSet, Iterable, List, Optional, Tuple
+from dataclasses import dataclass, field, replace
+from typing import Dict, FrozenSet, Iterable, List, Mapping, Optional, Tuple
 
 from .adapters.base import Database, Place
 from .configuration import Configuration
@@ -17,6 +18,8 @@ from .xid import FORMAT, Xid
 
 
 IN_USE = "a program has it"
+#: A branch of a program that is at work counts as in doubt after so many seconds; and how long one look at a database is after another.
+YOUNG, PAUSE = 10.0, 0.3
 
 
 @dataclass(frozen=True)
@@ -124,6 +127,26 @@ def listings_of(configuration: Configuration, managers: Iterable[str]) -> List[L
         Listing.at(database, [place_of(configuration, manager, rm) for manager in managers])
         for rm, database in enumerate(configuration.databases)
     ]
+
+
+def settled_listings_of(configuration: Configuration, logs: Mapping[str, Log], seconds: float = YOUNG) -> List[Listing]:
+    """The same, without what a program that has its log is about to end: what stands between its votes and its decision is listed, too. A
+    branch is left out unless it has been prepared for so many seconds: where the database doesn't tell since when, it is looked at for
+    as long as that."""
+    managers = [log.names.manager for log in logs.values()]
+    busy = {log.names.manager for log in logs.values() if log.fault == IN_USE}
+    begun = time.monotonic()
+    found = listings_of(configuration, managers)
+    while True:
+        passed = time.monotonic() - begun
+        ages = [{xid: max(passed, one.ages.get(xid, 0.0)) for xid in one.own if manager_in(xid) in busy} for one in found]
+        young = [{xid for xid, age in own.items() if age < seconds} for own in ages]
+        if passed >= seconds or not any(young):
+            return [replace(one, ages={**one.ages, **own}) for one, own in zip(found, ages)]
+        time.sleep(PAUSE)
+        again = listings_of(configuration, managers)
+        # What has come since is younger.
+        found = [replace(new, own=tuple(xid for xid in new.own if xid in old.own)) for old, new in zip(found, again)]
 
 
 def manager_in(xid: Xid) -> str:

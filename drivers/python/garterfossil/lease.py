@@ -115,7 +115,7 @@ class Reaper:
             gone = self._gone.get()
             lease: Optional[Lease]
             with self._lock:
-                lease = gone if isinstance(gone, Lease) else self._leases.pop(gone, None)
+                lease = gone if isinstance(gone, Lease) else self._leases.get(gone)
             if lease is not None:
                 # A database that doesn't answer holds up this one alone.
                 _thread.start_new_thread(lease.give_up, ())

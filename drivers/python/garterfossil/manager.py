@@ -39,6 +39,7 @@ from .errors import CoordinatorGone, LogInUse, NestedTransaction, Overdue, Setup
 from .coordinator import serve_command
 from .line import PAUSE
 from .logs import Names, free_log, is_new_log, names_for
+from .metrics import in_prometheus, of_counts
 from .outcomes import Outcome, Outcomes
 from .session import Session, Settings
 from .transaction import Transaction
@@ -234,6 +235,16 @@ class TransactionManager:
         session, counts = self._session, self._counts.shown()
         counts["heuristic"] += self._outcomes.odd
         return {**counts, "owed": 0 if session is None else session.debts.count()}
+
+    def metrics(self) -> str:
+        """The counts, and what stands at each database, as Prometheus reads them. Begins nothing, and waits for nothing."""
+        session = self._session
+        names = self._settings.databases.names or [str(number) for number in range(len(self._settings.databases))]
+        at: List[Dict[str, int]] = [{"owed": 0, "prepared": 0, "recovery_due": 0} for _ in names] if session is None else session.standing()
+        counts = self.counts()
+        counts["threads"], counts["incarnation"] = self._settings.threads, 0 if session is None else session.coordinator.incarnation
+        databases: List[Dict[str, Any]] = [{"name": name, **one} for name, one in zip(names, at)]
+        return in_prometheus(of_counts(counts, self.name, databases))
 
     @property
     def current(self) -> Optional[Transaction]:

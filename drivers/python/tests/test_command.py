@@ -5,11 +5,13 @@ import io
 import json
 import os
 import tempfile
+import time
 import unittest
 from unittest import mock
 
 from garterfossil import command
 from garterfossil.configuration import Configuration
+from garterfossil.logs import Names
 from garterfossil.xid import Xid
 
 from . import fake_program
@@ -81,6 +83,57 @@ class Commands(unittest.TestCase):
         self.assertEqual(status, 0)
         self.assertIn("1 of the manager shop-2, the oldest for 2 hours", printed)
         self.assertIn(str(foreign), printed)
+
+    def at_work(self):
+        """A program has the log, as far as one can see."""
+        for path, value in (("is_log_in_use", lambda path: True), ("names_at_work", lambda path: Names())):
+            patch = mock.patch(f"garterfossil.doubt.{path}", value)
+            patch.start()
+            self.addCleanup(patch.stop)
+
+    def test_a_service_at_work_is_healthy_although_branches_are_between_their_votes_and_their_decision(self):
+        self.at_work()
+        for number, database in enumerate(self.databases):
+            database.prepared[branch(UNDECIDED, number)] = []
+            # Each look finds other ones.
+            database.before["listed"] = lambda database=database, number=number: (
+                database.prepared.clear(), database.prepared.update({branch(f"{len(database.calls):032x}", number): []})
+            )  # fmt: skip
+        begun = time.monotonic()
+        status, printed = self.does("status")
+        self.assertEqual(status, 0, printed)
+        self.assertIn("0 in doubt", printed)
+        self.assertLess(time.monotonic() - begun, 5)
+
+    def test_what_a_program_at_work_does_not_end_is_told_with_its_age(self):
+        self.at_work()
+        left, right = branch(UNDECIDED, 0), branch(UNDECIDED, 1)
+        self.databases[0].prepared[left], self.databases[1].prepared[right] = [], []
+        # The one tells the age of its branches, and the other is looked at for a while.
+        ages = mock.patch.object(FakeConnection, "ages", lambda it: {left: 90.0} if it.place.number == 0 else {})
+        with ages, mock.patch("garterfossil.doubt.settled_listings_of.__defaults__", (0.5,)):
+            status, printed = self.does("status")
+        self.assertEqual(status, 1)
+        self.assertIn(f"{left}: the program that has the log is to end it; prepared for 90 seconds", printed)
+        self.assertRegex(printed, f"{right}: the program that has the log is to end it; prepared for [01] seconds")
+
+    def test_the_same_for_programs(self):
+        self.in_doubt()
+        status, printed = self.does("status", "--format", "json")
+        found = json.loads(printed)
+        self.assertEqual(status, 1)
+        self.assertEqual([log["decided"] for log in found["logs"]], [[DECIDED]])
+        waits = {one["branch"]: one["waits_for"] for one in found["databases"][1]["in_doubt"]}
+        self.assertEqual(waits, {str(branch(DECIDED, 1)): "xa_commit", str(branch(UNDECIDED, 1)): "xa_rollback"})
+
+    def test_the_same_for_prometheus(self):
+        self.in_doubt()
+        status, printed = self.does("status", "--format", "prometheus")
+        self.assertEqual(status, 1)
+        lines = printed.splitlines()
+        self.assertIn('garterfossil_in_doubt{database="1"} 2', lines)
+        self.assertIn("# TYPE garterfossil_in_doubt gauge", lines)
+        self.assertIn(f'garterfossil_log_decided{{log="{self.log}"}} 1', lines)
 
     def test_what_a_dead_manager_left_is_ended_as_an_operator_says(self):
         foreign = branch(UNDECIDED, 1, "shop-2")

@@ -317,6 +317,18 @@ class Runs(Case):
         self.assertEqual([counts[name] for name in ("begun", "open", "committed", "rolled_back", "unknown")], [2, 0, 1, 1, 0])
         self.assertEqual([it.outcome for it in ended], [Outcome.COMMITTED, Outcome.ROLLED_BACK])
 
+    def test_metrics_as_prometheus_reads_them(self):
+        with self.manager() as xa:
+            self.move(xa)
+            with xa.transaction():
+                lines = xa.metrics().splitlines()
+        for line in (
+            'garterfossil_transactions_total{outcome="committed"} 1', "garterfossil_open 1", "garterfossil_threads 2",
+            "garterfossil_incarnation 1", 'garterfossil_database_owed{database="1"} 0', "# TYPE garterfossil_open gauge",
+        ):  # fmt: skip
+            self.assertIn(line, lines)
+        self.assertIn("garterfossil_open 0", xa.metrics().splitlines())
+
     def test_no_vote_or_end_before_it_is_issued(self):
         """What docs/SERVE.md asks for: only what is done on a connection alone, and ends with it, is done before."""
         events = []
