@@ -9,6 +9,7 @@ import select
 import subprocess
 import threading
 import time
+import weakref
 from typing import Deque, Iterable, List, Optional, Sequence, Tuple
 
 from .calls import Call
@@ -113,6 +114,7 @@ class Coordinator:
         self._is_logged = log.isEnabledFor(logging.DEBUG)
         self._ending = threading.Lock()
         self._fault: Optional[str] = None
+        COORDINATORS.add(self)
         #: The greeting of the session: `restarted`, the incarnation, and how many decisions and heuristic ends the log has.
         self.greeting = self._greet()
         if not self.greeting.startswith("restarted "):
@@ -431,3 +433,21 @@ class Coordinator:
             except subprocess.TimeoutExpired:
                 self._process.kill()
         return False
+
+    def let_go(self) -> None:
+        """In a process that was forked off: the pipes are the parent's, and a child that kept them would keep the coordinator up, and the log
+        in use, behind the end of the parent."""
+        for pipe in (self._requests, self._replies, self._errors):
+            pipe.close()
+
+
+#: Those that the process has.
+COORDINATORS: weakref.WeakSet[Coordinator] = weakref.WeakSet()
+
+
+def _after_fork() -> None:
+    for coordinator in list(COORDINATORS):
+        coordinator.let_go()
+
+
+os.register_at_fork(after_in_child=_after_fork)

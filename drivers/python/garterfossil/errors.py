@@ -41,6 +41,11 @@ class OutcomeUnknown(XaError):
     lost during a commit in one phase. The databases agree all the same: a transaction over several of them is ended by the
     recovery, everywhere alike."""
 
+    def __init__(self, text: str, gtrid: str = ""):
+        super().__init__(text)
+        #: The transaction: `TransactionManager.outcome` says how it ended, once that is known.
+        self.gtrid = gtrid
+
 
 class HeuristicEnd(XaError):
     """A database had ended a branch of the transaction by itself, before it was told how. The coordinator's log has a

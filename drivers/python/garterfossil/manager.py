@@ -7,6 +7,7 @@ import functools
 import logging
 import os
 import random
+import re
 import signal
 import threading
 import time
@@ -51,6 +52,8 @@ log = logging.getLogger("garterfossil")
 
 T = TypeVar("T")
 
+#: The name of a transaction.
+GTRID = re.compile(r"[0-9a-f]{32}")
 #: The coordinator takes so many threads.
 MOST_THREADS = 1024
 NO_OPTIONS = Options()
@@ -222,9 +225,11 @@ class TransactionManager:
         raise ValueError(f"tries: 1 or more, not {tries}")
 
     def outcome(self, gtrid: str) -> Outcome:
-        """How the transaction of this `gtrid` ended, after an OutcomeUnknown, as the log says: COMMITTED or ROLLED_BACK. UNKNOWN if it
-        was one in a single database, of which the log has nothing, or if another run of the program had it. Starts the coordinator
-        again if that has ended."""
+        """How the transaction of this `gtrid` ended: as it was told, or after an OutcomeUnknown as the log says, COMMITTED or ROLLED_BACK.
+        UNKNOWN if nobody could tell of one in a single database, of which the log has nothing, if another run of the program had it, or if
+        it was long ago. Starts the coordinator again if that has ended. Raises ValueError for what is no `gtrid`."""
+        if not GTRID.fullmatch(gtrid):
+            raise ValueError(f"a gtrid has 32 hexadecimal digits: {gtrid!r}")
         aside(self._current)
         return self._outcomes.of(gtrid)
 
@@ -391,6 +396,7 @@ class TransactionManager:
     def count_end(self, transaction: Transaction) -> None:
         """A transaction has ended."""
         self._counts.end(transaction, time.monotonic() - transaction.begun)
+        self._outcomes.note(transaction.gtrid, transaction.outcome)
 
     def note_end(self, transaction: Transaction) -> None:
         """It has, and the program's function is called for that."""

@@ -7,6 +7,10 @@ import threading
 from typing import Dict, Set
 
 
+#: So many outcomes that were told are kept in mind.
+MOST_TOLD = 10000
+
+
 class Outcome(enum.Enum):
     """How a transaction stands."""
 
@@ -25,6 +29,8 @@ class Outcomes:
         # By transaction, the incarnation that was deciding it.
         self._asked: Dict[str, int] = {}
         self._found: Dict[str, Outcome] = {}
+        # What the last transactions were told, the oldest first.
+        self._told: Dict[str, Outcome] = {}
         # How many branches a recovery found ended by somebody else.
         self._odd = 0
 
@@ -43,6 +49,14 @@ class Outcomes:
                 if asked == incarnation - 1:
                     self._found.setdefault(gtrid, Outcome.ROLLED_BACK)
 
+    def note(self, gtrid: str, outcome: Outcome) -> None:
+        """A transaction was told that it ended so."""
+        with self._lock:
+            if outcome is not Outcome.UNKNOWN:
+                self._told[gtrid] = outcome
+                if len(self._told) > MOST_TOLD:
+                    del self._told[next(iter(self._told))]
+
     def note_odd(self) -> None:
         """A recovery found a branch that somebody else had ended, of a transaction that was told its outcome before."""
         with self._lock:
@@ -57,4 +71,4 @@ class Outcomes:
     def of(self, gtrid: str) -> Outcome:
         """How it ended, if that was found."""
         with self._lock:
-            return self._found.get(gtrid, Outcome.UNKNOWN)
+            return self._found.get(gtrid, self._told.get(gtrid, Outcome.UNKNOWN))

@@ -304,14 +304,19 @@ class Transaction:
 
     def _commit_in_one_phase(self, branch: Completion, call: Call) -> None:
         line = branch.line
-        self.outcome = Outcome.UNKNOWN
         try:
             self._session.post_and_begin(self._thread)
+            line.see_issued()
+        except XaError as error:
+            # It was never made, and the branch ends with its connection.
+            raise self._rolled_back_for(error) from error
+        self.outcome = Outcome.UNKNOWN
+        try:
             code = line.make(call).code
         except XaError as error:
             # It is over, one way or the other; the coordinator is told so.
             self._session.owe(line.rm.number, Call("xa_rollback", call.xid))
-            raise OutcomeUnknown(f"{self.gtrid}: {error}") from error
+            raise OutcomeUnknown(f"{self.gtrid}: {error}", self.gtrid) from error
         self.outcome = Outcome.COMMITTED if code is Code.OK else Outcome.ROLLED_BACK
         self._try(line.see_heard)
         if code is not Code.OK:
@@ -326,7 +331,7 @@ class Transaction:
             self._session.commits.decide(self.gtrid, _Commits(self._session, self._thread, prepared))
         except CoordinatorGone as error:
             self._session.outcomes.ask(self.gtrid)
-            raise OutcomeUnknown(f"{self.gtrid}: {error}") from error
+            raise OutcomeUnknown(f"{self.gtrid}: {error}", self.gtrid) from error
         except XaError as error:
             # It was refused, and nothing has changed.
             raise self._rolled_back_for(error) from error

@@ -31,10 +31,13 @@ class Xid:
     @classmethod
     def parse(cls, text: str) -> Xid:
         """The identifier that a text spells. Raises ValueError where it spells none, or not as `str` does."""
-        number, gtrid, bqual = text.split(":")
-        xid = cls(int(number), bytes.fromhex(gtrid), bytes.fromhex(bqual))
-        if str(xid) != text:
-            raise ValueError(f"no identifier of a branch: {text}")
+        parts = text.split(":")
+        try:
+            xid = cls(int(parts[0]), bytes.fromhex(parts[1]), bytes.fromhex(parts[2]))
+        except (ValueError, IndexError):
+            xid = None
+        if xid is None or str(xid) != text:
+            raise ValueError(f"no identifier of a branch, as in 7:{16 * '00'}:{8 * '00'}: {text}")
         return xid
 
     @functools.cached_property

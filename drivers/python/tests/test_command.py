@@ -147,6 +147,12 @@ class Commands(unittest.TestCase):
             self.assertEqual(self.does("end", "--left-by", "shop-2", "--outcome", name, str(foreign), says="yes")[0], 0)
             self.assertEqual((self.databases[1].written, self.databases[1].prepared), (words, {}))
 
+    def test_what_is_no_branch_is_told_so(self):
+        for text in ("nonsense", "7:0", "x:00:00", "7:0g:00"):
+            status, printed = self.does("end", text, "--yes")
+            self.assertEqual(status, 2)
+            self.assertIn("no identifier of a branch", printed)
+
     def test_the_manager_of_the_file_is_not_gone(self):
         self.in_doubt()
         status, printed = self.does("end", "--left-by", "", "--outcome", "commit", str(branch(DECIDED, 0)), "--yes")

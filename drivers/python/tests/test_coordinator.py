@@ -85,6 +85,23 @@ class Coordinators(unittest.TestCase):
                 self.assertLess(time.monotonic() - begun, 10)
                 self.assertTrue(coordinator.is_gone)
 
+    def test_a_process_that_was_forked_off_does_not_keep_it_up(self):
+        coordinator = process(ECHO)
+        reader, writer = os.pipe()
+        child = os.fork()
+        if child == 0:
+            os.close(writer)
+            os.read(reader, 1)
+            os._exit(0)
+        try:
+            # As if this process were killed.
+            coordinator._requests.close()
+            coordinator._process.wait(timeout=5)
+        finally:
+            os.close(writer)
+            os.waitpid(child, 0)
+            os.close(reader)
+
     def test_a_failed_log_ends_the_session(self):
         coordinator = process(ECHO)
         with self.assertRaises(CoordinatorGone):

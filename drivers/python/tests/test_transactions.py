@@ -162,6 +162,34 @@ class Transactions(Case):
             self.assertIs(t.outcome, Outcome.UNKNOWN)
             self.move(xa)
 
+    def test_a_commit_in_one_phase_that_was_never_made_is_rolled_back(self):
+        with self.manager() as xa:
+            with self.assertRaises(RolledBack):
+                with xa.transaction() as t:
+                    t[0].execute("take")
+                    self.left.before["end"] = xa._session.coordinator.kill
+            self.left.before.clear()
+            self.assertIs(t.outcome, Outcome.ROLLED_BACK)
+            self.assertTrue(t.is_worth_trying_again)
+        self.assertEqual(self.left.written, [])
+
+    def test_what_was_told_can_be_asked_for_again(self):
+        with self.manager() as xa:
+            t = self.move(xa)
+            self.assertIs(xa.outcome(t.gtrid), Outcome.COMMITTED)
+            with self.assertRaises(KeyError):
+                with xa.transaction() as t:
+                    raise KeyError
+            self.assertIs(xa.outcome(t.gtrid), Outcome.ROLLED_BACK)
+            with self.assertRaises(ValueError):
+                xa.outcome("nonsense")
+            self.left.next["commit_in_one_phase"] = "lost"
+            with self.assertRaises(OutcomeUnknown) as raised:
+                with xa.transaction() as t:
+                    t[0].execute("take")
+            self.assertEqual(raised.exception.gtrid, t.gtrid)
+            self.assertIs(xa.outcome(t.gtrid), Outcome.UNKNOWN)
+
     def test_what_is_put_off_or_has_no_answer_is_asked_again(self):
         with self.manager() as xa:
             self.left.next["commit_prepared"] = Code.RETRY

@@ -44,6 +44,12 @@ REFUSALS = re.compile(
     r"|is not permitted to log in|no password supplied|invalid (connection option|dsn)",
     re.IGNORECASE,
 )
+#: Passwords in a DSN, in quotes or not, or in a URL.
+SECRET = re.compile(r"(password\s*=\s*)(?:'(?:[^'\\]|\\.)*'?|[^\s&]+)|(://[^:/@]*:)[^@]*(?=@)", re.IGNORECASE)
+#: What the application_name of a connection ends with that ends others.
+RECOVERY = " recovery"
+#: PostgreSQL cuts an application_name off behind so many bytes.
+LONGEST_LABEL = 63
 #: What psycopg2's own connection shows to a program.
 SHOWN = frozenset(
     "closed cursor_factory deferrable dsn encoding get_backend_pid get_dsn_parameters get_parameter_status get_transaction_status"
@@ -71,14 +77,14 @@ class PostgreSQL(Database):
         self._lock_timeout = lock_timeout
 
     def __repr__(self) -> str:
-        shown = re.sub(r"(password=)(\S+)|(://[^:/@]*:)[^@]*@", r"\1\3...", self._dsn)
+        shown = SECRET.sub(r"\1\2...", self._dsn)
         return f"PostgreSQL({shown!r})"
 
     def connect(self, place: Place = Place()) -> PostgreSQLConnection:
         return self._connection(self._label(place), place)
 
     def end_connections(self, kept: Collection[int], place: Place = Place()) -> int:
-        connection = self._connection(f"{self._label(place)} recovery", place)
+        connection = self._connection(f"{self._label(place)}{RECOVERY}", place)
         try:
             with connection.timed(place.patience):
                 return connection.end_others(self._label(place), kept)
@@ -86,8 +92,11 @@ class PostgreSQL(Database):
             connection.close()
 
     def _label(self, place: Place) -> str:
-        """The application_name of a place's connections."""
-        return " ".join(word for word in (self._name, place.manager, str(place.number)) if word)
+        """The application_name of a place's connections. Raises SetupError if it is too long, so that they would never be found."""
+        label = " ".join(word for word in (self._name, place.manager, str(place.number)) if word)
+        if len(f"{label}{RECOVERY}".encode()) > LONGEST_LABEL:
+            raise SetupError(f"name={self._name!r} is too long: PostgreSQL would cut the application_name {label!r} off")
+        return label
 
     def by_hand(self, call: Call) -> str:
         return f"{call.verb} PREPARED '{call.xid}';"
