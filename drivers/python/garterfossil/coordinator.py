@@ -6,6 +6,8 @@ import collections
 import logging
 import os
 import select
+import socket
+import struct
 import subprocess
 import threading
 import time
@@ -80,20 +82,24 @@ class Coordinator:
     def __init__(self, command: Sequence[str], patience: float = 30.0):
         # No reply is waited for longer: the greeting may take longer than others, as with a log that holds much.
         self._patience = max(patience, SHORTEST)
+        # Of a socket the system itself sees that no reply is waited for too long, by the same call that reads it.
+        self._replies, theirs = socket.socketpair()
         try:
             self._process = subprocess.Popen(
-                command, bufsize=0, stdin=subprocess.PIPE, stdout=subprocess.PIPE, stderr=subprocess.PIPE, start_new_session=True
+                command, bufsize=0, stdin=subprocess.PIPE, stdout=theirs.fileno(), stderr=subprocess.PIPE, start_new_session=True
             )
         except OSError as error:
+            self._replies.close()
             raise SetupError(f"the program {command[0]} can't be run, which program= may give: {error}") from error
-        stdin, stdout, stderr = self._process.stdin, self._process.stdout, self._process.stderr
-        assert stdin is not None and stdout is not None and stderr is not None
-        self._requests, self._replies, self._errors = stdin, stdout, stderr
+        finally:
+            theirs.close()
+        stdin, stderr = self._process.stdin, self._process.stderr
+        assert stdin is not None and stderr is not None
+        self._requests, self._errors = stdin, stderr
         # While it is stopped it reads nothing, and a pipe that is full would hold up whoever writes.
         os.set_blocking(stdin.fileno(), False)
-        self._writable, self._readable = select.poll(), select.poll()
+        self._writable = select.poll()
         self._writable.register(stdin, select.POLLOUT)
-        self._readable.register(stdout, select.POLLIN)
         self._posting = threading.Lock()
         self._writing = threading.Lock()
         self._reading = threading.Lock()
@@ -119,6 +125,7 @@ class Coordinator:
         self.greeting = self._greet()
         if not self.greeting.startswith("restarted "):
             raise self._gone(f"it began with the line: {self.greeting}")
+        self._wait_for(self._patience)
         #: The number of the session, among those of its log.
         self.incarnation = int(self.greeting.split(" ")[1])
         self._see_several(command[0])
@@ -283,7 +290,8 @@ class Coordinator:
             while some:
                 written = self._requests.write(some)
                 if written is None:
-                    self._see_in_time(self._writable, self._patience)
+                    if not self._writable.poll(1000 * self._patience):
+                        raise self._silent()
                 else:
                     some = some[written:]
             self._written = posted
@@ -356,7 +364,8 @@ class Coordinator:
     def _greet(self) -> str:
         """The greeting. Nothing comes after it, since nothing was asked for."""
         while True:
-            for line in self._read_lines(max(self._patience, LONGEST_GREETING)):
+            self._wait_for(max(self._patience, LONGEST_GREETING))
+            for line in self._read_lines():
                 if not line.startswith("protocol "):
                     return line
                 # A coordinator with names says before it which protocol this is.
@@ -373,11 +382,17 @@ class Coordinator:
             self.kill()
             raise SetupError(f"the coordinator {program} is older than this driver: program= is to be the xatm that it came with") from None
 
-    def _read_lines(self, patience: Optional[float] = None) -> List[str]:
+    def _wait_for(self, seconds: float) -> None:
+        """From now on a reply is waited for for so many seconds."""
+        whole = int(seconds)
+        self._replies.setsockopt(socket.SOL_SOCKET, socket.SO_RCVTIMEO, struct.pack("ll", whole, int(1000000 * (seconds - whole))))
+
+    def _read_lines(self) -> List[str]:
         """The lines of which the ends have come, at once; waits for something to come."""
         try:
-            self._see_in_time(self._readable, self._patience if patience is None else patience)
-            some = self._replies.read(65536)
+            some = self._replies.recv(65536)
+        except BlockingIOError:
+            raise self._silent() from None
         except (OSError, ValueError) as error:
             raise self._gone(str(error)) from None
         except BaseException:
@@ -387,11 +402,6 @@ class Coordinator:
             raise self._gone("its output ended")
         whole, end, self._begun = (self._begun + some).rpartition(b"\n")
         return whole.decode("ascii").split("\n") if end else []
-
-    def _see_in_time(self, poll: select.poll, patience: float) -> None:
-        """Waits until the pipe can be read or written, or is ended. Raises CoordinatorGone if it can't be for so many seconds."""
-        if not poll.poll(1000 * patience):
-            raise self._silent()
 
     def _silent(self) -> CoordinatorGone:
         """It is stopped, or its disk hangs: it is ended, and the next session finds out what it had decided."""
@@ -437,8 +447,9 @@ class Coordinator:
     def let_go(self) -> None:
         """In a process that was forked off: the pipes are the parent's, and a child that kept them would keep the coordinator up, and the log
         in use, behind the end of the parent."""
-        for pipe in (self._requests, self._replies, self._errors):
-            pipe.close()
+        self._requests.close()
+        self._replies.close()
+        self._errors.close()
 
 
 #: Those that the process has.
