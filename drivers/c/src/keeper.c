@@ -79,7 +79,8 @@ static bool is_greeted(const char *greeting)
     long incarnation = 0;
     int end = 0;
 
-    if (greeting == NULL || sscanf(greeting, "restarted %ld %*u %*u%n", &incarnation, &end) != 1 || greeting[end] != '\0' || incarnation < 1)
+    if (greeting == NULL || sscanf(greeting, "restarted %ld %*u %*u%n", &incarnation, &end) != 1 || greeting[end] != '\0'
+        || incarnation < 1)
         return false;
     if (incarnation != all.incarnation + 1)
         all.first_of_own = incarnation;

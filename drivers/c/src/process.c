@@ -42,18 +42,6 @@ static pid_t spawn(char *const words[], int lines, int errors)
     return pid;
 }
 
-/* Its handle. False if there is none, and it isn't gone by itself: then it is ended. */
-static bool has_handle(struct process *p, pid_t pid)
-{
-    p->handle = (int)syscall(SYS_pidfd_open, pid, 0);
-    if (p->handle >= 0 || errno == ESRCH)
-        return true;
-    kill(pid, SIGKILL);
-    while (waitpid(pid, NULL, 0) < 0 && errno == EINTR)
-        ;
-    return false;
-}
-
 bool process_start(struct process *p, char *const words[])
 {
     int lines[2], errors[2];
@@ -68,24 +56,37 @@ bool process_start(struct process *p, char *const words[])
     pid_t pid = spawn(words, lines[1], errors[1]);
     close(lines[1]);
     close(errors[1]);
-    if (pid < 0 || !has_handle(p, pid)) {
+    if (pid < 0) {
         close(lines[0]);
         close(errors[0]);
         return false;
     }
-    p->lines = lines[0];
-    p->errors = errors[0];
+    *p = (struct process){.pid = pid, .handle = (int)syscall(SYS_pidfd_open, pid, 0), .lines = lines[0], .errors = errors[0]};
     return true;
 }
 
-static bool ends_before(int handle, const struct timespec *until)
+/* Also if it was waited for by another part of the program. */
+static bool has_ended(const struct process *p)
 {
-    struct pollfd it = {.fd = handle, .events = POLLIN};
-    int found;
+    struct pollfd it = {.fd = p->handle, .events = POLLIN};
 
-    while ((found = poll(&it, 1, milliseconds_to(until))) < 0 && errno == EINTR)
-        ;
-    return found != 0;
+    return p->handle >= 0 ? poll(&it, 1, 0) > 0 : waitpid(p->pid, NULL, WNOHANG) != 0;
+}
+
+static void wait_until(const struct process *p, const struct timespec *until)
+{
+    struct pollfd it = {.fd = p->handle, .events = POLLIN};
+
+    while (!has_ended(p) && (until == NULL || !is_past(until)))
+        poll(&it, 1, 10);
+}
+
+static void kill_it(const struct process *p)
+{
+    if (p->handle >= 0)
+        syscall(SYS_pidfd_send_signal, p->handle, SIGKILL, NULL, 0);
+    else
+        kill(p->pid, SIGKILL);
 }
 
 void process_end(struct process *p, double patience, char *said, size_t room)
@@ -96,9 +97,12 @@ void process_end(struct process *p, double patience, char *said, size_t room)
     siginfo_t how;
 
     close(p->lines); /* its end of input */
+    wait_until(p, &until);
+    if (!has_ended(p)) {
+        kill_it(p);
+        wait_until(p, NULL);
+    }
     if (p->handle >= 0) {
-        if (!ends_before(p->handle, &until))
-            syscall(SYS_pidfd_send_signal, p->handle, SIGKILL, NULL, 0);
         while (waitid((idtype_t)BY_HANDLE, (id_t)p->handle, &how, WEXITED) != 0 && errno == EINTR)
             ;
         close(p->handle);

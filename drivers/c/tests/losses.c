@@ -61,11 +61,13 @@ static void it_ends(void)
 /* A process that waits for ever, and one that is stopped. */
 static void it_is_silent(void)
 {
+    set_up(NULL, "patience 3\n");
     see_moments("silent", 4);
 }
 
 static void it_is_stopped(void)
 {
+    set_up(NULL, "patience 3\n");
     see_moments("stop", 4);
 }
 

@@ -215,10 +215,12 @@ static void a_thread_that_is_cancelled(void)
     transfer();
 }
 
+static pthread_barrier_t all_have_tried;
+
 static void *open_and_close(void *result)
 {
     *(int *)result = tx_open();
-    nanosleep(&(struct timespec){.tv_nsec = 200000000}, NULL);
+    pthread_barrier_wait(&all_have_tried);
     tx_close();
     return NULL;
 }
@@ -229,6 +231,7 @@ static void too_many_threads(void)
     int results[4], refused = 0;
 
     IS(tx_open(), TX_OK);
+    pthread_barrier_init(&all_have_tried, NULL, 4);
     for (int i = 0; i < 4; i++)
         pthread_create(&threads[i], NULL, open_and_close, &results[i]);
     for (int i = 0; i < 4; i++) {
@@ -236,6 +239,7 @@ static void too_many_threads(void)
         refused += results[i] == TX_ERROR;
     }
     IS(refused, 1);
+    pthread_barrier_init(&all_have_tried, NULL, 1);
     in_thread(open_and_close, &results[0]);
     IS(results[0], TX_OK);
 }

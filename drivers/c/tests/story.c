@@ -1,5 +1,5 @@
-/* Tells the stories of the driver's tests, which need no database: `tests [NAME ..]`, those whose names begin so. The last
- * line is 'N passed, M failed'. */
+/* Tells the stories of the driver's tests, which need no database: `stories [-NAME ..] [NAME ..]`, those whose names begin so,
+ * without those that are named behind a `-`. The last line is 'N passed, M failed'. */
 #include "story.h"
 
 #include <errno.h>
@@ -64,7 +64,7 @@ void set_up(const char *rms, const char *others)
 
     snprintf(text, sizeof text, "# %s\nprogram %s\nlog %s/log\nname c\nthreads 4\n%s%s", folder,
         program != NULL ? program : "tests/stand_in_coordinator", folder,
-        rms != NULL ? rms : "rm a - stand_in open\nrm b - stand_in open\n", others != NULL ? others : "patience 3\n");
+        rms != NULL ? rms : "rm a - stand_in open\nrm b - stand_in open\n", others != NULL ? others : "patience 20\n");
     write_file("settings", text);
     setenv("GARTERFOSSIL_SETTINGS", path_of("settings"), 1);
 }
@@ -172,10 +172,13 @@ static struct telling *ended(bool *is_right)
 
 static bool is_wanted(const char *name, int count, char **words)
 {
-    bool is_so = count == 1;
+    bool is_so = count == 1 || words[1][0] == '-';
 
-    for (int i = 1; i < count; i++)
+    for (int i = 1; i < count; i++) {
+        if (words[i][0] == '-' && strcmp(name, words[i] + 1) == 0)
+            return false;
         is_so = is_so || strncmp(name, words[i], strlen(words[i])) == 0;
+    }
     return is_so;
 }
 

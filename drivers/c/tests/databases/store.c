@@ -78,7 +78,8 @@ static bool is_moved(const char *name, long amount)
     for (int rm = 0; rm < STORES; rm++) {
         long value;
         amount = -amount;
-        if (get(stores[rm], "balance", &value) != 0 || put(stores[rm], "balance", value + amount) != 0 || put(stores[rm], name, amount) != 0)
+        if (get(stores[rm], "balance", &value) != 0 || put(stores[rm], "balance", value + amount) != 0
+            || put(stores[rm], name, amount) != 0)
             return false;
     }
     return true;
