@@ -17,10 +17,11 @@ extern const struct xa_switch_t gf_mariadb_switch, gf_mariadb_dynamic_switch;
  * transaction. */
 extern MYSQL *gf_mariadb_connection(int rmid);
 
-/* Which database the thread has opened there: `MariaDB`, and the server's server_uid. 0; 1 if the server has none, before
- * MariaDB 10.6.9; -1 if it can't be asked. The library looks for a function of such a name beside each switch. */
-extern int gf_mariadb_switch_identity(int rmid, char kind[32], char identity[256]);
-extern int gf_mariadb_dynamic_switch_identity(int rmid, char kind[32], char identity[256]);
+/* What the database calls itself that the thread has opened there: what stands in a view `garterfossil_identity`, which is
+ * made at its first use, or else the server's own name. 0, or 1 if it has none, -1 if it can't be asked now. The library
+ * looks for a function of such a name beside each switch, and gives it what the database was kept as, or NULL. */
+extern int gf_mariadb_switch_identity(int rmid, const char *kept, char identity[256]);
+extern int gf_mariadb_dynamic_switch_identity(int rmid, const char *kept, char identity[256]);
 
 #ifdef __cplusplus
 }

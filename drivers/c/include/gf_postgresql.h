@@ -16,10 +16,11 @@ extern const struct xa_switch_t gf_pg_switch, gf_pg_dynamic_switch;
  * transaction. */
 extern PGconn *gf_pg_connection(int rmid);
 
-/* Which database the thread has opened there: `PostgreSQL`, and the cluster's number with the database's name. 0, or -1 if
- * it can't be asked. The library looks for a function of such a name beside each switch. */
-extern int gf_pg_switch_identity(int rmid, char kind[32], char identity[256]);
-extern int gf_pg_dynamic_switch_identity(int rmid, char kind[32], char identity[256]);
+/* What the database calls itself that the thread has opened there: 0, or 1 if the user may not ask, -1 if it can't be asked
+ * now. The library looks for a function of such a name beside each switch, and gives it what the database was kept as, or
+ * NULL. */
+extern int gf_pg_switch_identity(int rmid, const char *kept, char identity[256]);
+extern int gf_pg_dynamic_switch_identity(int rmid, const char *kept, char identity[256]);
 
 #ifdef __cplusplus
 }

@@ -1,5 +1,9 @@
-/* What is kept beside the log, in `<log>-databases`: which databases it belongs to, and how far it has come. An object of
- * JSON, `{"bank": {"kind": "PostgreSQL", "identity": "7301456789012345678/bank"}, ..}`. Other drivers read the same file. */
+/* What is kept beside the log, in `<log>-databases`: which databases it belongs to, and how far it has come. The drivers in
+ * Python and Java read and write the same file:
+ *
+ *     {"version": 1, "manager": "shop-1", "incarnation": 12, "databases": [{"number": 0, "at": "..", "identity": ".."}]}
+ *
+ * and, if nobody is to use the log, "shut" with the reason. */
 #include "databases.h"
 
 #include <errno.h>
@@ -13,79 +17,79 @@
 
 #include "json.h"
 
-enum { MOST = 256, LONGEST = 1 << 20 };
+enum { VERSION = 1, LONGEST = 1 << 20, PLACE = 512, WHY = 512 };
 
-/* Beside the databases: how far the log has come, and why it was refused. No resource manager has such a name. */
-static const char LOG[] = "the log", REFUSED[] = "the refused log";
+struct database {
+    char at[PLACE], identity[IDENTITY];
+};
 
-static struct entry {
-    char name[65], kind[KIND], identity[IDENTITY];
-} entries[MOST];
-static int count;
+static struct kept {
+    long version, incarnation;
+    char manager[32], shut[WHY];
+    struct database databases[MOST_RMS];
+} kept;
 static bool is_changed;
 static pthread_mutex_t lock = PTHREAD_MUTEX_INITIALIZER;
 
-static struct entry *entry_of(const char *name)
-{
-    for (int i = 0; i < count; i++)
-        if (strcmp(entries[i].name, name) == 0)
-            return &entries[i];
-    return NULL;
-}
-
-static void set(const char *name, const char *kind, const char *identity)
-{
-    struct entry *it = entry_of(name);
-
-    if (it == NULL && count < MOST)
-        it = &entries[count++];
-    if (it == NULL)
-        return;
-    snprintf(it->name, sizeof it->name, "%s", name);
-    snprintf(it->kind, sizeof it->kind, "%s", kind);
-    snprintf(it->identity, sizeof it->identity, "%s", identity);
-    is_changed = true;
-}
-
 /* ** the file */
 
-static void name_of_file(char *to, size_t room, const char *tail)
+static const char *path_of_file(char *to, size_t room, const char *tail)
 {
     snprintf(to, room, "%s-databases%s", settings.log, tail);
+    return to;
 }
 
-/* `"name": {"kind": "..", "identity": ".."}` */
-static bool read_entry(const char **at, struct entry *it)
-{
-    char key[32], value[IDENTITY];
+struct numbered {
+    long number;
+    struct database it;
+};
 
-    memset(it, 0, sizeof *it);
-    if (!read_string(at, it->name, sizeof it->name) || !is_next(at, ':') || !is_next(at, '{'))
+static bool read_of_database(const char *name, const char **at, void *to)
+{
+    struct numbered *found = to;
+
+    if (strcmp(name, "number") == 0)
+        return read_number(at, &found->number);
+    if (strcmp(name, "at") == 0)
+        return read_string(at, found->it.at, sizeof found->it.at);
+    if (strcmp(name, "identity") == 0)
+        return read_string(at, found->it.identity, sizeof found->it.identity);
+    return skip_value(at);
+}
+
+static bool are_databases_read(const char **at)
+{
+    if (!is_next(at, '['))
         return false;
+    if (is_next(at, ']'))
+        return true;
     do {
-        if (!read_string(at, key, sizeof key) || !is_next(at, ':') || !read_string(at, value, sizeof value))
+        struct numbered found = {.number = -1};
+        if (!read_object(at, read_of_database, &found) || found.number < 0 || found.number >= MOST_RMS || found.it.identity[0] == '\0')
             return false;
-        if (strcmp(key, "identity") == 0)
-            memcpy(it->identity, value, sizeof value);
-        if (strcmp(key, "kind") == 0)
-            snprintf(it->kind, sizeof it->kind, "%.*s", KIND - 1, value);
+        kept.databases[found.number] = found.it;
     } while (is_next(at, ','));
-    return is_next(at, '}');
+    return is_next(at, ']');
 }
 
-static bool read_all(const char *at)
+static bool read_of_file(const char *name, const char **at, void *unused)
 {
-    if (!is_next(&at, '{'))
+    (void)unused;
+    if (strcmp(name, "version") == 0)
+        return read_number(at, &kept.version);
+    if (strcmp(name, "incarnation") == 0)
+        return read_number(at, &kept.incarnation);
+    if (strcmp(name, "manager") == 0)
+        return read_string(at, kept.manager, sizeof kept.manager);
+    if (strcmp(name, "shut") == 0)
+        return read_string(at, kept.shut, sizeof kept.shut);
+    return strcmp(name, "databases") == 0 ? are_databases_read(at) : skip_value(at);
+}
+
+static bool is_all_read(const char *at)
+{
+    if (!read_object(&at, read_of_file, NULL) || kept.version != VERSION)
         return false;
-    if (!is_next(&at, '}')) {
-        do {
-            if (count == MOST || !read_entry(&at, &entries[count]))
-                return false;
-            count++;
-        } while (is_next(&at, ','));
-        if (!is_next(&at, '}'))
-            return false;
-    }
     at += strspn(at, " \t\r\n");
     return *at == '\0';
 }
@@ -94,18 +98,22 @@ bool read_databases(void)
 {
     char path[sizeof settings.log + 16];
 
-    name_of_file(path, sizeof path, "");
-    count = 0;
-    FILE *file = fopen(path, "re");
+    memset(&kept, 0, sizeof kept);
+    FILE *file = fopen(path_of_file(path, sizeof path, ""), "re");
     if (file == NULL && errno == ENOENT)
         return true;
     char *text = file == NULL ? NULL : calloc(1, LONGEST);
-    bool is_right = text != NULL && fread(text, 1, LONGEST - 1, file) > 0 && read_all(text);
+    bool is_right = text != NULL && fread(text, 1, LONGEST - 1, file) > 0 && is_all_read(text);
     if (!is_right)
-        explain("%s: %s", path, file == NULL ? strerror(errno) : text == NULL ? "no memory" : "it isn't what a driver has written");
+        explain("%s can't be read (%s): it says which databases the log belongs to. If they are surely the same, remove it", path,
+            file == NULL       ? strerror(errno)
+                : text == NULL ? "no memory"
+                               : "it isn't what a driver of this version has written");
     free(text);
     if (file != NULL)
         fclose(file);
+    if (is_right && strcmp(kept.manager, settings.name) != 0)
+        memset(&kept, 0, sizeof kept); /* that of another manager's log, which was here */
     return is_right;
 }
 
@@ -119,6 +127,32 @@ static bool is_synced(const char *path, int flags)
     return is_right;
 }
 
+/* A line for each thing, so that somebody can remove one. */
+static void write_all(FILE *file)
+{
+    const char *before = "";
+
+    fprintf(file, "{\n \"version\": %d,\n \"manager\": ", VERSION);
+    write_string(file, settings.name);
+    fprintf(file, ",\n \"incarnation\": %ld,\n \"databases\": [", kept.incarnation);
+    for (int rm = 0; rm < MOST_RMS; rm++) {
+        if (kept.databases[rm].identity[0] == '\0')
+            continue;
+        fprintf(file, "%s{\"number\": %d, \"at\": ", before, rm);
+        write_string(file, kept.databases[rm].at);
+        fputs(", \"identity\": ", file);
+        write_string(file, kept.databases[rm].identity);
+        fputs("}", file);
+        before = ", ";
+    }
+    fputs("]", file);
+    if (kept.shut[0] != '\0') {
+        fputs(",\n \"shut\": ", file);
+        write_string(file, kept.shut);
+    }
+    fputs("\n}\n", file);
+}
+
 /* In one move, so that a crash leaves the file as it was, or as it is to be. */
 static bool is_written(const char *path, const char *new)
 {
@@ -127,16 +161,7 @@ static bool is_written(const char *path, const char *new)
     FILE *file = fopen(new, "we");
     if (file == NULL)
         return false;
-    for (int i = 0; i < count; i++) {
-        fputs(i == 0 ? "{" : ",\n ", file);
-        write_string(file, entries[i].name);
-        fputs(": {\"kind\": ", file);
-        write_string(file, entries[i].kind);
-        fputs(", \"identity\": ", file);
-        write_string(file, entries[i].identity);
-        fputs("}", file);
-    }
-    fputs(count == 0 ? "{}\n" : "}\n", file);
+    write_all(file);
     bool is_right = fflush(file) == 0 && ferror(file) == 0 && fsync(fileno(file)) == 0;
     is_right = fclose(file) == 0 && is_right;
     snprintf(folder, sizeof folder, "%s", path);
@@ -148,8 +173,8 @@ bool save_databases(void)
     char path[sizeof settings.log + 16], new[sizeof settings.log + 16];
     bool is_right = true;
 
-    name_of_file(path, sizeof path, "");
-    name_of_file(new, sizeof new, ".new");
+    path_of_file(path, sizeof path, "");
+    path_of_file(new, sizeof new, "-new");
     pthread_mutex_lock(&lock);
     if (is_changed) {
         is_right = is_written(path, new);
@@ -157,63 +182,86 @@ bool save_databases(void)
     }
     pthread_mutex_unlock(&lock);
     if (!is_right)
-        explain("%s: %s", path, strerror(errno));
+        explain("%s can't be written: %s", path, strerror(errno));
     return is_right;
 }
 
-/* ** what it says */
+/* ** which databases they are */
+
+/* The name of another resource manager that the log has met as this, NULL if there is none: two have changed places. */
+static const char *place_of(const char *identity)
+{
+    for (int rm = 0; rm < settings.rms; rm++)
+        if (strcmp(kept.databases[rm].identity, identity) == 0)
+            return settings.rm[rm].name;
+    return NULL;
+}
+
+/* Whether it is the one that was met before, if one was. */
+static bool is_as_met(int rm, const char *identity)
+{
+    struct database *met = &kept.databases[rm];
+    const char *other = place_of(identity);
+
+    if (strcmp(met->identity, identity) == 0)
+        return true;
+    if (met->identity[0] == '\0') {
+        snprintf(met->at, sizeof met->at, "%s", settings.rm[rm].name);
+        snprintf(met->identity, sizeof met->identity, "%s", identity);
+        is_changed = true;
+        return true;
+    }
+    explain("%s isn't the database that the log %s belongs to: it is %s, and it was %s.%s%s Nothing was asked of it", settings.rm[rm].name,
+        settings.log, identity, met->identity, other == NULL ? "" : " That is the place of ", other == NULL ? "" : other);
+    return false;
+}
 
 bool is_its_database(int rm)
 {
-    char kind[KIND] = "", identity[IDENTITY] = "";
+    char identity[IDENTITY] = "", before[IDENTITY];
     const struct rm *it = &settings.rm[rm];
 
-    int asked = it->identity == NULL ? 1 : it->identity(rm, kind, identity);
-    if (asked > 0)
+    if (it->identity == NULL)
         return true;
-    if (asked < 0) {
-        explain("%s doesn't tell which database it is", it->name);
-        return false;
-    }
     pthread_mutex_lock(&lock);
-    struct entry *met = entry_of(it->name);
-    bool is_right = met == NULL || (strcmp(met->kind, kind) == 0 && strcmp(met->identity, identity) == 0);
-    if (met == NULL)
-        set(it->name, kind, identity);
-    if (!is_right)
-        explain("%s is %s %s, and the log %s belongs to %s %s", it->name, kind, identity, settings.log, met->kind, met->identity);
+    memcpy(before, kept.databases[rm].identity, sizeof before);
+    pthread_mutex_unlock(&lock);
+    int asked = it->identity(rm, before[0] == '\0' ? NULL : before, identity);
+    if (asked < 0)
+        explain("%s doesn't tell which database it is", it->name);
+    if (asked != 0)
+        return asked > 0;
+    pthread_mutex_lock(&lock);
+    bool is_right = is_as_met(rm, identity);
     pthread_mutex_unlock(&lock);
     return is_right;
 }
 
+/* ** how far the log has come */
+
 long last_incarnation(void)
 {
-    struct entry *it = entry_of(LOG);
-
-    return it == NULL ? 0 : strtol(it->identity, NULL, 10);
+    return kept.incarnation;
 }
 
 void meet_incarnation(long incarnation)
 {
-    char number[24];
-
-    snprintf(number, sizeof number, "%ld", incarnation);
     pthread_mutex_lock(&lock);
-    set(LOG, "incarnation", number);
+    kept.incarnation = incarnation;
+    is_changed = true;
     pthread_mutex_unlock(&lock);
 }
 
-const char *refusal_of_log(void)
+const char *shut_because(void)
 {
-    struct entry *it = entry_of(REFUSED);
-
-    return it == NULL ? NULL : it->identity;
+    return kept.shut;
 }
 
-void refuse_log(const char *why)
+void shut_log(const char *why)
 {
     pthread_mutex_lock(&lock);
-    set(REFUSED, "log", why);
+    snprintf(kept.shut, sizeof kept.shut, "%s", why);
+    is_changed = true;
     pthread_mutex_unlock(&lock);
     save_databases();
 }

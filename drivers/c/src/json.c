@@ -1,4 +1,4 @@
-/* Texts of JSON, as far as the file beside the log has them. */
+/* JSON, as far as the file beside the log has it. */
 #include "json.h"
 
 #include <stdlib.h>
@@ -79,15 +79,75 @@ bool read_string(const char **at, char *to, size_t room)
         return false;
     while (**at != '"') {
         size_t count = read_character(at, bytes);
-        if (count == 0 || count >= room)
+        if (count == 0)
             return false;
-        memcpy(to, bytes, count);
-        to += count;
-        room -= count;
+        if (count < room) {
+            memcpy(to, bytes, count);
+            to += count;
+            room -= count;
+        } else {
+            room = 1; /* nothing behind what has no room is kept */
+        }
     }
     ++*at;
     *to = '\0';
     return true;
+}
+
+bool read_number(const char **at, long *to)
+{
+    char *end;
+
+    is_next(at, ' ');
+    *to = strtol(*at, &end, 10);
+    bool is_one = end != *at && strchr(".eE", *end) == NULL;
+    *at = end;
+    return is_one || *end == '\0';
+}
+
+bool read_object(const char **at, bool (*read)(const char *name, const char **at, void *to), void *to)
+{
+    char name[32];
+
+    if (!is_next(at, '{'))
+        return false;
+    if (is_next(at, '}'))
+        return true;
+    do {
+        if (!read_string(at, name, sizeof name) || !is_next(at, ':') || !read(name, at, to))
+            return false;
+    } while (is_next(at, ','));
+    return is_next(at, '}');
+}
+
+static bool skip_member(const char *name, const char **at, void *depth)
+{
+    (void)name;
+    (void)depth;
+    return skip_value(at);
+}
+
+bool skip_value(const char **at)
+{
+    char nothing[1];
+
+    is_next(at, ' ');
+    if (**at == '"')
+        return read_string(at, nothing, sizeof nothing);
+    if (**at == '{')
+        return read_object(at, skip_member, NULL);
+    if (is_next(at, '[')) {
+        if (is_next(at, ']'))
+            return true;
+        do {
+            if (!skip_value(at))
+                return false;
+        } while (is_next(at, ','));
+        return is_next(at, ']');
+    }
+    size_t length = strspn(*at, "+-.0123456789abcdefghijklmnopqrstuvwxyzE");
+    *at += length;
+    return length > 0;
 }
 
 void write_string(FILE *to, const char *text)

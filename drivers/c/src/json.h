@@ -1,4 +1,4 @@
-/* Texts of JSON, as far as the file beside the log has them. */
+/* JSON, as far as the file beside the log has it. */
 #ifndef JSON_H
 #define JSON_H
 #include <stdbool.h>
@@ -7,7 +7,13 @@
 
 /* Skips white space, and this character if it comes next: whether it did. */
 bool is_next(const char **at, char it);
-/* Reads a string. False if there is none, or it has no room. */
+/* Reads a string, of which what has room is kept. False if there is none. */
 bool read_string(const char **at, char *to, size_t room);
+/* Reads a whole number. */
+bool read_number(const char **at, long *to);
+/* Skips whatever value comes next. */
+bool skip_value(const char **at);
+/* Reads an object, whose members the function reads by their names. */
+bool read_object(const char **at, bool (*read)(const char *name, const char **at, void *to), void *to);
 void write_string(FILE *to, const char *text);
 #endif

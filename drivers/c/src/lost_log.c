@@ -8,16 +8,23 @@
 #include "garterfossil.h"
 #include "session.h"
 
+enum { MOST_OF_WHY = 480 };
+
+static void fail_shut(void)
+{
+    fail("%s. Look at it, and then remove the line \"shut\" from %s-databases", shut_because(), settings.log);
+}
+
 void refuse(const char *format, ...)
 {
-    char why[IDENTITY];
+    char why[MOST_OF_WHY];
     va_list words;
 
     va_start(words, format);
     vsnprintf(why, sizeof why, format, words);
     va_end(words);
-    refuse_log(why);
-    fail("%s: put the right log back, and delete %s-databases", why, settings.log);
+    shut_log(why);
+    fail_shut();
 }
 
 /* Whether a resource manager lists a branch of this name, or can't be asked. */
@@ -59,17 +66,16 @@ static bool may_be_made(void)
 
 bool may_begin(void)
 {
-    const char *refusal = refusal_of_log();
     struct stat it;
 
-    if (refusal != NULL) {
-        fail("%s: put the right log back, and delete %s-databases", refusal, settings.log);
+    if (shut_because()[0] != '\0') {
+        fail_shut();
         return false;
     }
     if (stat(settings.log, &it) == 0 && it.st_size > 0)
         return true;
     if (last_incarnation() > 0) {
-        fail("the log %s is gone: put it back. (%s-databases says that there was one)", settings.log, settings.log);
+        fail("the log %s is gone, and %s-databases says that there was one: put it back", settings.log, settings.log);
         return false;
     }
     return may_be_made();
@@ -78,7 +84,9 @@ bool may_begin(void)
 bool is_log_current(void)
 {
     if (all.incarnation <= last_incarnation()) {
-        refuse("the log is older than it was: it has started %ld times, and had %ld times", all.incarnation, last_incarnation());
+        refuse("the log %s is older than it was: its session %ld begins, and session %ld was there already. It would roll back what was"
+               " decided since. Put the right one back",
+            settings.log, all.incarnation, last_incarnation());
         return false;
     }
     meet_incarnation(all.incarnation);

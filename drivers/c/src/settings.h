@@ -10,17 +10,16 @@
 enum {
     MOST_RMS = 64,
     MOST_THREADS = 1023, /* and the keeper's */
-    KIND = 32, /* bytes of a kind of database and of an identity, with their ends */
-    IDENTITY = 256
+    IDENTITY = 256 /* bytes of what a database calls itself, with its end */
 };
 
 struct rm {
     char name[65], open[MAXINFOSIZE], close[MAXINFOSIZE];
     bool is_embedded; /* what the program has opened in it lasts as long as it is open */
     const struct xa_switch_t *xa;
-    /* Which database the thread has opened there: 0, or 1 if it tells none, -1 if it can't be asked. NULL if the switch has
-     * no such function. */
-    int (*identity)(int rmid, char kind[KIND], char identity[IDENTITY]);
+    /* What the database calls itself that the thread has opened there, and maybe what it was kept as, or NULL: 0, or 1 if it
+     * tells nothing, -1 if it can't be asked. NULL if the switch has no such function. */
+    int (*identity)(int rmid, const char *kept, char identity[IDENTITY]);
 };
 
 struct settings {

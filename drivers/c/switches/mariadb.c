@@ -7,7 +7,7 @@
 #include <string.h>
 #include <unistd.h>
 
-enum { LOCKS = 128, TRIES = 1000, SECONDS_TO_CONNECT = 10 };
+enum { LOCKS = 128, TRIES = 1000, SECONDS_TO_CONNECT = 10, NO_SUCH_TABLE = 1146 };
 
 static struct connection *connection_of(int rmid)
 {
@@ -287,22 +287,48 @@ API MYSQL *gf_mariadb_connection(int rmid)
     return is_registered(rmid, &xid) && begin(c, &xid, TMNOFLAGS) == XA_OK ? c->link : NULL;
 }
 
-/* (Before MariaDB 10.6.9 a server has no such variable, and tells none.) */
-API int gf_mariadb_switch_identity(int rmid, char kind[32], char identity[256])
+/* What is in the view that is made in the database at its first use, to be freed; NULL if it can't be made: there is no
+ * database, or no privilege. Of several that make it at once one does. */
+static char *own_identity(struct connection *c)
 {
-    struct connection *c = connection_of(rmid);
-    char *value = c == NULL ? NULL : value_of(c->link, "SELECT @@server_uid");
-    bool is_lost = c == NULL || (value == NULL && mysql_errno(c->link) != 1193);
+    static const char asked[] = "SELECT id FROM garterfossil_identity";
+    char statement[160];
+    char *value = value_of(c->link, asked);
 
-    snprintf(kind, 32, "MariaDB");
-    snprintf(identity, 256, "%s", value == NULL ? "" : value);
-    free(value);
-    return is_lost ? -1 : identity[0] == '\0' ? 1 : 0;
+    if (value != NULL || mysql_errno(c->link) != NO_SUCH_TABLE)
+        return value;
+    char *drawn = value_of(c->link, "SELECT UUID()");
+    snprintf(statement, sizeof statement, "CREATE SQL SECURITY INVOKER VIEW IF NOT EXISTS garterfossil_identity AS SELECT '%.36s' AS id",
+        drawn == NULL ? "" : drawn);
+    bool is_made = drawn != NULL && mysql_query(c->link, "SET SESSION TRANSACTION READ WRITE") == 0 && mysql_query(c->link, statement) == 0;
+    free(drawn);
+    if (c->held.is_dynamic)
+        mysql_query(c->link, "SET SESSION TRANSACTION READ ONLY");
+    return is_made ? value_of(c->link, asked) : NULL;
 }
 
-API int gf_mariadb_dynamic_switch_identity(int rmid, char kind[32], char identity[256])
+/* As the drivers in Python and Java call it. What the server calls itself changes with its machine, so it is only taken if
+ * the database can't have a name of its own. */
+API int gf_mariadb_switch_identity(int rmid, const char *kept, char identity[256])
 {
-    return gf_mariadb_switch_identity(rmid, kind, identity);
+    static const char asked[] = "SELECT VARIABLE_VALUE FROM information_schema.GLOBAL_VARIABLES WHERE VARIABLE_NAME = 'SERVER_UID'";
+    struct connection *c = connection_of(rmid);
+    bool is_by_server = kept != NULL && strncmp(kept, "the server ", 11) == 0;
+
+    if (c == NULL)
+        return -1;
+    char *own = is_by_server ? NULL : own_identity(c), *server = own != NULL ? NULL : value_of(c->link, asked);
+    const char *name = own != NULL ? own : server;
+    snprintf(identity, 256, "the %s %s of MariaDB", own != NULL ? "database" : "server", name == NULL ? "" : name);
+    bool is_told = name != NULL;
+    free(own);
+    free(server);
+    return is_told ? 0 : mysql_ping(c->link) == 0 ? 1 : -1;
+}
+
+API int gf_mariadb_dynamic_switch_identity(int rmid, const char *kept, char identity[256])
+{
+    return gf_mariadb_switch_identity(rmid, kept, identity);
 }
 
 #define SWITCH(name_, flags_, open_) \

@@ -275,21 +275,24 @@ API PGconn *gf_pg_connection(int rmid)
     return is_registered(rmid, &xid) && begin(c, &xid, TMNOFLAGS) == XA_OK ? c->link : NULL;
 }
 
-API int gf_pg_switch_identity(int rmid, char kind[32], char identity[256])
+/* As the drivers in Python and Java call it. */
+API int gf_pg_switch_identity(int rmid, const char *kept, char identity[256])
 {
+    static const char asked[] = "SELECT 'the database ' || oid || ' of the system ' || system_identifier || ' of PostgreSQL'"
+                                " FROM pg_control_system(), pg_database WHERE datname = current_database()";
     struct connection *c = connection_of(rmid);
-    PGresult *result = c == NULL ? NULL : PQexec(c->link, "SELECT system_identifier || '/' || current_database() FROM pg_control_system()");
-    bool is_told = PQresultStatus(result) == PGRES_TUPLES_OK;
+    PGresult *result = c == NULL ? NULL : PQexec(c->link, asked);
+    bool is_told = PQresultStatus(result) == PGRES_TUPLES_OK && PQntuples(result) == 1;
 
-    snprintf(kind, 32, "PostgreSQL");
+    (void)kept;
     snprintf(identity, 256, "%s", is_told ? PQgetvalue(result, 0, 0) : "");
     PQclear(result);
-    return is_told ? 0 : -1;
+    return is_told ? 0 : c != NULL && PQstatus(c->link) == CONNECTION_OK ? 1 : -1;
 }
 
-API int gf_pg_dynamic_switch_identity(int rmid, char kind[32], char identity[256])
+API int gf_pg_dynamic_switch_identity(int rmid, const char *kept, char identity[256])
 {
-    return gf_pg_switch_identity(rmid, kind, identity);
+    return gf_pg_switch_identity(rmid, kept, identity);
 }
 
 #define SWITCH(name_, flags_, open_) \

@@ -33,43 +33,48 @@ static int start(const char *words)
 
 static void the_file(void)
 {
-    char text[256] = "";
+    char text[512] = "";
 
     set_up(known_rms, NULL);
-    stand_in_is(0, "one/bank \"x\" \\ \xc3\xa4");
+    stand_in_is(0, "one \"x\" \\ \xc3\xa4");
     IS(tx_open(), TX_OK);
     IS(tx_close(), TX_OK);
     FILE *file = fopen(path_of("log-databases"), "r");
     IS(file != NULL && fread(text, 1, sizeof text - 1, file) > 0, true);
     SAYS(text,
-        "{\"a\": {\"kind\": \"stand-in\", \"identity\": \"one/bank \\\"x\\\" \\\\ \xc3\xa4\"},\n"
-        " \"the log\": {\"kind\": \"incarnation\", \"identity\": \"1\"}}\n");
+        "{\n \"version\": 1,\n \"manager\": \"c\",\n \"incarnation\": 1,\n \"databases\": [{\"number\": 0, \"at\": \"a\", "
+        "\"identity\": \"one \\\"x\\\" \\\\ \xc3\xa4\"}]\n}\n");
     fclose(file);
     IS(tx_open(), TX_OK);
 }
 
-/* That of another driver, with what this one doesn't know. */
+/* That of another driver, with what this one doesn't know; and that of another manager, whose log was here. */
 static void the_file_of_another(void)
 {
     write_file("log-databases",
-        "{ \"a\" : {\"identity\": \"\\u00e4\\ud83d\\ude00\\n\", \"kind\": \"stand-in\"},"
-        "\"x\":{\"kind\":\"y\",\"identity\":\"z\"} }");
+        "{\n \"version\": 1, \"manager\": \"c\", \"x\": [1.5, {\"y\": null}, []], \"databases\": [{\"number\": 0, "
+        "\"at\": \"PostgreSQL('..')\", \"identity\": \"\\u00e4\\ud83d\\ude00\\n\"}]\n}\n");
     stand_in_is(0, "\xc3\xa4\xf0\x9f\x98\x80\n");
     IS(tx_open(), TX_OK);
     IS(tx_close(), TX_OK);
     stand_in_is(0, "other");
     IS(tx_open(), TX_ERROR);
+    remove(path_of("log"));
+    write_file("log-databases", "{\"version\": 1, \"manager\": \"d\", \"incarnation\": 9, \"databases\": [], \"shut\": \"x\"}");
+    IS(tx_open(), TX_OK);
 }
 
 static void a_broken_file(void)
 {
-    static const char *const texts[] = {"", "{", "{\"a\"}", "{\"a\": {\"kind\": 1}}", "{\"a\": {\"kind\": \"k\"}",
-        "{\"a\": {\"kind\": \"\\ud800\"}}", "[]", "{} x", "{\"a\": {\"kind\": \"\\x\"}}", "{\"a\": {\"kind\": \"k"};
+    static const char *const texts[] = {"", "{", "{\"version\"}", "{\"version\": 2}", "{\"version\": 1", "[]", "{\"version\": 1} x",
+        "{\"version\": 1, \"manager\": \"\\ud800\"}", "{\"version\": 1, \"manager\": \"\\x\"}", "{\"version\": 1, \"manager\": \"c",
+        "{\"version\": 1, \"databases\": [{\"number\": 64, \"identity\": \"x\"}]}", "{\"version\": 1, \"databases\": [{\"number\": 0}]}",
+        "{\"version\": 1, \"databases\": {}}", "{\"version\": 1, \"x\": [1, }"};
 
     for (size_t i = 0; i < sizeof texts / sizeof texts[0]; i++) {
         write_file("log-databases", texts[i]);
-        IS(tx_open(), TX_ERROR);
-        IS(is_said("it isn't what a driver has written"), true);
+        see_number(__FILE__, __LINE__, texts[i], tx_open(), TX_ERROR);
+        IS(is_said("can't be read"), true);
     }
 }
 
@@ -81,7 +86,7 @@ static void another_database(void)
     stand_in_is(0, "two");
     stand_in_journal();
     IS(tx_open(), TX_ERROR);
-    IS(is_said("a is stand-in two, and the log"), true);
+    IS(is_said("a isn't the database that the log"), true);
     SAYS(stand_in_journal(), "xa_open 0, xa_close 0, xa_open 1, xa_close 1"); /* nothing is asked of it */
     stand_in_is(0, "one");
     IS(tx_open(), TX_OK);
@@ -90,7 +95,18 @@ static void another_database(void)
     stand_in_answers(0, "xa_start", XAER_RMFAIL, false);
     IS(tx_begin(), TX_ERROR);
     IS(tx_begin(), TX_ERROR);
-    IS(is_said("a is stand-in two"), true);
+    IS(is_said("it is two, and it was one"), true);
+}
+
+static void two_that_changed_places(void)
+{
+    stand_in_is(0, "one");
+    stand_in_is(1, "two");
+    IS(tx_open(), TX_OK);
+    IS(tx_close(), TX_OK);
+    stand_in_is(0, "two");
+    IS(tx_open(), TX_ERROR);
+    IS(is_said("That is the place of b"), true);
 }
 
 /* A branch of this name is listed, and there is no log: it was lost. */
@@ -136,7 +152,7 @@ static void an_older_log(void)
         IS(start("older"), 2);
     write_file("log", "{\"incarnation\": 3, \"rows\": {}}");
     IS(start("older"), 2); /* until somebody says so */
-    remove(path_of("log-databases"));
+    write_file("log-databases", "{\"version\": 1, \"manager\": \"c\", \"incarnation\": 3, \"databases\": []}");
     IS(start(""), 0);
 }
 
@@ -171,6 +187,7 @@ static void earlier_branches(void)
 }
 
 const struct story of_logs[] = {{"logs: the file beside one", the_file}, {"logs: the file of another driver", the_file_of_another},
-    {"logs: a broken file", a_broken_file}, {"logs: another database", another_database}, {"logs: a new one", a_new_log},
+    {"logs: a broken file", a_broken_file}, {"logs: another database", another_database},
+    {"logs: two that changed places", two_that_changed_places}, {"logs: a new one", a_new_log},
     {"logs: branches of others", others_branches}, {"logs: a lost one", a_lost_log}, {"logs: an older one", an_older_log},
     {"logs: an older folder", an_older_folder}, {"logs: earlier branches", earlier_branches}, {NULL, NULL}};

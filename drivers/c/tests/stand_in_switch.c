@@ -319,9 +319,9 @@ static int complete_it(int *handle, int *code, int rm, long flags)
 
 SEEN const struct xa_switch_t stand_in = SWITCH(TMNOFLAGS), stand_in_dynamic = SWITCH(TMREGISTER), stand_in_async = SWITCH(TMUSEASYNC);
 
-SEEN int stand_in_identity(int rmid, char kind[32], char identity[256])
+SEEN int stand_in_identity(int rmid, const char *kept, char identity[256])
 {
-    snprintf(kind, 32, "stand-in");
+    (void)kept;
     snprintf(identity, 256, "%s", rms[rmid].identity);
     return rms[rmid].identity[0] == '\0';
 }

@@ -7,7 +7,7 @@
 
 /* Its branches begin with the transaction; with the first work; and it takes TMASYNC. */
 extern const struct xa_switch_t stand_in, stand_in_dynamic, stand_in_async;
-extern int stand_in_identity(int rmid, char kind[32], char identity[256]);
+extern int stand_in_identity(int rmid, const char *kept, char identity[256]);
 
 /* Work on the thread's branch at a resource manager. False if there is none. */
 bool stand_in_add(int rmid, long amount);
