@@ -76,9 +76,10 @@ static bool is_keeper_started(void)
 
     if (!read_databases())
         return false;
-    explain("no memory, or no thread for the keeper");
-    if (!is_keeper_made())
+    if (!is_keeper_made()) {
+        explain("no memory");
         return false;
+    }
     coordinator.is_traced = settings.is_traced;
     coordinator.patience = settings.patience;
     all.has_failed = false;
@@ -88,6 +89,8 @@ static bool is_keeper_started(void)
     pthread_sigmask(SIG_BLOCK, &every, &before);
     all.is_kept = pthread_create(&all.keeper, NULL, keep, NULL) == 0;
     pthread_sigmask(SIG_SETMASK, &before, NULL);
+    if (!all.is_kept)
+        explain("no thread for the keeper");
     return all.is_kept;
 }
 
