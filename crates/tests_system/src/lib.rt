@@ -1,45 +1,18 @@
-//! Worked rows through a whole system: each line of a row is a step, with the reply that it is to have; examples of its parts; and the
-//! manager by itself. Where one of them needs a log, it is in memory. `tools/try-program` plays sessions of a driver, and files of
-//! scenarios and of jobs, over the built program.
+//! What no clause says of the crates below: numbers and texts from outside; worked rows at a resource manager; lines and boards on real
+//! threads; the worker threads; logs over which no system is made; and calls that are refused memory. Each log is in memory. What a
+//! step of a system replies is said by its clauses, and shown by the files of `examples/`, which `tools/try-program` plays
+//! over the built program, as it does sessions of a driver and files of jobs.
 #![tactic(auto)]
 
 #[cfg(test)]
-mod claims;
-#[cfg(test)]
-mod crashes;
-#[cfg(test)]
-mod decisions;
-#[cfg(test)]
-mod faults;
-#[cfg(test)]
-mod full;
-#[cfg(test)]
-mod growth;
-#[cfg(test)]
-mod limits;
-#[cfg(test)]
 mod logs;
-#[cfg(test)]
-mod managers;
 #[cfg(test)]
 mod parts;
 #[cfg(test)]
-mod play;
-#[cfg(test)]
-mod ready;
-#[cfg(test)]
 mod refused_memory;
 #[cfg(test)]
-mod reply_words;
-#[cfg(test)]
-mod scans;
-#[cfg(test)]
-mod serving;
+mod started;
 #[cfg(test)]
 mod systems;
 #[cfg(test)]
-mod words;
-#[cfg(test)]
 mod workers;
-#[cfg(test)]
-mod writers;

@@ -1,36 +1,31 @@
 //! Steps that take no memory, and calls outside of steps that are refused some, each made again.
 
-use crate::play::{NO_FAULT, REFUSALS, Run, met, play};
-use crate::ready::READY_1;
+use crate::started::{BRANCH, REFUSALS, met, started};
+use crate::systems::do_step;
 use std::test::Fail;
-use xa_base::{Branch, Gtrid};
+use xa_base::{Part, Refusal, Reply, Side, Step};
 use xa_line::Line;
-use xa_log::{FailLog, MemLog};
-
-/// A branch of the first transaction over a new log.
-const BRANCH: Branch = Branch {
-    gtrid: Gtrid {
-        incarnation: 1,
-        sequence: 1,
-    },
-    thread: 0,
-    rm: 1,
-};
 
 /// What takes no memory is never refused any.
-const QUIET: &str = "\
-hear 0 0 -> nothing
-take 0 0 -> nothing
-crash-line 0 0 -> crashed
-crash-rm 0 -> crashed
-restart-rm 0 -> restarted
-hear 0 0 -> nothing
-crash-manager -> crashed
-";
-
 #[test]
-fn quiet_steps(rt: HostRuntime) {
-    play(&rt, rt.alloc(), NO_FAULT, &[READY_1, QUIET]);
+fn quiet_steps(rt: HostRuntime) -> Result<(), Fail> {
+    let Some(mut system) = started(&rt, rt.alloc()) else {
+        return Err(Fail::from("no system is made"));
+    };
+    let (thread, rm) = (0, 0);
+    let steps = [
+        Step::Hear { thread, rm },
+        Step::Hear { thread, rm },
+        Step::Crash(Part::Line { thread, rm }),
+        Step::Crash(Part::Rm { rm }),
+        Step::Restart(Side::Rm { rm }),
+        Step::Crash(Part::Manager),
+    ];
+    for step in &steps {
+        let reply = do_step(&mut system, step.copy());
+        assert!(rt; !matches!(reply, Reply::Refused(Refusal::Memory)));
+    }
+    Ok(())
 }
 
 #[test]
@@ -55,7 +50,7 @@ fn a_text(rt: HostRuntime) -> Result<(), Fail> {
             text = BRANCH.xid().text(rt.alloc());
         }
     }
-    let want = "7:00000000000000010000000000000001:0000000000000001";
+    let want = "7:00000000000000010000000000000001:0000000000000000";
     assert!(rt; text?.as_str() == want);
     Ok(())
 }
@@ -63,19 +58,16 @@ fn a_text(rt: HostRuntime) -> Result<(), Fail> {
 #[test]
 fn a_report(rt: HostRuntime) -> Result<(), Fail> {
     let alloc = rt.alloc();
-    let log = FailLog::new(MemLog::new(alloc), NO_FAULT);
-    let Some(mut run) = Run::new(&rt, alloc, false, log) else {
-        return Ok(());
+    let Some(system) = started(&rt, alloc) else {
+        return Err(Fail::from("no system is made"));
     };
-    if run.play(&rt, READY_1) {
-        let mut report = run.system.report(alloc);
-        for _ in 0..REFUSALS {
-            if report.is_err() {
-                met(&rt, "refused report");
-                report = run.system.report(alloc);
-            }
+    let mut report = system.report(alloc);
+    for _ in 0..REFUSALS {
+        if report.is_err() {
+            met(&rt, "refused report");
+            report = system.report(alloc);
         }
-        assert!(rt; report?.len() == 1);
     }
+    assert!(rt; report?.len() == 1);
     Ok(())
 }

@@ -1,12 +1,11 @@
-//! What no clause says: that lines are made where there is memory; that real threads get calls and answers through; and
-//! worked calls on one line.
+//! What no clause says: that lines are made where there is memory, and that real threads get calls and answers through.
 
 ghost use Rattle.std.specs.Prelude.{◌≡◌};
 ghost use Rattle.xa_line.specs.Ends.{SameIssuer, SameTaker};
 
 use std::test::Fail;
 use std::thread;
-use xa_base::{Answer, Call, Code, Refusal};
+use xa_base::{Answer, Call, Code};
 use xa_line::{Issuer, Line, Lines, Taker};
 
 /// How often in a row an end tries in vain before it gives up.
@@ -153,34 +152,6 @@ fn reply(taker: &mut Taker, count: i64) -> i64
         }
     }
     count
-}
-
-#[test]
-fn the_65th_call_is_refused(rt: HostRuntime) -> Result<(), Fail> {
-    let mut line = Line::new(rt.alloc())?;
-    for _ in 0..64 {
-        assert!(rt; line.issue(Call::OpenRm) == Ok(()));
-    }
-    assert!(rt; line.issue(Call::OpenRm) == Err(Refusal::Full));
-    assert!(rt; line.take() == Some(Call::OpenRm));
-    assert!(rt; line.issue(Call::OpenRm) == Ok(()));
-    Ok(())
-}
-
-#[test]
-fn three_calls_wait_where_the_ends_meet(rt: HostRuntime) -> Result<(), Fail> {
-    let mut line = Line::new(rt.alloc())?;
-    assert!(rt; line.issue(Call::OpenRm) == Ok(()));
-    assert!(rt; line.issue(numbered(1)) == Ok(()));
-    assert!(rt; line.issue(Call::CloseRm) == Ok(()));
-    let (issuer, taker) = line.split();
-    let mut line = Line::meet(issuer, taker);
-    assert!(rt; line.take() == Some(Call::OpenRm));
-    assert!(rt; line.take() == Some(numbered(1)));
-    assert!(rt; line.take() == Some(Call::CloseRm));
-    assert!(rt; line.take() == None);
-    assert!(rt; line.issue(Call::OpenRm) == Err(Refusal::Closed));
-    Ok(())
 }
 
 #[test]

@@ -1,10 +1,8 @@
-//! How jobs end, and what the log then has.
-ghost use Rattle.std.specs.Prelude.{◌<◌};
+//! Runs that come to their end, and how many answers they take.
 
 use crate::workers::gates::Counting;
 use crate::workers::plans::{
-    NO, READ_ONLY, YES, are_fates, branch, end_at, fault_of, four_jobs, gtrid, jobs, push_job, run,
-    swept,
+    NO, READ_ONLY, YES, end_at, fault_of, four_jobs, jobs, push_job, swept,
 };
 use std::alloc::{AllocError, Global};
 use std::process::Abort;
@@ -13,76 +11,9 @@ use std::sync::atomic::Ordering;
 use std::test::Fail;
 use std::thread::Threads;
 use std::time::Clock;
-use xa_base::{Branch, Fate, Outcome};
-use xa_log::{DecisionLog, LogFault, MemLog};
+use xa_base::Outcome;
+use xa_log::MemLog;
 use xa_workers::{Jobs, WorkFault};
-
-/// What becomes of the branches of four jobs.
-fn fates_of_four(threads: u32) -> [(Branch, Fate); 7]
-    requires { 0 < threads }
-{
-    [
-        (branch(1, 0, 0), Fate::Committed),
-        (branch(1, 0, 1), Fate::Committed),
-        (branch(2, 1 % threads, 0), Fate::RolledBack),
-        (branch(2, 1 % threads, 1), Fate::RolledBack),
-        (branch(3, 2 % threads, 0), Fate::ReadOnly),
-        (branch(3, 2 % threads, 1), Fate::ReadOnly),
-        (branch(4, 3 % threads, 1), Fate::Committed),
-    ]
-}
-
-/// Whether the log has the two jobs that were decided by it, and is of the first incarnation.
-fn is_log_of_four(log: &mut MemLog, last: Branch) -> Result<bool, LogFault> {
-    let rows = log.rows()?;
-    let participants = [branch(1, 0, 0), branch(1, 0, 1), last];
-    let has_rows = rows.decisions.as_slice() == [gtrid(1), gtrid(4)].as_slice()
-        && rows.participants.as_slice() == participants.as_slice();
-    Ok(has_rows && log.bump()? == 2)
-}
-
-fn four_jobs_end<R: Threads + Wait + Clock + Sync + Abort>(
-    rt: &R,
-    alloc: Global,
-    threads: u32,
-) -> Result<(), Fail>
-    requires { 0 < threads }
-{
-    let four = four_jobs(alloc, threads)?;
-    let mut done = run(rt, alloc, &four, MemLog::new(alloc), &Counting::new())?;
-    let ends = [
-        Outcome::Commit,
-        Outcome::Rollback,
-        Outcome::Commit,
-        Outcome::Commit,
-    ];
-    assert!(rt; done.ends.as_slice() == ends.as_slice());
-    assert!(rt; are_fates(&done, &fates_of_four(threads)));
-    assert!(rt; is_log_of_four(&mut done.log, branch(4, 3 % threads, 1))?);
-    Ok(())
-}
-
-#[test]
-fn four_jobs_end_alike_for_each_number_of_threads(rt: HostRuntime) -> Result<(), Fail> {
-    for threads in 1..9u32 {
-        four_jobs_end(&rt, rt.alloc(), threads)?;
-    }
-    Ok(())
-}
-
-#[test]
-fn a_no_leaves_read_only_as_it_is(rt: HostRuntime) -> Result<(), Fail> {
-    let alloc = rt.alloc();
-    let one = jobs(alloc, 1, 2, &[&[READ_ONLY, NO]])?;
-    let done = run(&rt, alloc, &one, MemLog::new(alloc), &Counting::new())?;
-    assert!(rt; done.ends.as_slice() == [Outcome::Rollback].as_slice());
-    let fates = [
-        (branch(1, 0, 0), Fate::ReadOnly),
-        (branch(1, 0, 1), Fate::RolledBack),
-    ];
-    assert!(rt; are_fates(&done, &fates));
-    Ok(())
-}
 
 /// Just the branches that voted yes are sent xa_commit or xa_rollback: each other was ended by its vote.
 #[test]
@@ -154,6 +85,16 @@ fn comes_to_its_end<R: Threads + Wait + Clock + Sync + Abort>(
     all: &Jobs,
 ) -> bool {
     fault_of(rt, alloc, all, MemLog::new(alloc), &Counting::new()).is_none()
+}
+
+#[test]
+fn four_jobs_come_to_their_end_on_each_number_of_threads(rt: HostRuntime) -> Result<(), Fail> {
+    let alloc = rt.alloc();
+    for threads in 1..9u32 {
+        let four = four_jobs(alloc, threads)?;
+        assert!(rt; comes_to_its_end(&rt, alloc, &four));
+    }
+    Ok(())
 }
 
 #[test]

@@ -1,11 +1,11 @@
-//! Jobs to be run, and what became of them.
+//! Jobs to be run, and how a run ends.
 
 use std::alloc::{AllocError, Global};
 use std::process::Abort;
 use std::sync::Wait;
 use std::thread::Threads;
 use std::time::Clock;
-use xa_base::{Branch, Fate, Gtrid, Outcome, RbCode, Vote};
+use xa_base::{Branch, Gtrid, Outcome, RbCode, Vote};
 use xa_log::{DecisionLog, MemLog};
 use xa_workers::{Gate, Jobs, Outcomes, WorkFault, run_jobs};
 
@@ -109,11 +109,4 @@ pub(crate) fn four_jobs(alloc: Global, threads: u32) -> Result<Jobs, AllocError>
             &[None, YES],
         ],
     )
-}
-
-/// Whether the fates are these, in this order.
-pub(crate) fn are_fates<L>(done: &Outcomes<L>, fates: &[(Branch, Fate)]) -> bool {
-    done.fates.len() == fates.len()
-        && done.fates.iter().zip(fates.iter()).all(|(left, right)| left.0 == right.0.xid()
-            && left.1 == right.1)
 }
