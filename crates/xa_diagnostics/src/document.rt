@@ -100,33 +100,62 @@ fn put(alloc: Global, table: &mut Table, key: &str, value: Value) -> Result<(), 
     Ok(())
 }
 
+/// Puts a text at a key.
+fn put_text(alloc: Global, table: &mut Table, key: &str, text: &str) -> Result<(), Memory> {
+    put(alloc, table, key, Value::string(alloc, text)?)
+}
+
+/// Makes of a table an entry that begins a transaction of a name.
+fn put_begin(alloc: Global, table: &mut Table, name: &str) -> Result<(), Memory> {
+    put_text(alloc, table, "do", "begin")?;
+    put(alloc, table, "thread", Value::Integer(0))?;
+    put_text(alloc, table, "tx", name)
+}
+
 /// An entry that begins a transaction of a name.
 fn begin_of(alloc: Global, name: &str) -> Result<Value, Memory> {
     let mut table = Table::new(alloc);
-    put(alloc, &mut table, "do", Value::string(alloc, "begin")?)?;
-    put(alloc, &mut table, "thread", Value::Integer(0))?;
-    put(alloc, &mut table, "tx", Value::string(alloc, name)?)?;
-    Ok(Value::Table(table))
+    match put_begin(alloc, &mut table, name) {
+        Ok(()) => Ok(Value::Table(table)),
+        Err(memory) => Err(memory),
+    }
+}
+
+/// Adds a vote of none for each of so many resource managers.
+fn add_votes(alloc: Global, rms: i64, votes: &mut Vec<Value>) -> Result<(), Memory> {
+    for _ in 0..rms.clamp(0, i64::from(MAX_RMS)) {
+        votes.push(Value::string(alloc, "none")?)?;
+    }
+    Ok(())
+}
+
+/// Makes of a table a faultless job.
+fn put_job(alloc: Global, table: &mut Table, rms: i64) -> Result<(), Memory> {
+    let mut votes = Vec::new(alloc);
+    match add_votes(alloc, rms, &mut votes) {
+        Ok(()) => put(alloc, table, "votes", Value::Array(votes)),
+        Err(memory) => Err(memory),
+    }
+}
+
+/// Makes of a table a faultless entry.
+fn put_entry(alloc: Global, table: &mut Table) -> Result<(), Memory> {
+    put_text(alloc, table, "do", "take")?;
+    put(alloc, table, "thread", Value::Integer(0))?;
+    put(alloc, table, "rm", Value::Integer(0))
 }
 
 /// A faultless table, of a file with so many resource managers.
 fn faultless(alloc: Global, kind: FileKind, rms: i64) -> Result<Value, Memory> {
     let mut table = Table::new(alloc);
-    match kind {
-        FileKind::Scenario => {
-            put(alloc, &mut table, "do", Value::string(alloc, "take")?)?;
-            put(alloc, &mut table, "thread", Value::Integer(0))?;
-            put(alloc, &mut table, "rm", Value::Integer(0))?;
-        }
-        FileKind::Jobs => {
-            let mut votes = Vec::new(alloc);
-            for _ in 0..rms.clamp(0, i64::from(MAX_RMS)) {
-                votes.push(Value::string(alloc, "none")?)?;
-            }
-            put(alloc, &mut table, "votes", Value::Array(votes))?;
-        }
+    let made = match kind {
+        FileKind::Scenario => put_entry(alloc, &mut table),
+        FileKind::Jobs => put_job(alloc, &mut table, rms),
+    };
+    match made {
+        Ok(()) => Ok(Value::Table(table)),
+        Err(memory) => Err(memory),
     }
-    Ok(Value::Table(table))
 }
 
 /// Puts a value in the place of the item of a number.
@@ -179,17 +208,37 @@ pub fn remove_key(document: &mut Table, kind: FileKind, number: usize, key: &str
     }
 }
 
-/// Puts entries in front of the others that begin these names.
-pub fn put_begins(alloc: Global, document: &mut Table, names: &[String]) -> Result<(), Memory> {
-    let mut items = Vec::new(alloc);
+/// Adds entries that begin these names.
+fn add_begins(alloc: Global, names: &[String], items: &mut Vec<Value>) -> Result<(), Memory> {
     for name in names {
         items.push(begin_of(alloc, name)?)?;
     }
+    Ok(())
+}
+
+/// Adds these items.
+fn add_items(later: Vec<Value>, items: &mut Vec<Value>) -> Result<(), Memory> {
+    for item in later {
+        items.push(item)?;
+    }
+    Ok(())
+}
+
+/// The items behind entries that begin these names.
+fn behind(alloc: Global, names: &[String], later: Vec<Value>) -> Result<Vec<Value>, Memory> {
+    let mut items = Vec::new(alloc);
+    add_begins(alloc, names, &mut items)?;
+    match add_items(later, &mut items) {
+        Ok(()) => Ok(items),
+        Err(memory) => Err(memory),
+    }
+}
+
+/// Puts entries in front of the others that begin these names.
+pub fn put_begins(alloc: Global, document: &mut Table, names: &[String]) -> Result<(), Memory> {
     match document.remove("step") {
         Some(Value::Array(later)) => {
-            for item in later {
-                items.push(item)?;
-            }
+            let items = behind(alloc, names, later)?;
             put(alloc, document, "step", Value::Array(items))
         }
         Some(other) => put(alloc, document, "step", other),

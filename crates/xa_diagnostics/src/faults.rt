@@ -195,27 +195,45 @@ impl Search<'_> {
         }
     }
 
-    /// The faults of a document.
-    fn all_in(&mut self, mut document: Table) -> Result<Vec<Diagnostic>, Memory> {
-        let mut found = Vec::new(self.alloc);
-        for _ in 0..MOST_FAULTS {
-            let Some((diagnostic, mend)) = self.first_in(&document)? else {
-                break;
-            };
-            if let Some(diagnostic) = diagnostic {
-                found.push(diagnostic)?;
+    /// Mends what is to be mended of a document. Tells whether there is sense in what is behind it.
+    fn mend(&self, document: &mut Table, mend: &Mend) -> Result<bool, Memory> {
+        match mend {
+            Mend::Key(key) => mend_key(self.alloc, document, key.as_str())?,
+            Mend::Moved(key, number) => {
+                mend_key(self.alloc, document, key.as_str())?;
+                remove_key(document, self.kind, *number, key.as_str());
             }
-            match mend {
-                Mend::Key(key) => mend_key(self.alloc, &mut document, key.as_str())?,
-                Mend::Moved(key, number) => {
-                    mend_key(self.alloc, &mut document, key.as_str())?;
-                    remove_key(&mut document, self.kind, number, key.as_str());
+            Mend::Table(number) => mend_table(self.alloc, document, self.kind, *number)?,
+            Mend::Nothing => return Ok(false),
+        }
+        Ok(true)
+    }
+
+    /// Adds the first fault of a document, and mends it. Tells whether there may be a further one.
+    fn add_first(
+        &mut self,
+        document: &mut Table,
+        found: &mut Vec<Diagnostic>,
+    ) -> Result<bool, Memory> {
+        match self.first_in(document)? {
+            Some((diagnostic, mend)) => {
+                if let Some(diagnostic) = diagnostic {
+                    found.push(diagnostic)?;
                 }
-                Mend::Table(number) => mend_table(self.alloc, &mut document, self.kind, number)?,
-                Mend::Nothing => break,
+                self.mend(document, &mend)
+            }
+            None => Ok(false),
+        }
+    }
+
+    /// Adds the faults of a document.
+    fn add_all(&mut self, document: &mut Table, found: &mut Vec<Diagnostic>) -> Result<(), Memory> {
+        for _ in 0..MOST_FAULTS {
+            if !self.add_first(document, found)? {
+                break;
             }
         }
-        Ok(found)
+        Ok(())
     }
 }
 
@@ -231,20 +249,78 @@ fn top_mend(alloc: Global, kind: FileKind, finding: &Finding<'_>) -> Result<Mend
     Ok(Mend::Key(String::from_str(alloc, key)?))
 }
 
+/// Adds the names that a document begins.
+fn add_names(alloc: Global, document: &Table, names: &mut Vec<String>) -> Result<(), Memory> {
+    for item in items_at(document, "step") {
+        if let Some(name) = begun_in(item) {
+            names.push(String::from_str(alloc, name)?)?;
+        }
+    }
+    Ok(())
+}
+
+/// Adds the names that a text begins, if it is a document.
+fn add_names_of(alloc: Global, text: &[u8], names: &mut Vec<String>) -> Result<(), Memory> {
+    match document_of(alloc, text) {
+        Ok(document) => add_names(alloc, &document, names),
+        Err(_) => Ok(()),
+    }
+}
+
 /// The names that earlier files begin.
 fn earlier_names(alloc: Global, earlier: &[Vec<u8>]) -> Result<Vec<String>, Memory> {
     let mut names = Vec::new(alloc);
     for text in earlier {
-        let Ok(document) = document_of(alloc, text) else {
-            continue;
-        };
-        for item in items_at(&document, "step") {
-            if let Some(name) = begun_in(item) {
-                names.push(String::from_str(alloc, name)?)?;
-            }
-        }
+        add_names_of(alloc, text, &mut names)?;
     }
     Ok(names)
+}
+
+/// The fault of a text that is no document.
+fn fault_of_syntax(alloc: Global, text: &[u8]) -> Result<Vec<Diagnostic>, Memory> {
+    let mut found = Vec::new(alloc);
+    if let Some(diagnostic) = explain_syntax(alloc, text)? {
+        found.push(diagnostic)?;
+    }
+    Ok(found)
+}
+
+/// Adds the faults of a document, behind earlier files that begin these names.
+fn add_faults(
+    alloc: Global,
+    text: &[u8],
+    names: &[String],
+    kind: FileKind,
+    document: &mut Table,
+    found: &mut Vec<Diagnostic>,
+) -> Result<(), Memory> {
+    let tables = items_at(document, kind.array()).len();
+    if kind == FileKind::Scenario && !names.is_empty() {
+        put_begins(alloc, document, names)?;
+    }
+    let mut search = Search {
+        alloc,
+        text,
+        kind,
+        tables,
+        earlier: names.len(),
+        suspects: Vec::new(alloc),
+    };
+    search.add_all(document, found)
+}
+
+/// The faults of a document behind earlier files.
+fn faults_in(
+    alloc: Global,
+    text: &[u8],
+    earlier: &[Vec<u8>],
+    kind: FileKind,
+    document: &mut Table,
+) -> Result<Vec<Diagnostic>, Memory> {
+    let names = earlier_names(alloc, earlier)?;
+    let mut found = Vec::new(alloc);
+    add_faults(alloc, text, names.as_slice(), kind, document, &mut found)?;
+    Ok(found)
 }
 
 /// All faults of a file behind earlier ones, each with its reason, in the order in which its reader meets them; not more than
@@ -255,29 +331,9 @@ pub fn faults_of(
     earlier: &[Vec<u8>],
     kind: FileKind,
 ) -> Result<Vec<Diagnostic>, Memory> {
-    let mut document = match document_of(alloc, text) {
-        Ok(document) => document,
-        Err(RunFault::Memory) => return Err(Memory),
-        Err(_) => {
-            let mut found = Vec::new(alloc);
-            if let Some(diagnostic) = explain_syntax(alloc, text)? {
-                found.push(diagnostic)?;
-            }
-            return Ok(found);
-        }
-    };
-    let names = earlier_names(alloc, earlier)?;
-    let tables = items_at(&document, kind.array()).len();
-    if kind == FileKind::Scenario && !names.is_empty() {
-        put_begins(alloc, &mut document, names.as_slice())?;
+    match document_of(alloc, text) {
+        Ok(mut document) => faults_in(alloc, text, earlier, kind, &mut document),
+        Err(RunFault::Memory) => Err(Memory),
+        Err(_) => fault_of_syntax(alloc, text),
     }
-    let mut search = Search {
-        alloc,
-        text,
-        kind,
-        tables,
-        earlier: names.len(),
-        suspects: Vec::new(alloc),
-    };
-    search.all_in(document)
 }
