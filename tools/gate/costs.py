@@ -16,10 +16,10 @@ QUICK, QUICK_PART, PROOFS = 8, 4, 94
 # Processor seconds of an edit, and of all edits of the crates in which one takes much longer.
 EDIT = 5
 EDITS = {
-    "xa_session": 372,
+    "xa_session": 327,
     "xa_sql_log": 261,
-    "xa_server": 202,
-    "xa_system": 182,
+    "xa_server": 190,
+    "xa_system": 173,
     "xa_workers": 162,
     "xa_scenario": 124,
     "xa_commands": 116,
