@@ -36,7 +36,20 @@ use Rattle.xa_monitor.specs.Explained.{HasOnlyOlderRows}
 use Rattle.xa_monitor.specs.Seen.{KeepsRules, Seen, Seen.Answered, Seen.Did, Seen.Lost, Seen.Start as Begin}
 use Rattle.xa_monitor.specs.Sessions.{AfterSessions, AfterSessions.Between, AfterSessions.NoneYet, AfterSessions.OneMore, Finds, FindsLog, Log, WasFoundDecided}
 use Rattle.xa_monitor.specs.Standings.{Comes, Explains, ExplainsAsked, ExplainsIf, MayBeDone}
-use Rattle.xa_server.specs.HeardEnds.{EndsBy, HeardEndsStay, TellsEnd, WasToldEnd, end_told}
+use Rattle.xa_log.specs.Content.{Content}
+use Rattle.xa_log.specs.Contract.{Moment}
+use Rattle.xa_server.proofs.Failures.{failed_in_answer}
+use Rattle.xa_server.proofs.LeftSessions.{honest_before}
+use Rattle.xa_server.proofs.LogLemmas.{replies_keep}
+use Rattle.xa_server.proofs.LogStarts.{raised_from}
+use Rattle.xa_server.proofs.SessionChains.{Laws, StartsGoOn, are_sessions}
+use Rattle.xa_server.specs.HeardEnds.{EndsBy, HeardEndsStay, SessionsKeepEnds, TellsEnd, WasToldEnd, WasToldEndServed, end_told}
+use Rattle.xa_server.specs.LeftSessions.{IsBehind, under}
+use Rattle.xa_server.specs.NamedLines.{lines_read}
+use Rattle.xa_server.specs.Sessions.{AreServed, AreServed.Between as EndsBetween, AreServed.NoneYet as NoneServed, AreServed.OneMore as OneServed, HoldsLeft, IsSession, IsSessionLeft, IsSessionLeft.AfterLine, IsSessionLeft.InAnswer, IsSessionLeft.InRequest, WasFoundDecidedInLog}
+use Rattle.xa_server.specs.declared.server.Server.{Server}
+use Rattle.xa_tm.specs.Calls.{log_in}
+use Rattle.std.specs.List.{Contains}
 
 -- ** the end of a branch
 
@@ -396,3 +409,65 @@ heard_ends _ _ (OneMore log from to o seen fails done cut before found session m
 heard_ends _ _ (Between log from to d how before prepared final) b s was =
     final b ∙ alone_stays d b how (from b) s (was_last log from before b s was) (heard_ends log from before b s was)
     (λ e. subst (λ z. from z ≡ Prepared) e prepared) (branch_eq d b) refl
+
+-- ** of sessions that a server serves
+
+module _ {L : Type 0} (moment : L → Moment) (laws : Laws L) (name : List ℕ) (handed : L) (o : Origin) (told : Seen) (now : Server L)
+    (is : IsSession moment name handed o told now) where
+  -- what is seen in the end keeps the rules too
+  keeps_left : (seen : Seen) (left : Server L) → IsSessionLeft moment told now seen left → KeepsRules o seen
+  keeps_left _ _ AfterLine = is.tracks.0
+  keeps_left _ _ (InRequest request left asks performs) = is.tracks.0
+  keeps_left _ _ (InAnswer t r named code call left waits performs) =
+      let failed = failed_in_answer moment now left t r named code call waits performs in
+      (laws.answer o told now.session t r (Ret code) call is.tracks failed.fit failed.first).keeps
+
+  tells_left : (b : Branch) (s : Standing) (seen : Seen) (left : Server L) → IsSessionLeft moment told now seen left → TellsEnd b s told → TellsEnd b s seen
+  tells_left b s _ _ AfterLine t = t
+  tells_left b s _ _ (InRequest request left asks performs) t = t
+  tells_left b s _ _ (InAnswer t r named code call left waits performs) tells = inr tells
+
+  session_ends : (from to : Branch → Standing) (D : Branch → Type 0) (c : Content) → StartsGoOn from D c → HoldsLeft moment c handed
+      → (seen : Seen) (left : Server L) → IsSessionLeft moment told now seen left → (moment (log_in left.session.manager)).is_honest
+      → (done cut : List Line) → MayAllStand o seen (λ x. Comes seen x (broken (from x))) done cut to → (b : Branch) (s : Standing) → IsLast s
+      → (from b ≡ s) ⊎ TellsEnd b s seen → to b ≡ s
+  session_ends from to D c before has seen left is_left honest done cut may b s last was =
+      all_ends prior.log from (λ x. WasFoundDecided x prior.log from prior.after) (reached prior.log from prior.after) o prior.finds
+      (is.starts.old o is.begins) seen (keeps_left seen left is_left) done cut to may b s last was
+    where
+      prior : IsBehind from D o
+      prior = before o (raised_from moment is.threads is.rms handed is.first is.starts has.order
+          ((replies_keep moment (lines_read name is.lines) is.replies is.first now is.replied).honest (honest_before moment told seen now left is_left honest))
+          has.content has.has o is.begins c has.same.decisions has.same.heuristics has.raised)
+
+module _ {L : Type 0} (moment : L → Moment) (laws : Laws L) (name : List ℕ) where
+  was_last_served : (last : Option (Server L)) (f : Branch → Standing) (served : AreServed moment name last f) (b : Branch) (s : Standing)
+      → WasToldEndServed moment name b s last f served → IsLast s
+  was_last_served _ _ NoneServed b s was = absurd was
+  was_last_served _ _ (OneServed last from to handed o told seen now left done cut before handed_on is is_left honest may) b s (inl t) = tells_last told b s t
+  was_last_served _ _ (OneServed last from to handed o told seen now left done cut before handed_on is is_left honest may) b s (inr w) =
+      was_last_served last from before b s w
+  was_last_served _ _ (EndsBetween last from to d how before prepared final) b s was = was_last_served last from before b s was
+
+  pub served_ends : (last : Option (Server L)) (f : Branch → Standing) (served : AreServed moment name last f) (b : Branch) (s : Standing)
+      → WasToldEndServed moment name b s last f served → f b ≡ s
+  served_ends _ _ NoneServed b s was = absurd was
+  served_ends _ _ (OneServed last from to handed o told seen now left done cut before handed_on is is_left honest may) b s (inl t) =
+      session_ends moment laws name handed o told now is from to (λ x. WasFoundDecidedInLog moment name x last from before) handed_on.left
+      ((are_sessions moment laws name last from before).next handed_on.left handed_on.was_left) handed_on.holds seen left is_left honest done cut may b s
+      (tells_last told b s t) (inr (tells_left moment laws name handed o told now is b s seen left is_left t))
+  served_ends _ _ (OneServed last from to handed o told seen now left done cut before handed_on is is_left honest may) b s (inr w) =
+      session_ends moment laws name handed o told now is from to (λ x. WasFoundDecidedInLog moment name x last from before) handed_on.left
+      ((are_sessions moment laws name last from before).next handed_on.left handed_on.was_left) handed_on.holds seen left is_left honest done cut may b s
+      (was_last_served last from before b s w) (inl (served_ends last from before b s w))
+  served_ends _ _ (EndsBetween last from to d how before prepared final) b s was =
+      final b ∙ alone_stays d b how (from b) s (was_last_served last from before b s was) (served_ends last from before b s was)
+      (λ e. subst (λ z. from z ≡ Prepared) e prepared) (branch_eq d b) refl
+
+pub keep_ends : {L : Type 0} (moment : L → Moment) → Laws L → SessionsKeepEnds moment
+keep_ends moment laws name from to c found handed o told seen now left done cut b s prior has is is_left honest may (inl both) =
+    session_ends moment laws name handed o told now is (under name from) (under name to) (Contains found) c prior.behind has seen left is_left honest
+    done cut may b s both.0 (inl both.1)
+keep_ends moment laws name from to c found handed o told seen now left done cut b s prior has is is_left honest may (inr t) =
+    session_ends moment laws name handed o told now is (under name from) (under name to) (Contains found) c prior.behind has seen left is_left honest
+    done cut may b s (tells_last seen b s t) (inr t)

@@ -120,7 +120,7 @@ later moment threads rms handed first c starts has honest =
     subst (λ i. c.incarnation < i) (sym raised.has.incarnation) raised.raised
 
 -- a log that is honest where a session was left was so behind its last line
-honest_before : {L : Type 0} (moment : L → Moment) (told seen : Seen) (now left : Server L) → IsSessionLeft moment told now seen left
+pub honest_before : {L : Type 0} (moment : L → Moment) (told seen : Seen) (now left : Server L) → IsSessionLeft moment told now seen left
     → (moment (log_in left.session.manager)).is_honest → (moment (log_in now.session.manager)).is_honest
 honest_before moment told _ now _ AfterLine honest = honest
 honest_before moment told _ now _ (InRequest request left asks performs) honest = performs.keeps.honest honest

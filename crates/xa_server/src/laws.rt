@@ -2,7 +2,7 @@
 
 ghost use Rattle.xa_server.specs.Branches.{CallsAreOnBranches};
 ghost use Rattle.xa_server.specs.Faults.{FaultsLeaveAllOrNone, NothingBehindFaults};
-ghost use Rattle.xa_server.specs.HeardEnds.{HeardEndsStay};
+ghost use Rattle.xa_server.specs.HeardEnds.{HeardEndsStay, ServedEndsStay, SessionsKeepEnds};
 ghost use Rattle.xa_server.specs.LeftSessions.{LeftSessionsAgree, ManagersAgree};
 ghost use Rattle.xa_server.specs.LeftSessions.{ServedManagersAgree, ServedSessionsGoOn, SessionsBegin};
 ghost use Rattle.xa_server.specs.LeftSessions.{SessionsGoOn, SessionsWait, StandingsAreUnder};
@@ -150,10 +150,18 @@ pub fn left_sessions_agree()
 /// it told that it is committed (XA_OK to xa_commit) or rolled back (XA_OK to xa_rollback, or an XA_RB code), it stands so
 /// behind all sessions, whatever was asked and answered since.
 ///
-/// The sessions are those of `xa_monitor`, each with what was seen in it (`AfterSessions`).
-pub fn heard_ends_stay()
-    ensures { HeardEndsStay }
-{}
+/// - `seen`: the sessions are those of `xa_monitor`, each with what was seen in it;
+/// - `served`: they are served, over one log;
+/// - `kept`: each has a log of a type of its own. What had ended before it, or was heard in it to have ended, stands so behind it.
+pub fn heard_ends_stay<L: DecisionLog + Drop>()
+    ensures seen { HeardEndsStay }
+    ensures served { ServedEndsStay L.moment }
+    ensures kept { SessionsKeepEnds L.moment }
+{
+    starts_find_the_log::<L>();
+    sessions_are_explained::<L>();
+    waiting_calls_are_tracked::<L>();
+}
 
 /// What is supposed of sessions can be met: of a transaction with a branch at each of two databases the first session hears both votes
 /// and is left in its `decide`; the second finds the row. Then the one branch is committed, and the other one is prepared still, or
