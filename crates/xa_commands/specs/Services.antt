@@ -13,7 +13,7 @@ use Rattle.xa_session.specs.Logging.{HoldsItsBook}
 use Rattle.xa_monitor.specs.Explained.{HasOnlyOlderRows}
 use Rattle.xa_tm.specs.Begins.{BeginsWith}
 use Rattle.xa_tm.specs.Calls.{log_in}
-use Rattle.xa_tm.specs.Started.{IsStartedOver}
+use Rattle.xa_tm.specs.Started.{IsStarted, IsStartedOver}
 use Rattle.xa_tm.specs.StartFaults.{IsOnlyRead, IsToBlame}
 use Rattle.xa_commands.specs.declared.failure.Failure.{Failure}
 use Rattle.xa_commands.specs.declared.failure.Failure.TheVariants.{Run}
@@ -23,6 +23,7 @@ module _ {L : Type 0} (moment : L → Moment) (name : List ℕ) (threads rms : �
   pub record Starts (first : Server L) : Type 0 where
     pub stands : StandsAtStart threads rms first.session
     pub old : (o : Origin) → BeginsWith threads rms first.session.manager o → HasOnlyOlderRows o
+    pub started : IsStarted threads rms first.session.manager
     pub over : IsStartedOver moment threads rms handed first.session.manager
     pub holds : (near : Bool) → Honestly handed (moment (log_in first.session.manager)) (HoldsItsBook moment near first.session.manager)
 
@@ -44,9 +45,12 @@ pub record StartsNot {L : Type 0} (logs : DecisionLog.Ghosts L) (handed : L) (wr
 
 module _ {L : Type 0} (logs : DecisionLog.Ghosts L) (name : List ℕ) (threads rms : ℕ) (handed : L) where
   -- a coordinator served a driver over this log
-  abbrev pub HasServed : (unread left written all : Option (List ℕ)) → Type 0
-  HasServed unread left written all =
-      (first : Server L) × (last : Server L) × IsServed logs.moment name threads rms (logs.moment handed) unread left written all first last
+  abbrev pub HasServed : (unread left written all : Option (List ℕ)) → (log : L) → Type 0
+  HasServed unread left written all log =
+      (first : Server L) × (last : Server L) × (log ≡ log_in last.session.manager) × IsServed logs.moment name threads rms (logs.moment handed) unread left written all first last
+
+  abbrev pub HasServedSome : (unread left written all : Option (List ℕ)) → Type 0
+  HasServedSome unread left written all = (log : L) × HasServed unread left written all log
 
   -- none started over it, or its session was broken off
   abbrev pub HasFailed : (unread written all : Option (List ℕ)) → Failure → Type 0

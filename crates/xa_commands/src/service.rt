@@ -1,9 +1,9 @@
 //! What is done for a driver, over a log in any store, over one in files, and over the log at a path.
 
-ghost use Rattle.std.specs.Prelude.{◌≡◌, IfErr, OnOk};
+ghost use Rattle.std.specs.Prelude.{◌≡◌, IfErr, IfOk, OnOk};
 ghost use Rattle.std.specs.Io.Buffered.{reader_remaining};
 ghost use Rattle.xa_commands.specs.Failures.{failure_status};
-ghost use Rattle.xa_commands.specs.Services.{HasFailed, HasServed};
+ghost use Rattle.xa_commands.specs.Services.{HasFailed, HasServed, HasServedSome};
 
 use crate::failure::Failure;
 use crate::log_names::{check_rm_names, claim_log, introduce, manager_named};
@@ -30,7 +30,7 @@ pub(crate) fn serve_over<L: DecisionLog + Drop, R: Read, W: Write>(
     input: &mut BufReader<R>,
     out: &mut W,
 ) -> Result<L, Failure>
-    ensures served { OnOk result (HasServed L.DecisionLog name.now threads rms log
+    ensures served { IfOk result (HasServed L.DecisionLog name.now threads rms log
         (reader_remaining R.remaining input.old) (reader_remaining R.remaining input.new)
         (W.contents out.old) (W.contents out.new)) }
     ensures broken { IfErr result (HasFailed L.DecisionLog name.now threads rms log
@@ -52,7 +52,7 @@ pub fn serve_in_files<D: Disk + Drop, R: Read, W: Write>(
     input: &mut BufReader<R>,
     out: &mut W,
 ) -> Result<Result<(), LogFault>, Failure>
-    ensures served { OnOk result (HasServed ⟦<SqlLog<FileStore<D>> as DecisionLog>⟧
+    ensures served { OnOk result (HasServedSome ⟦<SqlLog<FileStore<D>> as DecisionLog>⟧
         name.now threads rms log
         (reader_remaining R.remaining input.old) (reader_remaining R.remaining input.new)
         (W.contents out.old) (W.contents out.new)) }

@@ -44,7 +44,7 @@ returns-in_err-serve_under-clause-broken g c =
       c.in_ok-server.server,
       c.serve_under.new.self,
       record {
-        starts = record { stands = made.stands; old = made.old; over = made.over; holds = made.holds };
+        starts = record { stands = made.stands; old = made.old; started = made.started; over = made.over; holds = made.holds };
         breaks = c.in_err-serve_under.ensures.broken;
       },
     ))
@@ -54,8 +54,9 @@ returns-clause-served g c =
     let made = c.in_ok-server.ensures in (
       c.in_ok-server.server,
       c.serve_under.new.self,
+      c.into_log.ensures,
       record {
-        starts = record { stands = made.stands; old = made.old; over = made.over; holds = made.holds };
+        starts = record { stands = made.stands; old = made.old; started = made.started; over = made.over; holds = made.holds };
         serves = c.in_ok-serve_under.ensures.served;
       },
     )
