@@ -3,7 +3,7 @@
 ghost use Rattle.std.specs.Prelude.{◌≡◌};
 
 use crate::asked::{rms_text, xids_text};
-use crate::effect::{Effect, plain_effect};
+use crate::effect::{Effect, moves_of, plain_effect};
 use crate::ledger::{Meaning, Settlement, meaning_of};
 use crate::line::LogChange;
 use crate::party::Party;
@@ -123,11 +123,10 @@ impl<'a> Scene<'a> {
         })?;
         let change = self.standings.answer(call, answer)?;
         let told = self.answered_text(call, answer, change, asker)?;
+        let moves = moves_of(self.alloc, change)?;
         let mut effect = plain_effect(self.alloc, told.as_str())?;
         effect.came = came;
-        if let Some(change) = change {
-            effect.moves.push(change)?;
-        }
+        effect.moves = moves;
         Ok(effect)
     }
 

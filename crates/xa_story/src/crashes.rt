@@ -111,16 +111,27 @@ impl<'a> Scene<'a> {
     pub(crate) fn refuse(&mut self, step: &Step, refusal: Refusal) -> Result<Effect, Memory>
         ensures { self.new.names ≡ self.old.names }
     {
-        let mut effect = plain_effect(self.alloc, refusal_text(step, refusal))?;
-        if refusal == Refusal::LogFault {
-            self.ledger.lose(self.alloc, Part::Manager)?;
-            effect.lost = self.waits.lose(self.alloc, Part::Manager)?;
-            effect.moves = self.standings.lose(self.alloc, Part::Manager)?;
+        match (refusal, step) {
+            (Refusal::LogFault, _) => self.fail(refusal_text(step, refusal)),
+            (Refusal::Busy, Step::Done { gtrid }) => {
+                let left = self.ledger.waits_for(self.alloc, *gtrid)?;
+                let change = self.unsettled_text(&left, refusal_text(step, refusal))?;
+                plain_effect(self.alloc, change.as_str())
+            }
+            _ => plain_effect(self.alloc, refusal_text(step, refusal)),
         }
-        if let (Refusal::Busy, Step::Done { gtrid }) = (refusal, step) {
-            let left = self.ledger.waits_for(self.alloc, *gtrid)?;
-            effect.change = self.unsettled_text(&left, refusal_text(step, refusal))?;
-        }
+    }
+
+    /// The log fails, and the manager is down.
+    fn fail(&mut self, change: &str) -> Result<Effect, Memory>
+        ensures { self.new.names ≡ self.old.names }
+    {
+        self.ledger.lose(self.alloc, Part::Manager)?;
+        let lost = self.waits.lose(self.alloc, Part::Manager)?;
+        let moves = self.standings.lose(self.alloc, Part::Manager)?;
+        let mut effect = plain_effect(self.alloc, change)?;
+        effect.lost = lost;
+        effect.moves = moves;
         Ok(effect)
     }
 

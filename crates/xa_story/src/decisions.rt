@@ -4,12 +4,12 @@ ghost use Rattle.std.specs.Prelude.{◌≡◌};
 ghost use Rattle.xa_story.specs.Rows.{decision_of};
 
 use crate::asked::rms_text;
-use crate::effect::{Effect, plain_effect, push_item};
+use crate::effect::{Effect, moves_of, plain_effect, push_item};
 use crate::ledger::Settlement;
 use crate::line::LogChange;
 use crate::scene::Scene;
 use crate::standings::Move;
-use xa_base::{Gtrid, How, Memory, Outcome, Standing, Step, Xid};
+use xa_base::{Branch, Gtrid, How, Memory, Outcome, Standing, Step, Xid};
 
 /// The transaction that a step decides, and how.
 fn decision_of(step: &Step) -> Option<(Gtrid, Outcome)>
@@ -44,13 +44,22 @@ impl<'a> Scene<'a> {
     pub(crate) fn complete(&mut self, xid: &Xid, how: How) -> Result<Effect, Memory>
         ensures { self.new.names ≡ self.old.names }
     {
+        let moves = match xid.branch() {
+            Some(branch) => self.complete_branch(branch, how)?,
+            None => Vec::new(self.alloc),
+        };
         let mut effect = plain_effect(self.alloc, "a heuristic completion: nobody told it to")?;
-        if let Some(branch) = xid.branch() {
-            let standing = Standing::Completed(how);
-            self.standings.set(branch, standing)?;
-            effect.moves.push(Move { branch, standing })?;
-        }
+        effect.moves = moves;
         Ok(effect)
+    }
+
+    /// A branch is completed, which is its one move.
+    fn complete_branch(&mut self, branch: Branch, how: How) -> Result<Vec<Move>, Memory>
+        ensures { self.new.names ≡ self.old.names }
+    {
+        let standing = Standing::Completed(how);
+        self.standings.set(branch, standing)?;
+        moves_of(self.alloc, Some(Move { branch, standing }))
     }
 
     /// A transaction is claimed.
@@ -79,12 +88,16 @@ impl<'a> Scene<'a> {
         }
         self.ledger.commit(gtrid)?;
         let change = self.row_text(gtrid)?;
-        let mut effect = plain_effect(self.alloc, change.as_str())?;
-        if self.ledger.has_row(gtrid) {
-            self.ledger.settle(gtrid, number, Settlement::Row)?;
-            effect.log = Some(LogChange::RowAdded(gtrid));
+        let has_row = self.ledger.has_row(gtrid);
+        let settlement = if has_row {
+            Settlement::Row
         } else {
-            self.ledger.settle(gtrid, number, Settlement::NoRow)?;
+            Settlement::NoRow
+        };
+        self.ledger.settle(gtrid, number, settlement)?;
+        let mut effect = plain_effect(self.alloc, change.as_str())?;
+        if has_row {
+            effect.log = Some(LogChange::RowAdded(gtrid));
         }
         Ok(effect)
     }

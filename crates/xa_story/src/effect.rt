@@ -27,6 +27,15 @@ pub(crate) fn plain_effect(alloc: Global, change: &str) -> Result<Effect, Memory
     })
 }
 
+/// Where one branch goes, if it goes anywhere.
+pub(crate) fn moves_of(alloc: Global, change: Option<Move>) -> Result<Vec<Move>, Memory> {
+    let mut moves = Vec::new(alloc);
+    if let Some(change) = change {
+        moves.push(change)?;
+    }
+    Ok(moves)
+}
+
 /// Adds an item to a list with commas.
 pub(crate) fn push_item(text: &mut String, item: &str) -> Result<(), Memory> {
     if !text.is_empty() {
