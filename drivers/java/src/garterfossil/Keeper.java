@@ -38,6 +38,9 @@ final class Keeper {
     private volatile boolean isOver;
     private long notBefore = System.nanoTime();
     private final Set<String> noted = new HashSet<>();
+    // What pages listed was ended; and how many branches of earlier sessions weren't there.
+    private final Recent<BranchXid> ended = new Recent<>(10_000);
+    private int gone;
     private boolean areOthersNoted;
 
     Keeper(Session session, ResourceManager rm) {
@@ -330,6 +333,7 @@ final class Keeper {
             BranchXid xid = BranchXid.parse(words[2]);
             Manager.LOG.log(Level.INFO, () -> rm + ": " + words[1] + " of " + xid + ", which was in doubt");
             make(words[1], xid, mayOf(xid));
+            ended.add(xid);
         }
         return count;
     }
@@ -395,6 +399,7 @@ final class Keeper {
     /** Ends the branches that are owed. False if some are left. What goes wrong with one keeps none of the others waiting. */
     private boolean payAll() throws Fault {
         boolean isAllPaid = true;
+        gone = 0;
         for (Debt debt : debts) {
             connect();
             try {
@@ -406,6 +411,10 @@ final class Keeper {
                 isAllPaid = false;
             }
         }
+        if (gone > 0) {
+            Manager.LOG.log(Level.WARNING, () -> rm + ": of " + gone + " branches that were decided to commit nothing is there any more. They were"
+                + " committed before, unless this isn't the database that had them, or somebody ended them by hand");
+        }
         return isAllPaid;
     }
 
@@ -415,6 +424,7 @@ final class Keeper {
             line.issue(debt.call() + " ", debt.xid);
             line.ask();
             code = make(debt.call(), debt.xid, debt.may);
+            gone += debt.isCommit && code == Code.NOTA && debt.xid.incarnation() != session.incarnation && !ended.contains(debt.xid) ? 1 : 0;
         } catch (Fault.Refused refused) {
             if (refused.number != Coordinator.UNKNOWN_TRANSACTION) {
                 throw refused;

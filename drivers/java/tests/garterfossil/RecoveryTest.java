@@ -399,6 +399,21 @@ public class RecoveryTest {
     }
 
     @Test
+    public void anEndOverACoordinatorThatIsSilent() throws Exception {
+        world.manager.close();
+        world.manager = world.builder().patience(Duration.ofSeconds(1)).start();
+        GlobalTransaction open = world.overBoth();
+        world.put("silent", "decide");
+        FutureTask<Void> closing = new FutureTask<>(world.manager::close, null);
+        new Thread(closing).start();
+        closing.get(10, TimeUnit.SECONDS);
+        assertThrows(Fault.RolledBack.class, open::commit);
+        world.manager = world.builder().start();
+        nothingIsLeft();
+        world.manager.close();
+    }
+
+    @Test
     public void aCoordinatorThatIsSilent() throws Exception {
         world.manager.close();
         world.manager = world.builder().patience(Duration.ofSeconds(1)).start();
