@@ -2,6 +2,7 @@ package garterfossil;
 
 /** A connection for work outside of any transaction. */
 public interface Borrowed {
+    /** The connection itself. */
     Link link();
 
     /** It isn't needed any more. */

@@ -29,6 +29,7 @@ public final class Command {
     private Command() {
     }
 
+    /** Does what the words ask for, and ends the process. */
     public static void main(String[] words) {
         System.exit(run(words));
     }

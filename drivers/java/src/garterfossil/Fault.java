@@ -42,6 +42,7 @@ public abstract class Fault extends Exception {
     public static final class Lost extends Fault {
         private static final long serialVersionUID = 1;
 
+        /** One of which the cause, if there is one, says more. */
         public Lost(String text, Throwable cause) {
             super(text + (cause == null ? "" : ": " + cause.getMessage()), cause);
         }
@@ -51,6 +52,7 @@ public abstract class Fault extends Exception {
     public static final class Unavailable extends Fault {
         private static final long serialVersionUID = 1;
 
+        /** One that says why, and what to do. */
         public Unavailable(String text) {
             super(text, null);
         }

@@ -10,6 +10,7 @@ import java.util.concurrent.locks.ReentrantLock;
 public final class Gate {
     /** What may be cut short, as a statement that runs. */
     public interface Work {
+        /** Cuts it short, from another thread. */
         void cancel() throws Exception;
     }
 

@@ -72,6 +72,7 @@ public final class GlobalTransaction {
             .map(branch -> branch.rm().toString()).collect(java.util.stream.Collectors.joining(", "));
     }
 
+    /** How it stands. */
     public Outcome outcome() {
         return outcome;
     }
@@ -110,6 +111,7 @@ public final class GlobalTransaction {
         return things.get(key);
     }
 
+    /** The program keeps a thing with it. */
     public void keep(Object key, Object thing) {
         things.put(key, thing);
     }

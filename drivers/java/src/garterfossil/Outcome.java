@@ -12,7 +12,9 @@ public enum Outcome {
     COMMITTING,
     /** It is being rolled back. */
     ROLLING_BACK,
+    /** It is committed. */
     COMMITTED,
+    /** It is rolled back. */
     ROLLED_BACK,
     /** It is over, and nobody knows how. */
     UNKNOWN;

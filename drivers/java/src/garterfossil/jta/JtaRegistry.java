@@ -11,6 +11,7 @@ import javax.transaction.TransactionSynchronizationRegistry;
 public final class JtaRegistry implements TransactionSynchronizationRegistry {
     private final Manager manager;
 
+    /** That of a manager. */
     public JtaRegistry(Manager manager) {
         this.manager = manager;
     }

@@ -21,6 +21,7 @@ public final class JtaTransactionManager implements TransactionManager, UserTran
     private final Manager manager;
     private final ThreadLocal<Integer> timeout = new ThreadLocal<>();
 
+    /** That of a manager. */
     public JtaTransactionManager(Manager manager) {
         this.manager = manager;
     }
