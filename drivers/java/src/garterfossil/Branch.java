@@ -433,7 +433,7 @@ final class Branch {
         if (isLost) {
             return;
         }
-        boolean isQuiet = gate.shut(why, 0);
+        boolean isQuiet = gate.shut(why, 0) && !isCut();
         isLost = true;
         // Behind a rollback a connection is an ordinary one again, and so must not be the program's any more.
         if (isQuiet && isUndone && (may & (ACTIVE | IDLE | ROLLBACK_ONLY)) != 0 && !isOver && !isLetOut()) {
@@ -442,6 +442,20 @@ final class Branch {
         if (lease != null) {
             lease.lose();
         }
+    }
+
+    /** Whether the connection, which another pool has, was ended. */
+    private boolean isCut() {
+        boolean isSo = lease == null && !isOver && resource instanceof OwnedXaResource && ((OwnedXaResource) resource).cut();
+        if (isSo) {
+            rm().noteStray();
+        }
+        return isSo;
+    }
+
+    /** Whether its connection is another pool's, which knows nothing of a gate. */
+    boolean isBrought() {
+        return lease == null;
     }
 
     /** A resource in this process keeps an active branch although its connection is closed. */

@@ -6,4 +6,12 @@ import javax.transaction.xa.XAResource;
 public interface OwnedXaResource extends XAResource {
     /** The resource that it belongs to. */
     Resource owner();
+
+    /**
+     * Ends its connection at once, and what is active on it with that: a program that works on it would go on behind the end of its transaction,
+     * and each statement would be committed by itself. False if that can't be done.
+     */
+    default boolean cut() {
+        return false;
+    }
 }

@@ -312,6 +312,11 @@ final class ResourceManager {
         }
     }
 
+    /** A connection of another pool is no one's any more. */
+    void noteStray() {
+        hasStrays = true;
+    }
+
     boolean hasStrays() {
         return hasStrays;
     }

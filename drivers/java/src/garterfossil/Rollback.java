@@ -16,6 +16,7 @@ final class Rollback {
     private final GlobalTransaction transaction;
     private final Branches branches;
     private final Manager manager;
+    private boolean isApart;
     private final List<Debt> debts = Collections.synchronizedList(new ArrayList<>());
     private final Map<Branch, Integer> answers = new ConcurrentHashMap<>();
 
@@ -27,6 +28,7 @@ final class Rollback {
 
     /** Rolls back. With {@code isApart} no branch waits for another: one's resource may be silent. */
     void make(boolean isApart) throws Fault {
+        this.isApart = isApart;
         branches.all().forEach(Branch::issueEnd);
         branches.session().coordinator.post("decide " + branches.gtrid() + " rollback");
         branches.all().forEach(Branch::issueRollback);
@@ -94,8 +96,8 @@ final class Rollback {
     /** xa_end and xa_rollback of a branch, if it isn't over. What goes wrong is left to the keeper. */
     private void end(Branch branch) {
         boolean wasPrepared = branch.isPrepared();
-        if (branch.isLetOut() && !branch.isOver()) {
-            branch.giveUp("its connection was unwrapped, and so is closed");
+        if (!branch.isOver() && (branch.isLetOut() || isApart && branch.isBrought())) {
+            branch.giveUp("its connection was unwrapped, or is another pool's, and so is closed");
         }
         try {
             if (!branch.isOver() && !branch.isLost()) {

@@ -382,9 +382,32 @@ public class JtaTest {
         assertEquals(1, world.a.committed.size());
     }
 
+    @Test
+    public void aTimeOutOverAnotherPoolsConnection() throws Exception {
+        // No gate keeps the program from it: behind xa_rollback each statement would be committed by itself.
+        StandInResource.StandInLink link = (StandInResource.StandInLink) world.a.connect();
+        Owned own = new Owned(link);
+        jta.setTransactionTimeout(1);
+        jta.begin();
+        JtaTransaction transaction = jta.getTransaction();
+        transaction.enlistResource(own);
+        World.eventually(() -> transaction.getStatus() == Status.STATUS_ROLLEDBACK && world.manager.owing() == 0);
+        assertTrue(own.isCut);
+        assertTrue(!world.a.callsByLink.contains(link.number() + " rollback") && world.a.branches.isEmpty());
+        assertThrows(RollbackException.class, jta::commit);
+        // And if the coordinator ends.
+        Owned other = new Owned(world.a.connect().xaResource());
+        jta.begin();
+        jta.getTransaction().enlistResource(other);
+        world.coordinator.destroy();
+        World.eventually(() -> other.isCut);
+        assertThrows(RollbackException.class, jta::commit);
+    }
+
     /** An XAResource of a pool that isn't the manager's, which says whose it is. */
     private final class Owned implements OwnedXaResource {
         private final XAResource inner;
+        private volatile boolean isCut;
 
         Owned(XAResource inner) {
             this.inner = inner;
@@ -393,6 +416,13 @@ public class JtaTest {
         @Override
         public Resource owner() {
             return world.a;
+        }
+
+        @Override
+        public boolean cut() {
+            isCut = true;
+            ((StandInResource.StandInLink) inner).close();
+            return true;
         }
 
         @Override

@@ -31,6 +31,8 @@ class JdbcXaResource implements OwnedXaResource {
     private final XAResource inner;
     private final Connection connection;
     private volatile int longest;
+    // What ends the connection, where it is another pool's.
+    private volatile Runnable cutting;
     private boolean isUnbounded;
 
     JdbcXaResource(Resource owner, Dialect dialect, XAResource inner, Connection connection) {
@@ -44,6 +46,19 @@ class JdbcXaResource implements OwnedXaResource {
     @Override
     public Resource owner() {
         return owner;
+    }
+
+    void cutBy(Runnable ends) {
+        cutting = ends;
+    }
+
+    @Override
+    public boolean cut() {
+        Runnable ends = cutting;
+        if (ends != null) {
+            ends.run();
+        }
+        return ends != null;
     }
 
     /** How long each call may take from now on. */

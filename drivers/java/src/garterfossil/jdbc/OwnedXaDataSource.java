@@ -10,7 +10,6 @@ import java.util.Set;
 import java.util.concurrent.ConcurrentHashMap;
 import javax.sql.XAConnection;
 import javax.sql.XADataSource;
-import javax.transaction.xa.XAResource;
 
 /** Connections for a pool that isn't the manager's: their XAResources say to which resource they belong. */
 final class OwnedXaDataSource {
@@ -45,9 +44,12 @@ final class OwnedXaDataSource {
         }
         Dialect dialect = owner.dialect(first);
         long number = dialect.number(first, owner.label());
-        XAResource resource = dialect.xaResource(owner, xa.getXAResource(), first);
+        JdbcXaResource resource = dialect.xaResource(owner, xa.getXAResource(), first);
         Connection given = resource instanceof PostgreSqlXaResource ? guarded(first, (PostgreSqlXaResource) resource) : first;
         open.add(number);
+        if (dialect != Dialect.OTHER) {
+            resource.cutBy(() -> cut(xa, number));
+        }
         return (XAConnection) Proxy.newProxyInstance(getClass().getClassLoader(), new Class<?>[] {XAConnection.class}, (proxy, method, words) -> {
             switch (method.getName()) {
                 case "getXAResource": return resource;
@@ -59,6 +61,15 @@ final class OwnedXaDataSource {
                 default: return direct(xa, method, words);
             }
         });
+    }
+
+    private void cut(XAConnection xa, long number) {
+        open.remove(number);
+        try {
+            xa.close();
+        } catch (SQLException | RuntimeException error) {
+            System.getLogger("garterfossil").log(System.Logger.Level.DEBUG, "a connection can't be closed", error);
+        }
     }
 
     /** The connection, whose transaction isn't the program's to end while it has a branch: other drivers see to that themselves. */
