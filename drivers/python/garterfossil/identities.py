@@ -35,7 +35,8 @@ class Identities:
                 log.warning("%s is missing, so it is made anew: nobody knows whether the databases are those that the log had before", self.path)
         elif is_new or found["manager"] != manager:
             gone = found["manager"] or "a manager without a name"
-            log.warning("the log of %s is gone from %s: what it had prepared is left alone, and `status` shows it", gone, path)
+            same = "it is to be put back if anything is prepared" if found["manager"] == manager else "what it had prepared is left alone"
+            log.warning("the log of %s is gone from %s: %s (`python -m garterfossil status`)", gone, path, same)
         else:
             self._known = {entry["number"]: {"at": entry["at"], "identity": entry["identity"]} for entry in found["databases"]}
             self._shut = found.get("shut")

@@ -78,6 +78,9 @@ def see_over(session: Session, line: Line) -> None:
     if over:
         over &= set(listed_at(session, line))
         over -= {call.branch for call in session.debts.at(line.rm.number)}
+    if session.coordinator.is_gone:
+        # What its transactions left is for the next one: nobody has ended it.
+        raise CoordinatorGone("the coordinator is gone")
     if not over:
         return
     odd = sorted(over - line.rm.undone)

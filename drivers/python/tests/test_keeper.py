@@ -8,6 +8,7 @@ import unittest
 from concurrent.futures import ThreadPoolExecutor
 
 from garterfossil import CoordinatorGone, Outcome, OutcomeUnknown, RolledBack, SetupError, Xid
+from garterfossil import recovery
 from garterfossil.codes import Code
 from garterfossil.errors import ConnectionLost, Unanswered
 
@@ -140,6 +141,28 @@ class Stops(Case):
             with self.assertRaisesRegex(SetupError, "shut"):
                 self.manager()
         self.assertEqual(list(self.right.prepared), [xid])
+
+    def test_what_a_session_leaves_whose_coordinator_is_killed_is_the_next_ones(self):
+        with self.manager() as xa:
+            with xa.transaction() as t:
+                t[0].execute("take")
+                t[1].execute("give")
+                xid = t[1].xid
+            session = xa._session
+            line = session.line(0, 1)
+            real = line.make_ready().listed
+
+            def listed():
+                # The branch is listed, and then the coordinator is killed, and its transaction over.
+                session.coordinator.kill()
+                return [*real(), xid]
+
+            line.connection.listed = listed
+            with self.assertRaises(CoordinatorGone):
+                recovery.see_over(session, line)
+            self.right.written.clear()
+            self.move(xa)
+        self.assertEqual(self.right.written, ["give"])
 
     def moves_in_a_session(self, xa):
         """(The session may end in the middle of it.)"""

@@ -267,21 +267,22 @@ class MariaDBConnection(Connection):
                 raise Unanswered(str(error)) from error
 
     def _commit_prepared(self, xid: Xid) -> Code:
-        return Code.OK if self._is_ended("COMMIT", xid) else Code.NOTA
+        return self._end_prepared("COMMIT", xid)
 
     def _roll_back_prepared(self, xid: Xid) -> Code:
-        return Code.OK if self._is_ended("ROLLBACK", xid) else Code.NOTA
+        return self._end_prepared("ROLLBACK", xid)
 
-    def _is_ended(self, verb: str, xid: Xid) -> bool:
-        """Ends a prepared branch. False where there is none, as the list says too: MariaDB says it as well of a branch whose
-        connection still lives."""
+    def _end_prepared(self, verb: str, xid: Xid) -> Code:
+        """Ends a prepared branch. NOTA where there is none, as the list says too: MariaDB says it as well of a branch whose connection
+        still lives. And it may say that it has rolled the branch back, as one that did nothing."""
         try:
             self._xa(verb, xid)
         except self.errors.MySQLError as error:
-            if error.args[0] == NO_SUCH_BRANCH and xid not in self._listed():
-                return False
+            number = error.args[0]
+            if (number == NO_SUCH_BRANCH or number in VOTES) and xid not in self._listed():
+                return VOTES.get(number, Code.NOTA)
             raise Unanswered(str(error)) from error
-        return True
+        return Code.OK
 
     def _listed(self) -> List[Xid]:
         return [xid for xid in map(xid_of, self.run("XA RECOVER FORMAT='SQL'")) if xid is not None]

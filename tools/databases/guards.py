@@ -1,0 +1,368 @@
+"""Stories over two databases of what a program may be given wrongly, and of what may come between: another database or an older log for
+one start, a coordinator that is stopped, a stop by SIGTERM, signals at random moments, branches that somebody ends by hand, and
+statements that end a transaction. Each is looked at in the databases."""
+
+import contextlib
+import logging
+import os
+import shutil
+import signal
+import subprocess
+import sys
+import textwrap
+import threading
+import time
+
+from garterfossil import EndRefused, HeuristicEnd, RolledBack, SetupError, XaError
+from servers import MariaDBServer, PostgreSQLServer
+from world import HERE, TOP
+
+BOTH, NEITHER = [True, True], [False, False]
+#: A program that moves money on four threads, or on the main one with a timer, until it is ended or its time is over.
+PROGRAM = """
+    import signal, sys, threading, time
+    from world import World
+    world, how, seconds = World.found(sys.argv[1]), sys.argv[2], float(sys.argv[3])
+    xa = world.manager(5, 10.0, name="guards")
+
+    def move():
+        with xa.transaction() as t:
+            for rm in (0, 1):
+                t[rm].execute("INSERT INTO moved VALUES (%s, 1)", [xa.name + t.gtrid])
+
+    def moves():
+        while not xa._is_closed:
+            try:
+                move()
+            except Exception:
+                pass
+
+    class Interrupt(Exception):
+        pass
+
+    def interrupt(*_):
+        raise Interrupt
+
+    if how == "stopped":
+        xa.close_at(signal.SIGTERM)
+    if how == "interrupted":
+        signal.signal(signal.SIGALRM, interrupt)
+        until, met = time.monotonic() + seconds, 0
+        while time.monotonic() < until:
+            try:
+                signal.setitimer(signal.ITIMER_REAL, 0.001 + 0.0003 * (met % 60))
+                move()
+            except Exception:
+                met += 1
+            finally:
+                signal.setitimer(signal.ITIMER_REAL, 0)
+        time.sleep(0.5)
+        print(met, len(xa._session.threads._free), xa.counts()["open"], flush=True)
+        # What is left is looked at while the program lives.
+        sys.stdin.readline()
+        xa.close()
+    else:
+        for _ in range(4):
+            threading.Thread(target=moves, daemon=True).start()
+        print("it moves", flush=True)
+        time.sleep(seconds)
+"""
+
+
+class Guards:
+    def __init__(self, world):
+        self.world = world
+        self.stories = self.wrong = 0
+        world.prepare()
+        for path in os.listdir(world.home):
+            if path.startswith("guards.db"):
+                os.remove(f"{world.home}/{path}")
+
+    def told(self, name, found, wanted=True):
+        self.stories += 1
+        self.wrong += found != wanted
+        print(f"{'ok   ' if found == wanted else 'WRONG'} {name}: {found}", flush=True)
+
+    def manager(self, patience=10.0, databases=None):
+        return self.world.manager(4, patience, databases=databases, name="guards")
+
+    @property
+    def log(self):
+        return f"{self.world.home}/guards.db"
+
+    def columns(self, statement):
+        found = []
+        for server in self.world.servers:
+            connection = server.database().connect()
+            found.append([row[0] for row in connection.run(statement).rows])
+            connection.close()
+        return found
+
+    def holds(self, mark):
+        return [mark in found for found in self.columns("SELECT gtrid FROM moved")]
+
+    def write(self, t, mark, *rms):
+        for rm in rms or (0, 1):
+            t[rm].execute("INSERT INTO moved VALUES (%s, 1)", [mark])
+
+    def refused(self, name, text, **options):
+        """A start that is refused, however often it is tried."""
+        for _ in range(3):
+            try:
+                self.manager(**options).close()
+                self.told(name, "it started", text)
+            except SetupError as error:
+                self.told(name, text if text in str(error) else str(error), text)
+
+    def killed_in_the_second_phase(self, mark):
+        """A decided transaction of which the second database hasn't heard."""
+        xa = self.manager()
+        decide = xa._session.commits.decide
+
+        def decided(*words):
+            decide(*words)
+            # All is gone but what is on disk.
+            xa._session.coordinator.kill()
+            for lines in xa._session._lines:
+                for line in lines:
+                    line.close()
+
+        xa._session.commits.decide = decided
+        with contextlib.suppress(XaError), xa.transaction() as t:
+            self.write(t, mark)
+        xa._is_closed = True
+
+    # ** what belongs together
+
+    def another_database(self):
+        """The second phase is broken off, and the next start finds another database in the place of one."""
+        self.killed_in_the_second_phase("another")
+        for rm, server in enumerate(self.world.servers):
+            databases = self.world.databases()
+            databases[rm] = other_at(server)
+            self.refused(f"another database in the place of {rm}", f"database {rm} isn't the database", databases=databases)
+        if self.world.servers[0].__class__ is self.world.servers[1].__class__:
+            self.refused("both have changed places", "changed places", databases=self.world.databases()[::-1])
+        self.manager().close()
+        self.told("what was decided is committed once they are back", self.holds("another"), BOTH)
+
+    def an_older_log(self):
+        """The log is put back as it was some sessions ago."""
+        self.manager().close()
+        shutil.copy(self.log, f"{self.log}.copy")
+        self.manager().close()
+        self.killed_in_the_second_phase("older")
+        kept = [path for path in (self.log, f"{self.log}-wal") if os.path.exists(path)]
+        for path in kept:
+            os.rename(path, f"{path}.right")
+        shutil.copy(f"{self.log}.copy", self.log)
+        self.refused("an older log", "sessions, and database")
+        os.remove(self.log)
+        self.refused("a new log in its place", "the log is new, and database")
+        for path in (self.log, f"{self.log}-wal"):
+            if os.path.exists(path):
+                os.remove(path)
+        for path in kept:
+            os.rename(f"{path}.right", path)
+        self.manager().close()
+        self.told("what was decided is committed once the log is back", self.holds("older"), BOTH)
+
+    def branches_of_others(self):
+        """Another program has branches prepared whose identifiers are of other kinds."""
+        for server in self.world.servers:
+            if not isinstance(server, MariaDBServer):
+                continue
+            for xid in ("'another program'", "'g','b',5", "X'00ff',X'62'"):
+                link = server.plain()
+                with link.cursor() as cursor:
+                    for verb in ("START", "END", "PREPARE"):
+                        cursor.execute(f"XA {verb} {xid}")
+                link.close()
+        with self.manager() as xa, xa.transaction() as t:
+            self.write(t, "others")
+        self.told("a start beside branches of other programs", self.holds("others"), BOTH)
+        for server in self.world.servers:
+            if isinstance(server, MariaDBServer):
+                for xid in ("'another program'", "'g','b',5", "X'00ff',X'62'"):
+                    # (It did nothing, and MariaDB says that it is rolled back.)
+                    with contextlib.suppress(Exception), server.plain().cursor() as cursor:
+                        cursor.execute(f"XA ROLLBACK {xid}")
+
+    # ** what somebody else ends
+
+    def ended_by_hand(self):
+        """A branch is committed or rolled back by hand, between its vote and its end."""
+        for rm, server in enumerate(self.world.servers):
+            for end, wanted in (("commit", HeuristicEnd), ("rollback", RolledBack)):
+                mark = f"by hand {rm} {end}"
+                with self.manager() as xa:
+                    found = self.broken_by_hand(xa, server, rm, end, mark)
+                    self.told(f"{mark}: what is raised, and whether it is said", found[:2], [wanted, True])
+                    self.told(f"{mark}: counted", xa.counts()["heuristic"], 1)
+                printed = subprocess.run([self.world.coordinator, "log", self.log], stdout=subprocess.PIPE, text=True, check=False).stdout
+                self.told(f"{mark}: the log has a record of it", f"{found[2]} heuristic" in printed)
+
+    def broken_by_hand(self, xa, server, rm, end, mark):
+        said = xid = None
+        try:
+            with xa.transaction() as t:
+                self.write(t, mark)
+                xid = t[rm].xid
+                decide = xa._session.commits.decide
+
+                def by_hand(*words):
+                    if end == "rollback":
+                        self.end(xa, server, t, rm)
+                        raise XaError("no")
+                    decide(*words)
+                    self.end(xa, server, t, rm)
+
+                xa._session.commits.decide = by_hand
+        except XaError as error:
+            said = type(error), "by hand" in str(error)
+        return [*(said or [None, None]), xid]
+
+    def end(self, xa, server, t, rm):
+        """Another connection rolls the branch back. MariaDB lets it do so only once the branch's own is gone."""
+        line = t._branches[rm].line
+        if isinstance(server, MariaDBServer):
+            line.connection._close()
+            line.connection._is_over()
+            line.connection = line.rm.connect()
+        connection = server.database().connect()
+        for _ in range(50):
+            with contextlib.suppress(XaError):
+                connection._roll_back_prepared(t._branches[rm].xid)
+                break
+            time.sleep(0.1)
+        connection.close()
+
+    def ends_in_statements(self):
+        """Statements that end PostgreSQL's transaction, hidden as well as may be."""
+        texts = ["/* /* /* x */ */ */ COMMIT", "-- x\rCOMMIT", "SELECT 1 AS a$b$; COMMIT; SELECT 1 AS c$b$", "PREPARE/**/TRANSACTION 'mine'"]
+        for rm, server in enumerate(self.world.servers):
+            if not isinstance(server, PostgreSQLServer):
+                continue
+            with self.manager() as xa:
+                for number, text in enumerate(texts):
+                    with contextlib.suppress(RolledBack), xa.transaction() as t:
+                        self.write(t, f"hidden {rm} {number}")
+                        with contextlib.suppress(EndRefused):
+                            t[rm].execute(text)
+                        raise RolledBack("the program")
+                    self.told(f"{text!r} ends nothing at database {rm}", self.holds(f"hidden {rm} {number}"), NEITHER)
+
+    # ** what stands still
+
+    def a_stopped_coordinator(self):
+        with self.manager(patience=2.0) as xa:
+            decide = xa._session.commits.decide
+
+            def stopped(*words):
+                os.kill(xa._session.coordinator.pid, signal.SIGSTOP)
+                decide(*words)
+
+            xa._session.commits.decide = stopped
+            begun = time.monotonic()
+            with contextlib.suppress(XaError), xa.transaction() as t:
+                self.write(t, "stopped")
+            self.told("a coordinator that is stopped is waited for no longer than three times the patience", time.monotonic() - begun < 6)
+            with xa.transaction() as t:
+                self.write(t, "behind it")
+            found = self.holds("stopped")
+            self.told("the transaction ends alike", found[0] == found[1])
+            self.told("the next one goes on", self.holds("behind it"), BOTH)
+
+    def a_long_transaction(self):
+        """One transaction is long and one connection is lost, while others go on."""
+        with self.manager() as xa, xa.transaction() as long:
+            self.write(long, "long")
+            with contextlib.suppress(Exception), xa.transaction(independent=True) as t:
+                self.write(t, "lost")
+                self.world.servers[0].database().end_connections(
+                    [line.connection.number for line in xa._session.lines_to(xa._session._rms[0])
+                     if line.connection is not None and line is not t._branches[0].line],
+                    xa._session._rms[0].place,
+                )  # fmt: skip
+                self.write(t, "lost 2")
+            begun = time.monotonic()
+            for number in range(20):
+                with xa.transaction(independent=True) as t:
+                    self.write(t, f"beside {number}")
+            self.told("20 transactions beside a long one and a lost connection take less than 5 seconds", time.monotonic() - begun < 5)
+
+    # ** how it ends
+
+    def started(self, how, seconds):
+        words = [sys.executable, "-c", textwrap.dedent(PROGRAM), self.world.home, how, str(seconds)]
+        return subprocess.Popen(
+            words, stdin=subprocess.PIPE, stdout=subprocess.PIPE, stderr=subprocess.DEVNULL, text=True,
+            env={**os.environ, "PYTHONPATH": f"{HERE}:{TOP}/drivers/python"},
+        )  # fmt: skip
+
+    def stops(self):
+        """A program under load is stopped by SIGTERM, as by systemd."""
+        left = 0
+        for number in range(10):
+            with self.started("stopped", 60) as program:
+                program.stdout.readline()
+                time.sleep(0.2 + 0.05 * number)
+                program.send_signal(signal.SIGTERM)
+                program.wait(timeout=60)
+                left += self.world.look_at_doubt()
+        self.told("branches that are in doubt after 10 stops by SIGTERM", left, 0)
+        self.told("all that moved is at both", *map(sorted, self.columns("SELECT gtrid FROM moved WHERE gtrid LIKE 'guards%'")))
+
+    def interrupts(self):
+        """A signal handler raises exceptions at random moments."""
+        with self.started("interrupted", 10) as program:
+            met, free, open_ones = map(int, program.stdout.readline().split())
+            self.told(f"threads that are free after {met} interrupts, and transactions that are open", [free, open_ones], [5, 0])
+            self.told("branches that are prepared while it lives", self.world.look_at_doubt(), 0)
+            program.communicate("\n", timeout=60)
+        self.told("all that moved is at both", *map(sorted, self.columns("SELECT gtrid FROM moved WHERE gtrid LIKE 'guards%'")))
+
+    def status(self):
+        """A healthy program is looked at while it works."""
+        path = f"{self.world.home}/guards.toml"
+        with open(path, "w", encoding="utf-8") as it:
+            it.write(f'log = "{self.log}"\nprogram = "{self.world.coordinator}"\n')
+            for server in self.world.servers:
+                kind = "mariadb" if isinstance(server, MariaDBServer) else "postgresql"
+                it.write(f'[[database]]\nkind = "{kind}"\n{server.in_toml()}\n')
+        with self.started("under load", 60) as program:
+            program.stdout.readline()
+            words = [sys.executable, "-m", "garterfossil", "status", "--config", path]
+            found = []
+            for _ in range(5):
+                done = subprocess.run(words, cwd=f"{TOP}/drivers/python", stdout=subprocess.PIPE, stderr=subprocess.STDOUT, check=False)
+                found.append(done.returncode)
+            program.kill()
+        self.told("the status of a program under load, five times", found, [0] * 5)
+        self.manager().close()
+
+
+def other_at(server):
+    """Another database of the same server: none of the log's."""
+    if isinstance(server, PostgreSQLServer):
+        return server.adapter()(f"host={server.home} port={server.port or 5432} user=xa dbname=template1", lock_timeout=2)
+    return server.adapter()(unix_socket=server.socket(), user="bank", lock_timeout=2)
+
+
+def run(world):
+    """Prints each story. How many were wrong."""
+    logging.getLogger("garterfossil").setLevel(logging.CRITICAL)
+    guards = Guards(world)
+    guards.another_database()
+    guards.an_older_log()
+    guards.branches_of_others()
+    guards.ended_by_hand()
+    guards.ends_in_statements()
+    guards.a_stopped_coordinator()
+    guards.a_long_transaction()
+    guards.stops()
+    guards.interrupts()
+    guards.status()
+    found = world.look_at_doubt()
+    print(f"guards: {guards.stories} stories, {guards.wrong} wrong, {found} in doubt at the end")
+    return guards.wrong + found
