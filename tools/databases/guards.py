@@ -13,9 +13,10 @@ import textwrap
 import threading
 import time
 
-from garterfossil import EndRefused, HeuristicEnd, RolledBack, SetupError, XaError
 from servers import MariaDBServer, PostgreSQLServer
 from world import HERE, TOP
+
+from garterfossil import EndRefused, HeuristicEnd, RolledBack, SetupError, XaError
 
 BOTH, NEITHER = [True, True], [False, False]
 #: A program that moves money on four threads, or on the main one with a timer, until it is ended or its time is over.
@@ -311,7 +312,7 @@ class Guards:
                 program.wait(timeout=60)
                 left += self.world.look_at_doubt()
         self.told("branches that are in doubt after 10 stops by SIGTERM", left, 0)
-        self.told("all that moved is at both", *map(sorted, self.columns("SELECT gtrid FROM moved WHERE gtrid LIKE 'guards%'")))
+        self.told("transactions that are at one database alone", self.at_one_alone(), 0)
 
     def interrupts(self):
         """A signal handler raises exceptions at random moments."""
@@ -320,7 +321,11 @@ class Guards:
             self.told(f"threads that are free after {met} interrupts, and transactions that are open", [free, open_ones], [5, 0])
             self.told("branches that are prepared while it lives", self.world.look_at_doubt(), 0)
             program.communicate("\n", timeout=60)
-        self.told("all that moved is at both", *map(sorted, self.columns("SELECT gtrid FROM moved WHERE gtrid LIKE 'guards%'")))
+        self.told("transactions that are at one database alone", self.at_one_alone(), 0)
+
+    def at_one_alone(self):
+        left, right = map(set, self.columns("SELECT gtrid FROM moved WHERE gtrid LIKE 'guards%'"))
+        return len(left ^ right)
 
     def status(self):
         """A healthy program is looked at while it works."""
