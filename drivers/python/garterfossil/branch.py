@@ -2,6 +2,7 @@
 
 from __future__ import annotations
 
+import contextlib
 import os
 import time
 from types import TracebackType
@@ -38,6 +39,7 @@ class Branch:
         self._line = line
         self._connection = connection
         self._is_over = False
+        self._savepoints = 0
         self._process = os.getpid()
 
     def __repr__(self) -> str:
@@ -62,6 +64,23 @@ class Branch:
     def connection(self) -> BranchConnection:
         """The connection of the database's module, without what would end the transaction."""
         return BranchConnection(self)
+
+    @contextlib.contextmanager
+    def savepoint(self) -> Iterator[None]:
+        """A `with` block of which all is taken back that it did here, if an exception leaves it, and nothing else. (At MariaDB a statement
+        that failed still has the transaction rolled back.)"""
+        self._savepoints += 1
+        name = f"garterfossil_block_{self._savepoints}"
+        self.execute(f"SAVEPOINT {name}")
+        try:
+            yield
+        except BaseException:
+            connection = self._connection
+            # After a deadlock MariaDB has none any more.
+            if self.is_active and (connection.fault is None or connection.TAKES_BACK):
+                self.execute(f"ROLLBACK TO SAVEPOINT {name}")
+            raise
+        self.execute(f"RELEASE SAVEPOINT {name}")
 
     def _work(self, step: Callable[[], Any]) -> Any:
         if self._is_over:

@@ -146,6 +146,22 @@ class Branches(Case):
                         send(text)
         self.assertEqual(self.bank.written, ["take"])
 
+    def test_a_savepoint_takes_back_what_its_block_did(self):
+        with self.xa.transaction() as t:
+            with t[0].savepoint():
+                t[0].execute("take")
+            with self.assertRaises(KeyError):
+                with t[0].savepoint():
+                    t[0].execute("take more")
+                    raise KeyError
+        self.assertEqual(
+            self.bank.written,
+            [
+                "SAVEPOINT garterfossil_block_1", "take", "RELEASE SAVEPOINT garterfossil_block_1",
+                "SAVEPOINT garterfossil_block_2", "take more", "ROLLBACK TO SAVEPOINT garterfossil_block_2",
+            ],
+        )  # fmt: skip
+
     def refused(self, texts, statements):
         """Those of the statements that are refused."""
         found = []

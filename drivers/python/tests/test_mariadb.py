@@ -320,6 +320,14 @@ class MariaDBs(unittest.TestCase):
         self.assertEqual([str(xid) for xid in self.connection.all_listed()], ["1:00ff:62", "4:2278:79", "5:67:62", XID])
         self.assertEqual([str(xid) for xid in self.connection.listed()], [XID])
 
+    def test_each_connection_is_set_up_by_the_program_and_has_the_password_of_the_moment(self):
+        given, seen, passwords = [], [], iter(["first", "second"])
+        pymysql.connect = lambda **parameters: given.append(parameters["password"]) or self.server.connect()
+        database = MariaDB(user="bank", password=lambda: next(passwords), on_connect=seen.append)
+        for _ in range(2):
+            database.connect().close()
+        self.assertEqual((given, len(seen)), (["first", "second"], 2))
+
     def test_what_may_be_lost(self):
         self.assertEqual(self.connection.see_durable(), [])
         self.server.variables["innodb_flush_log_at_trx_commit"] = "2"

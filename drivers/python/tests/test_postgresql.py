@@ -253,6 +253,14 @@ class PostgreSQLs(unittest.TestCase):
             self.assertNotIn("secret", repr(PostgreSQL(dsn)))
             self.assertIn("bank", repr(PostgreSQL(dsn)))
 
+    def test_each_connection_is_set_up_by_the_program_and_has_the_password_of_the_moment(self):
+        given, seen, passwords = [], [], iter(["first", "second"])
+        psycopg2.connect = lambda dsn, **parameters: given.append(parameters["password"]) or Link()
+        database = PostgreSQL("dbname=bank", password=lambda: next(passwords), on_connect=seen.append)
+        for _ in range(2):
+            database.connect().close()
+        self.assertEqual((given, len(seen)), (["first", "second"], 2))
+
     def test_a_name_that_the_server_would_cut_off(self):
         with self.assertRaisesRegex(SetupError, "too long"):
             PostgreSQL("dbname=bank", name=40 * "x").connect(Place("a-manager-16-xxx", 3))

@@ -113,6 +113,8 @@ class Options:
 class Database(abc.ABC):
     """A database that takes part in transactions: how it is reached. Its methods may be called by any thread."""
 
+    #: What is called with each new connection of the module, before anything is done on it.
+    on_connect: Optional[Callable[[Any], None]] = None
     #: How SQLAlchemy names its own dialect for the module that reaches the database, if it has one.
     SQLALCHEMY: Optional[str] = None
     #: The end of a SELECT by which the rows of its table `m` stay as they are until the transaction ends.
@@ -123,6 +125,16 @@ class Database(abc.ABC):
     def with_exact_texts(self, table: str) -> str:
         """The columns of a table, in which numbers in braces stand for the types of texts."""
         return re.sub(r"\{(\d+)\}", lambda found: self.EXACT_TEXT.format(found.group(1)), table)
+
+    @staticmethod
+    def with_secrets(parameters: Mapping[str, Any]) -> Dict[str, Any]:
+        """The keywords of a connection: a password may be a function, which is asked for it each time."""
+        return {word: value() if word in ("password", "passwd") and callable(value) else value for word, value in parameters.items()}
+
+    def set_up(self, link: Any) -> None:
+        """Calls the program's function with a new connection of the module."""
+        if self.on_connect is not None:
+            self.on_connect(link)
 
     @abc.abstractmethod
     def connect(self, place: Place = Place()) -> Connection:

@@ -6,7 +6,7 @@ import math
 import re
 import time
 import uuid
-from typing import Any, Collection, Iterable, List, Optional, Sequence, Set, Tuple, Type
+from typing import Any, Callable, Collection, Iterable, List, Optional, Sequence, Set, Tuple, Type
 
 from ..calls import Call
 from ..codes import Code
@@ -56,15 +56,16 @@ class MariaDB(Database):
 
     `parameters` are those of pymysql.connect. The driver knows its own connections by a named lock (GET_LOCK) that each of them
     holds. `lock_timeout` is for how many seconds a statement waits for a lock: no database sees a deadlock that goes over two of
-    them."""
+    them. `on_connect` is called with each new connection of the module. `password` may be a function."""
 
     SQLALCHEMY = "mariadb+pymysql"
     SHARED = "LOCK IN SHARE MODE"
     EXACT_TEXT = "varchar({}) CHARACTER SET ascii COLLATE ascii_bin"
 
-    def __init__(self, *, lock_timeout: int = 10, **parameters: Any):
+    def __init__(self, *, lock_timeout: int = 10, on_connect: Optional[Callable[[Any], None]] = None, **parameters: Any):
         if "autocommit" in parameters:
             raise ValueError("autocommit is the driver's own: a branch begins and ends its transaction")
+        self.on_connect = on_connect
         self._parameters = parameters
         self._lock_timeout = lock_timeout
 
@@ -106,11 +107,13 @@ class MariaDB(Database):
         """A connection of the module, of which these keywords say for how many seconds it waits."""
         seconds = max(2, math.ceil(place.patience))
         try:
-            return module.connect(autocommit=True, **{**dict.fromkeys(waits, seconds), **self._parameters})
+            link = module.connect(autocommit=True, **{**dict.fromkeys(waits, seconds), **self.with_secrets(self._parameters)})
         except (kind_of_error, OSError) as error:
             if error.args and error.args[0] in REFUSALS:
                 raise SetupError(str(error)) from error
             raise ConnectionLost(str(error)) from error
+        self.set_up(link)
+        return link
 
 
 class MariaDBConnection(Connection):

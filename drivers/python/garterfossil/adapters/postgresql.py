@@ -6,7 +6,7 @@ import math
 import re
 import time
 from dataclasses import dataclass
-from typing import Any, Collection, Dict, List, Optional, Set
+from typing import Any, Callable, Collection, Dict, List, Optional, Set
 
 from ..calls import Call
 from ..codes import Code
@@ -63,14 +63,24 @@ class PostgreSQL(Database):
 
     `dsn` and `parameters` are those of psycopg2.connect. `name` begins the application_name of the driver's connections, after
     which come the manager's name, if it has one, and the database's number: no other program uses that with the same user.
-    `lock_timeout` is for how many seconds a statement waits for a lock: no database sees a deadlock that goes over two of them."""
+    `lock_timeout` is for how many seconds a statement waits for a lock: no database sees a deadlock that goes over two of them.
+    `on_connect` is called with each new connection of the module, as for its adapters of types. `password` may be a function."""
 
     SQLALCHEMY = "postgresql+psycopg2"
 
-    def __init__(self, dsn: str = "", *, name: str = "garterfossil", lock_timeout: float = 10.0, **parameters: Any):
+    def __init__(
+        self,
+        dsn: str = "",
+        *,
+        name: str = "garterfossil",
+        lock_timeout: float = 10.0,
+        on_connect: Optional[Callable[[Any], None]] = None,
+        **parameters: Any,
+    ):
         for word, instead in (("application_name", "name"), ("async", "transaction_async of the manager"), ("async_", "threads")):
             if word in parameters:
                 raise ValueError(f"{word} is the driver's own: give {instead}")
+        self.on_connect = on_connect
         self._dsn = dsn
         self._parameters = parameters
         self._name = name
@@ -112,13 +122,14 @@ class PostgreSQL(Database):
         waits = {"connect_timeout": seconds, "tcp_user_timeout": 1000 * seconds}
         given = {word: value for word, value in waits.items() if word not in self._dsn}
         try:
-            link = module.connect(self._dsn, **{**given, **self._parameters}, application_name=label)
+            link = module.connect(self._dsn, **{**given, **self.with_secrets(self._parameters)}, application_name=label)
             link.autocommit = True
         except (module.OperationalError, module.ProgrammingError) as error:
             said = str(error).strip()
             if isinstance(error, module.ProgrammingError) or REFUSALS.search(said):
                 raise SetupError(said) from error
             raise ConnectionLost(said) from error
+        self.set_up(link)
         return link
 
 
