@@ -240,7 +240,9 @@ class Guards:
 
     def ends_in_statements(self):
         """Statements that end PostgreSQL's transaction, hidden as well as may be."""
-        texts = ["/* /* /* x */ */ */ COMMIT", "-- x\rCOMMIT", "SELECT 1 AS a$b$; COMMIT; SELECT 1 AS c$b$", "PREPARE/**/TRANSACTION 'mine'"]
+        texts = [
+            "/* /* /* x */ */ */ COMMIT", "-- x\rCOMMIT", "SELECT 1 AS a$b$; COMMIT; SELECT 1 AS c$b$", "PREPARE/**/TRANSACTION 'mine'",
+        ]  # fmt: skip
         for rm, server in enumerate(self.world.servers):
             if not isinstance(server, PostgreSQLServer):
                 continue

@@ -10,3 +10,11 @@ def post_worker_init(worker):
     import transfers
 
     transfers.start_worker()
+
+
+def worker_exit(server, worker):
+    # A worker that is stopped has ended its requests: nothing stays prepared.
+    import transfers
+
+    if transfers.xa is not None:
+        transfers.xa.close()

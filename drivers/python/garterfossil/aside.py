@@ -1,5 +1,6 @@
-"""Steps that nothing is to interrupt. A signal handler may raise an exception in the main thread between any two steps of the interpreter, as
-for Ctrl-C or a time limit: so what the main thread asks for is done on a thread beside it, where that can't happen, to its end."""
+"""Steps that nothing is to interrupt. A signal handler may raise an exception in the main thread between any two steps of the
+interpreter, as for Ctrl-C or a time limit: so what the main thread asks for is done on a thread beside it, where that can't happen, to
+its end."""
 
 from __future__ import annotations
 

@@ -134,6 +134,10 @@ def _shown(configuration: Configuration, logs: Mapping[str, Log], found: List[Li
     }
 
 
+def _oldest(one: Listing) -> float:
+    return max((one.ages.get(xid, 0.0) for xid in one.own), default=0.0)
+
+
 def _metrics(configuration: Configuration, logs: Mapping[str, Log], found: List[Listing]) -> List[Metric]:
     """The same as numbers."""
 
@@ -146,7 +150,7 @@ def _metrics(configuration: Configuration, logs: Mapping[str, Log], found: List[
 
     return [
         Metric("in_doubt", "Branches in doubt.", "gauge", at_each(lambda one: len(one.own))),
-        Metric("in_doubt_seconds", "Since when the oldest is.", "gauge", at_each(lambda one: max([one.ages.get(xid, 0) for xid in one.own], default=0))),
+        Metric("in_doubt_seconds", "Since when the oldest is.", "gauge", at_each(_oldest)),
         Metric("of_others", "Branches of other managers.", "gauge", at_each(lambda one: len(one.others))),
         Metric("reachable", "1 if the database can be asked.", "gauge", at_each(lambda one: int(one.fault is None))),
         Metric("log_in_use", "1 while a program has the log.", "gauge", of_each(lambda log: int(log.fault == IN_USE))),

@@ -445,8 +445,8 @@ class Coordinator:
         return False
 
     def let_go(self) -> None:
-        """In a process that was forked off: the pipes are the parent's, and a child that kept them would keep the coordinator up, and the log
-        in use, behind the end of the parent."""
+        """In a process that was forked off: the pipes are the parent's, and a child that kept them would keep the coordinator up, and the
+        log in use, behind the end of the parent."""
         self._requests.close()
         self._replies.close()
         self._errors.close()

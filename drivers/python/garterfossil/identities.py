@@ -32,7 +32,7 @@ class Identities:
         found = self._read()
         if found is None:
             if not is_new:
-                log.warning("%s is missing, so it is made anew: nobody knows whether the databases are those that the log had before", self.path)
+                log.warning("%s is missing, and is made anew: nobody knows whether the databases are those that the log had", self.path)
         elif is_new or found["manager"] != manager:
             gone = found["manager"] or "a manager without a name"
             same = "it is to be put back if anything is prepared" if found["manager"] == manager else "what it had prepared is left alone"

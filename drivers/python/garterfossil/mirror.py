@@ -201,8 +201,8 @@ class Mirror:
                 continue
             if listed.intersection(xids):
                 raise SetupError(
-                    f"the log {self._path} is older than its mirror, which has decided to commit {gtrid}, of which the log knows nothing: put"
-                    " the right one back, or make it of the mirror (python -m garterfossil failover)"
+                    f"the log {self._path} is older than its mirror, which has decided to commit {gtrid}, of which the log knows nothing:"
+                    " put the right one back, or make it of the mirror (python -m garterfossil failover)"
                 )
             places = [int(xid[-8:], 16) for xid in xids]
             if all(place < len(listings) and listings[place] is not None for place in places):

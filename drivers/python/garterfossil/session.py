@@ -252,7 +252,8 @@ class Session:
     def standing(self) -> List[Dict[str, int]]:
         """What stands at each database: how many ends are owed, how many branches are prepared, and whether a recovery is due."""
         return [
-            {"owed": len(self.debts.at(rm.number)), "prepared": len(rm.prepared), "recovery_due": int(rm.is_recovery_due)} for rm in self._rms
+            {"owed": len(self.debts.at(rm.number)), "prepared": len(rm.prepared), "recovery_due": int(rm.is_recovery_due)}
+            for rm in self._rms
         ]
 
     # ** recovery

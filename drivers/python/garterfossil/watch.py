@@ -25,8 +25,8 @@ class Wire:
         self._lock = threading.Lock()
         #: The moment of the monotonic clock when what is under way has had its time. None if nothing is.
         self.due: Optional[float] = None
-        #: The moment when the branch that is at work has had its time, whether or not something is under way: it is cut off then, so that the
-        #: database lets its locks go. None if there is no such branch.
+        #: The moment when the branch that is at work has had its time, whether or not something is under way: it is cut off then, so
+        #: that the database lets its locks go. None if there is no such branch.
         self.limit: Optional[float] = None
         #: Whether it was cut off.
         self.is_cut = False

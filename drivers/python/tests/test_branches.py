@@ -176,13 +176,15 @@ class Branches(Case):
         both = [
             "commit", " COMMIT WORK;", "ROLLBACK", "BEGIN", "START  TRANSACTION", "PREPARE TRANSACTION 'x'", "END", "ABORT",
             "XA END 'x'", "SET autocommit = 1", "SET @a = 1, @@autocommit = 0", "SELECT 1; COMMIT", "COMMIT; BEGIN",
-            "-- a comment\nCOMMIT", "/* one */ COMMIT", "PREPARE/* a */TRANSACTION 'x'", "START -- a\n TRANSACTION", "SELECT 'a;b'; rollback to a; rollback",
+            "-- a comment\nCOMMIT", "/* one */ COMMIT", "PREPARE/* a */TRANSACTION 'x'", "START -- a\n TRANSACTION",
+            "SELECT 'a;b'; rollback to a; rollback",
         ]  # fmt: skip
         for texts in (POSTGRESQL, MARIADB):
             self.assertEqual(self.refused(texts, both), both)
         own = [
             "/* a /* b */ c */ COMMIT", "/* /* /* x */ */ */ COMMIT", "SELECT 1 /* /* /* ; */ */ */; COMMIT", "DO $a$ ; $a$; COMMIT",
-            "SELECT E'\\'' ; COMMIT", "-- x\rCOMMIT", "SELECT 1 AS a$b$; COMMIT; SELECT 1 AS c$b$", "SELECT 1 AS \u20ac$b$; COMMIT; SELECT 1 AS c$b$",
+            "SELECT E'\\'' ; COMMIT", "-- x\rCOMMIT", "SELECT 1 AS a$b$; COMMIT; SELECT 1 AS c$b$",
+            "SELECT 1 AS \u20ac$b$; COMMIT; SELECT 1 AS c$b$",
         ]  # fmt: skip
         self.assertEqual(self.refused(POSTGRESQL, own), own)
         own = ["# a comment\nCOMMIT", "/*!40000 COMMIT */", "SELECT 'it\\'s'; COMMIT", "SELECT `;`; COMMIT"]
@@ -197,7 +199,8 @@ class Branches(Case):
         for texts in (POSTGRESQL, MARIADB):
             self.assertEqual(self.refused(texts, both), [])
         own = [
-            "DO $$ BEGIN; COMMIT; END $$", "SELECT E'\\'; COMMIT'", "SELECT '\\'", "SELECT 1 /* /* ; */ COMMIT; */", "SELECT $1$b$; COMMIT $b$",
+            "DO $$ BEGIN; COMMIT; END $$", "SELECT E'\\'; COMMIT'", "SELECT '\\'",
+            "SELECT 1 /* /* ; */ COMMIT; */", "SELECT $1$b$; COMMIT $b$",
         ]  # fmt: skip
         self.assertEqual(self.refused(POSTGRESQL, own), [])
         own = ["SELECT 'it\\'s; COMMIT'", "SELECT `a; COMMIT`", "SELECT 1--1", "BEGIN NOT ATOMIC SELECT 1"]

@@ -59,7 +59,8 @@ class Mirrors(Case):
         self.right.before.clear()
         # What the log lost, and what it has, as nobody could tell the mirror.
         with sqlite3.connect(self.mirror.path) as it:
-            it.execute("INSERT INTO garterfossil_decision SELECT name, 'of another session', '7:00:0000000000000000' FROM garterfossil_decision")
+            other = "SELECT name, 'of another session', '7:00:0000000000000000' FROM garterfossil_decision"
+            it.execute(f"INSERT INTO garterfossil_decision {other}")
         self.left.before["start"] = lambda: self.assertEqual(self.mirror.decided(), [gtrid])
         with self.manager() as xa:
             self.move(xa)
@@ -139,7 +140,8 @@ class Mirrors(Case):
     def test_what_it_has_decided_is_kept_while_a_database_cannot_be_looked_at(self):
         self.manager().close()
         with sqlite3.connect(self.mirror.path) as it:
-            it.execute("INSERT INTO garterfossil_decision SELECT name, ?, ? FROM garterfossil_manager", [bytes(16).hex(), f"7:{bytes(16).hex()}:{1:016x}"])
+            words = [bytes(16).hex(), f"7:{bytes(16).hex()}:{1:016x}"]
+            it.execute("INSERT INTO garterfossil_decision SELECT name, ?, ? FROM garterfossil_manager", words)
         self.right.is_up = False
         with self.manager() as xa:
             self.assertEqual(self.mirror.decided(), [bytes(16).hex()])
