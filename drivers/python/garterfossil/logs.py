@@ -35,6 +35,10 @@ HEADS = ("name ", "rm ", "incarnation ")
 WORKER, MOST_WORKERS = "{worker}", 1024
 
 
+class LookKilled(SetupError):
+    """Somebody has killed the program that looked at the log: it may be done again."""
+
+
 @dataclass(frozen=True)
 class Names:
     """The names that a log keeps."""
@@ -69,6 +73,8 @@ def printed_log(program: str, path: str) -> List[str]:
     # The status is 0 as well where the program takes the statuses of all its children itself.
     if done.returncode == 0 and not done.stderr.startswith("xatm: "):
         return done.stdout.splitlines()
+    if done.returncode < 0:
+        raise LookKilled(f"{program} was ended by the signal {-done.returncode}, while it read the log {path}")
     if is_log_in_use(path):
         raise LogInUse(f"the log {path} is in use by another program")
     raise SetupError(f"{program} can't read the log {path}: {done.stderr.strip() or f'status {done.returncode}'}")
@@ -81,7 +87,7 @@ def _printed_in_time(program: str, path: str, patience: float) -> Optional[List[
     while not is_new_log(path):
         try:
             return printed_log(program, path)
-        except LogInUse:
+        except (LogInUse, LookKilled):
             if time.monotonic() >= until:
                 raise
             time.sleep(0.1)

@@ -133,6 +133,15 @@ class Kept(Case):
         with self.assertRaises(SetupError):
             printed_log(program, self.log)
 
+    def test_a_look_that_somebody_kills_is_made_again(self):
+        program = os.path.join(self.folder, "is_killed")
+        with open(program, "w") as it:
+            it.write(f"#!/bin/sh\n[ -e {self.folder}/once ] || {{ touch {self.folder}/once; kill -9 $$; }}\necho name shop-1\necho incarnation 3\n")
+        os.chmod(program, 0o755)
+        with open(self.log, "w") as it:
+            it.write("a log")
+        self.assertEqual(kept_log(program, self.log, 5.0), KeptLog(3))
+
     def test_how_often_a_log_was_started_stands_in_its_file(self):
         program = os.path.join(self.folder, "looks")
         with open(program, "w") as it:
