@@ -1,6 +1,6 @@
-"""Which databases a log belongs to. Each calls itself by something that no other one has, and the file PATH-databases beside the log keeps
-that from its first use: another database in its place would be asked about branches that it never had, and would answer that there
-are none."""
+"""Which databases a log belongs to, and how far it has come. Each database calls itself by something that no other one has, and the file
+PATH-databases beside the log keeps that from its first use: another database in its place would be asked about branches that it never
+had, and would answer that there are none. The drivers in Java and C read and write the same file."""
 
 from __future__ import annotations
 
@@ -28,6 +28,8 @@ class Identities:
         self._manager = manager
         self._lock = threading.Lock()
         self._known: Dict[int, Dict[str, str]] = {}
+        # The number of the last session.
+        self._incarnation = 0
         self._shut: Optional[str] = None
         found = self._read()
         if found is None:
@@ -39,7 +41,7 @@ class Identities:
             log.warning("the log of %s is gone from %s: %s (`python -m garterfossil status`)", gone, path, same)
         else:
             self._known = {entry["number"]: {"at": entry["at"], "identity": entry["identity"]} for entry in found["databases"]}
-            self._shut = found.get("shut")
+            self._incarnation, self._shut = int(found.get("incarnation", 0)), found.get("shut")
 
     def _read(self) -> Optional[Dict[str, Any]]:
         try:
@@ -86,6 +88,25 @@ class Identities:
             f" moved, and nothing is in doubt, remove {self.path}"
         )
 
+    # ** the sessions of the log
+
+    def see_not_older(self, incarnation: int) -> None:
+        """Sees that the log has had all sessions that were noted. Raises SetupError if it has had only so many: it is an older copy, and
+        would roll back what was decided since."""
+        with self._lock:
+            if incarnation < self._incarnation:
+                raise SetupError(
+                    f"the log {self.path[: -len(SUFFIX)]} is older than it was: it has had {incarnation} sessions, and {self.path} knows of"
+                    f" {self._incarnation}. It would roll back what was decided since: put the right one back"
+                )
+
+    def note_session(self, incarnation: int) -> None:
+        """A session of this number has begun over the log."""
+        with self._lock:
+            if incarnation > self._incarnation:
+                self._incarnation = incarnation
+                self._write()
+
     # ** a log that nobody is to use
 
     def see_open(self) -> None:
@@ -103,7 +124,7 @@ class Identities:
     def _write(self) -> None:
         """Writes the file anew, whole or not at all. Called with the lock."""
         entries: List[Dict[str, object]] = [{"number": number, **entry} for number, entry in sorted(self._known.items())]
-        found: Dict[str, object] = {"version": VERSION, "manager": self._manager, "databases": entries}
+        found: Dict[str, object] = {"version": VERSION, "manager": self._manager, "incarnation": self._incarnation, "databases": entries}
         if self._shut is not None:
             found["shut"] = self._shut
         try:

@@ -84,6 +84,7 @@ class Session:
         #: Where a committed transaction goes of which all branches have acknowledged.
         self.rows = Rows(self.coordinator, self.mirror)
         try:
+            self.identities.note_session(self.coordinator.incarnation)
             self._take_over(is_first)
             self.see_to_recoveries(0)
         except BaseException:
@@ -111,6 +112,8 @@ class Session:
         elif is_new:
             kept = KeptLog()
         if kept is not None:
+            if not is_new:
+                self.identities.see_not_older(kept.incarnation)
             for rm in self._rms:
                 see_not_later(rm, kept.incarnation, settings.log)
         if settings.mirror is not None:

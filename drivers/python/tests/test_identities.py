@@ -101,13 +101,27 @@ class Identities(Case):
             with self.assertRaisesRegex(SetupError, SUFFIX):
                 self.manager()
 
+    def test_an_older_log_is_refused_also_if_no_database_lists_anything(self):
+        self.manager().close()
+        shutil.copy(self.log, self.log + ".copy")
+        self.manager().close()
+        shutil.copy(self.log + ".copy", self.log)
+        for _ in range(3):
+            with self.assertRaisesRegex(SetupError, "has had 1 sessions, and .* knows of 2"):
+                self.manager()
+        # As the drivers in Java and C write it, and read it.
+        with open(self.log + SUFFIX) as it:
+            self.assertEqual(json.load(it)["incarnation"], 2)
+
     def test_an_older_log_is_refused_at_every_start(self):
         self.manager().close()
         shutil.copy(self.log, self.log + ".copy")
         self.killed_in_the_second_phase()
         shutil.copy(self.log + ".copy", self.log)
+        # Nothing but what the database lists says so.
+        os.remove(self.log + SUFFIX)
         for _ in range(4):
-            with self.assertRaisesRegex(SetupError, "has had 1 sessions"):
+            with self.assertRaisesRegex(SetupError, "has had 1 sessions, and database 1 lists"):
                 self.manager()
         with open(self.log) as it:
             self.assertEqual(json.load(it)["incarnation"], 1)
