@@ -42,8 +42,8 @@ def see_stories(world, folder):
         world.prepare()
         name = f"t{int(time.time()):x}{is_dynamic:d}"
         words = [f"{folder}/tour", infos[0], world.servers[1].socket(), *(["dynamic"] if is_dynamic else [])]
-        wrong += see(" ".join(["stories", *words[3:]]), words, c_programs.environment(world, folder, name, f"{world.home}/{name}.db", is_dynamic),
-                     ", 0 wrong")
+        environment = c_programs.environment(world, folder, name, f"{world.home}/{name}.db", is_dynamic)
+        wrong += see(" ".join(["stories", *words[3:]]), words, environment, ", 0 wrong")
     return wrong
 
 
@@ -60,8 +60,8 @@ def see_languages(world, folder):
     """A transfer of 10 in each language. How many were wrong."""
     source = f"{c_programs.DRIVER}/examples"
     libraries = f"-L{folder} -lgarterfossil -lgf_postgresql -lgf_mariadb -lpq -lmariadb"
-    includes = subprocess.run(["pkg-config", "--cflags", "libpq", "libmariadb"], stdout=subprocess.PIPE, text=True, check=True).stdout.strip()
-    flags = f"-I{c_programs.DRIVER}/include {includes} {libraries}"
+    includes = subprocess.run(["pkg-config", "--cflags", "libpq", "libmariadb"], stdout=subprocess.PIPE, text=True, check=True)
+    flags = f"-I{c_programs.DRIVER}/include {includes.stdout.strip()} {libraries}"
     name = f"l{int(time.time()):x}"
     environment = {**c_programs.environment(world, folder, name, f"{world.home}/{name}.db"), "CGO_CFLAGS": flags.split(" -L")[0],
                    "CGO_LDFLAGS": libraries, "GOCACHE": f"{folder}/cache", "GOFLAGS": "-mod=mod", "GO111MODULE": "off"}
@@ -77,7 +77,9 @@ def see_languages(world, folder):
             print(f"WRONG C: a program in {language} isn't built", flush=True)
             continue
         before = balances(world)
-        done = subprocess.run([to, "1", "1", "10"], env=environment, stdout=subprocess.PIPE, stderr=subprocess.STDOUT, text=True, check=False)
+        done = subprocess.run(
+            [to, "1", "1", "10"], env=environment, stdout=subprocess.PIPE, stderr=subprocess.STDOUT, text=True, check=False
+        )
         moved = [now - old for now, old in zip(balances(world), before)]
         is_right = done.returncode == 0 and moved == [-10, 10]
         wrong += not is_right
