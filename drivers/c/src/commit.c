@@ -105,7 +105,11 @@ static int tell_commit(void)
             continue;
         }
         tell(rm, "xa_commit", told);
-        me->line[rm].stage = told == XA_RETRY ? LEFT : OVER;
+        if (told == XA_RETRY) {
+            lose_line(me, rm); /* the keeper makes it again, and some databases let nobody as long as this connection is there */
+            continue;
+        }
+        me->line[rm].stage = OVER;
         if (is_heuristic(told))
             result = result_of_heuristic(rm, code, told, XA_HEURCOM, result);
     }

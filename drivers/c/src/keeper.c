@@ -154,7 +154,7 @@ static void begin_session(void)
 {
     close_lines();
     if (!may_begin() || !is_coordinator_started()) {
-        if (!all.has_failed)
+        if (!has_failed())
             pause_for(0.1);
         return;
     }
@@ -169,19 +169,21 @@ static void begin_session(void)
         pthread_cond_broadcast(&all.changed);
         unlock();
     }
-    if (!is_up)
+    if (!is_up) {
         end_session();
+        pause_for(0.1);
+    }
 }
 
 /* Looks after the session that is up, or begins the next. */
 static void keep_up(void)
 {
     lock();
-    bool is_up = all.session != 0 && !coordinator.is_gone, has_failed = all.has_failed;
+    bool is_up = all.session != 0 && !coordinator.is_gone;
     unlock();
     if (!is_up && coordinator.process.lines >= 0)
         end_session();
-    if (!is_up && !has_failed)
+    if (!is_up && !has_failed())
         begin_session();
     for (int rm = 0; is_up && rm < settings.rms; rm++)
         if (is_due(rm))

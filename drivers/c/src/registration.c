@@ -1,5 +1,19 @@
 /* What a resource manager calls to register a branch dynamically (C193, chapter 4). */
+#include <pthread.h>
+
 #include "transaction.h"
+
+/* A thread that is cancelled is so behind it: it may write what others wait for. */
+static void begin_branch(int rm)
+{
+    int before;
+
+    pthread_setcancelstate(PTHREAD_CANCEL_DISABLE, &before);
+    note_branch(rm);
+    post(me);
+    coordinator_flush(&coordinator);
+    pthread_setcancelstate(before, &before);
+}
 
 API int ax_reg(int rmid, XID *xid, long flags)
 {
@@ -15,9 +29,7 @@ API int ax_reg(int rmid, XID *xid, long flags)
     if (is_session_over(me))
         return TMER_TMERR;
     me->line[rmid].xid = *xid = xid_of(me->gtrid, me->number, rmid);
-    note_branch(rmid);
-    post(me);
-    coordinator_flush(&coordinator);
+    begin_branch(rmid);
     return TM_OK;
 }
 

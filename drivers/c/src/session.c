@@ -126,9 +126,7 @@ int session_join(struct thread *t)
     t->session = session_now();
     if (t->session != 0)
         return TX_OK;
-    lock();
-    int result = all.has_failed ? TX_FAIL : TX_ERROR;
-    unlock();
+    int result = has_failed() ? TX_FAIL : TX_ERROR;
     session_leave(t);
     return result;
 }
@@ -167,6 +165,14 @@ unsigned session_now(void)
         explain("%s", all.fault);
     unlock();
     return session;
+}
+
+bool has_failed(void)
+{
+    lock();
+    bool is_so = all.has_failed;
+    unlock();
+    return is_so;
 }
 
 bool is_session_over(const struct thread *t)

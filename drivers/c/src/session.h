@@ -20,6 +20,8 @@ int session_join(struct thread *);
 void session_leave(struct thread *);
 /* The session that is up, waiting for it; 0 if there is none in time. */
 unsigned session_now(void);
+/* Whether there will be none any more. */
+bool has_failed(void);
 /* Whether the thread's session is over; that it is, as the thread has seen. */
 bool is_session_over(const struct thread *);
 void note_over(const struct thread *);

@@ -7,6 +7,7 @@
 #include <stdio.h>
 #include <stdlib.h>
 #include <string.h>
+#include <unistd.h>
 
 #include "garterfossil.h"
 
@@ -108,13 +109,23 @@ static bool is_number(const char *text, double *number, double least, double mos
     return sscanf(text, "%lf%n", number, &end) == 1 && text[end] == '\0' && *number >= least && *number <= most;
 }
 
+/* The path as it is from any folder: the program may go to another one, and the coordinator is started again there. */
+static bool is_path_kept(char *to, size_t room, const char *name)
+{
+    char folder[512];
+
+    if (name[0] == '/')
+        return is_copied(to, room, name);
+    return getcwd(folder, sizeof folder) != NULL && (size_t)snprintf(to, room, "%s/%s", folder, name) < room;
+}
+
 /* Whether the word is a setting, and the value is one of it. */
 static bool is_set(const char *word, const char *value)
 {
     double number = 0;
 
     if (strcmp(word, "log") == 0)
-        return is_copied(settings.log, sizeof settings.log, value);
+        return is_path_kept(settings.log, sizeof settings.log, value);
     if (strcmp(word, "program") == 0)
         return is_copied(settings.program, sizeof settings.program, value);
     if (strcmp(word, "name") == 0)

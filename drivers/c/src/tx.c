@@ -138,7 +138,7 @@ API int tx_close(void)
 static int begin(void)
 {
     if (!is_next_begun())
-        return TX_ERROR;
+        return has_failed() ? TX_FAIL : TX_ERROR;
     note_begun(me, me->ahead);
     me->ahead[0] = '\0';
     int result = start_branches();

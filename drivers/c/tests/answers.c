@@ -191,7 +191,23 @@ static void of_forget(void)
     SAYS(told("answer 1 0 xa_forget"), "0");
 }
 
+/* The keeper commits it later, and no connection is in its way. */
+static void of_a_commit_for_later(void)
+{
+    IS(tx_open(), TX_OK);
+    BEGIN(5);
+    stand_in_answers(0, "xa_commit", XA_RETRY, false);
+    stand_in_journal();
+    IS(tx_commit(), TX_OK);
+    SAYS(stand_in_journal(), "xa_end 0, xa_end 1, xa_prepare 0, xa_prepare 1, xa_commit 0, xa_commit 1, xa_close 0");
+    BEGIN(5);
+    IS(tx_commit(), TX_OK);
+    IS(is_settled(), true);
+    IS(stand_in_sum(0), -10);
+}
+
 const struct story of_answers[] = {{"answers to xa_end", of_end}, {"answers to xa_prepare", of_prepare},
-    {"answers to xa_commit", of_commit}, {"answers to xa_rollback once prepared", of_rollback_once_prepared},
-    {"answers to xa_rollback", of_rollback}, {"answers to xa_commit in one phase", of_one_phase}, {"answers to xa_start", of_start},
-    {"answers to xa_open", of_open}, {"answers to xa_forget", of_forget}, {NULL, NULL}};
+    {"answers to xa_commit", of_commit}, {"answers to xa_commit: later", of_a_commit_for_later},
+    {"answers to xa_rollback once prepared", of_rollback_once_prepared}, {"answers to xa_rollback", of_rollback},
+    {"answers to xa_commit in one phase", of_one_phase}, {"answers to xa_start", of_start}, {"answers to xa_open", of_open},
+    {"answers to xa_forget", of_forget}, {NULL, NULL}};

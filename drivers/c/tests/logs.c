@@ -1,6 +1,7 @@
 /* Whether the log is the one that the databases belong to: another one is refused at each start, and so is another
  * database. */
 #include <stdio.h>
+#include <stdlib.h>
 #include <string.h>
 #include <sys/wait.h>
 #include <unistd.h>
@@ -166,6 +167,23 @@ static void an_older_folder(void)
     IS(count_told("answer 0 1 xa_rollback"), 0);
 }
 
+/* A program that goes to another folder doesn't begin another log there. */
+static void another_folder(void)
+{
+    char settings[1024];
+
+    snprintf(settings, sizeof settings, "program %s\nlog log\nname c\npatience 20\nrm a - stand_in x\nrm b - stand_in x\n",
+        getenv("STAND_IN_COORDINATOR"));
+    write_file("settings", settings);
+    IS(chdir(path_of("")), 0);
+    IS(tx_open(), TX_OK);
+    IS(chdir("/"), 0);
+    kill_coordinator();
+    BEGIN(5);
+    IS(tx_commit(), TX_OK);
+    IS(is_file("log-databases"), true);
+}
+
 /* What an earlier session left is ended as its log says. */
 static void earlier_branches(void)
 {
@@ -190,4 +208,5 @@ const struct story of_logs[] = {{"logs: the file beside one", the_file}, {"logs:
     {"logs: a broken file", a_broken_file}, {"logs: another database", another_database},
     {"logs: two that changed places", two_that_changed_places}, {"logs: a new one", a_new_log},
     {"logs: branches of others", others_branches}, {"logs: a lost one", a_lost_log}, {"logs: an older one", an_older_log},
-    {"logs: an older folder", an_older_folder}, {"logs: earlier branches", earlier_branches}, {NULL, NULL}};
+    {"logs: an older folder", an_older_folder}, {"logs: another folder", another_folder}, {"logs: earlier branches", earlier_branches},
+    {NULL, NULL}};

@@ -59,11 +59,9 @@ bool is_file(const char *name)
 
 void set_up(const char *rms, const char *others)
 {
-    const char *program = getenv("STAND_IN_COORDINATOR");
     char text[1024];
 
-    snprintf(text, sizeof text, "# %s\nprogram %s\nlog %s/log\nname c\nthreads 4\n%s%s", folder,
-        program != NULL ? program : "tests/stand_in_coordinator", folder,
+    snprintf(text, sizeof text, "# %s\nprogram %s\nlog %s/log\nname c\nthreads 4\n%s%s", folder, getenv("STAND_IN_COORDINATOR"), folder,
         rms != NULL ? rms : "rm a - stand_in open\nrm b - stand_in open\n", others != NULL ? others : "patience 20\n");
     write_file("settings", text);
     setenv("GARTERFOSSIL_SETTINGS", path_of("settings"), 1);
@@ -187,6 +185,12 @@ int main(int count, char **words)
     const struct story *const all[] = {of_parts, of_states, of_answers, of_losses, of_logs, of_processes};
     int counts[2] = {0, 0}, begun = 0;
     bool is_right = false;
+    char here[256], program[300];
+
+    if (getcwd(here, sizeof here) == NULL)
+        return 2;
+    snprintf(program, sizeof program, "%s/tests/stand_in_coordinator", here);
+    setenv("STAND_IN_COORDINATOR", program, 0);
 
     for (size_t i = 0; i < sizeof all / sizeof all[0]; i++)
         for (const struct story *it = all[i]; it->name != NULL; it++)
