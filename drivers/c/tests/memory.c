@@ -63,7 +63,7 @@ static void see(const char *what, long found, long expected)
 
 static bool is_settled(void)
 {
-    for (int i = 0; i < 300 && stand_in_prepared(0) + stand_in_prepared(1) > 0; i++)
+    for (int i = 0; i < 1500 && stand_in_prepared(0) + stand_in_prepared(1) > 0; i++)
         nanosleep(&(struct timespec){.tv_nsec = 20000000}, NULL);
     return stand_in_prepared(0) + stand_in_prepared(1) == 0;
 }

@@ -2,6 +2,7 @@
 #include <errno.h>
 #include <pthread.h>
 #include <signal.h>
+#include <stdatomic.h>
 #include <stdio.h>
 #include <stdlib.h>
 #include <sys/time.h>
@@ -189,11 +190,14 @@ static void the_last_one_leaves(void)
     IS(stand_in_sum(1), 5);
 }
 
+static atomic_bool is_committing;
+
 static void *commit_slowly(void *unused)
 {
     (void)unused;
     IS(tx_open(), TX_OK);
     BEGIN(5);
+    is_committing = true;
     IS(tx_commit(), TX_OK);
     pthread_testcancel();
     IS(false, true);
@@ -206,9 +210,11 @@ static void a_thread_that_is_cancelled(void)
     pthread_t thread;
 
     IS(tx_open(), TX_OK);
-    stand_in_takes(0, "xa_prepare", 300);
+    stand_in_takes(0, "xa_prepare", 500);
     pthread_create(&thread, NULL, commit_slowly, NULL);
-    nanosleep(&(struct timespec){.tv_nsec = 150000000}, NULL);
+    while (!is_committing)
+        nanosleep(&(struct timespec){.tv_nsec = 10000000}, NULL);
+    nanosleep(&(struct timespec){.tv_nsec = 50000000}, NULL);
     pthread_cancel(thread);
     pthread_join(thread, NULL);
     IS(stand_in_sum(1), 5);

@@ -108,7 +108,7 @@ void kill_coordinator(void)
 
 bool is_settled(void)
 {
-    for (int i = 0; i < 300; i++) {
+    for (int i = 0; i < 1500; i++) {
         if (stand_in_prepared(0) + stand_in_prepared(1) == 0)
             return true;
         nanosleep(&(struct timespec){.tv_nsec = 20000000}, NULL);
@@ -120,7 +120,7 @@ bool is_settled(void)
 
 static void tell_here(const struct story *it)
 {
-    alarm(200); /* no story waits without end */
+    alarm(400); /* no story waits without end */
     set_up(NULL, NULL);
     stand_in_journal();
     it->tell();
