@@ -172,7 +172,7 @@ static void another_folder(void)
 {
     char settings[1024];
 
-    snprintf(settings, sizeof settings, "program %s\nlog log\nname c\npatience 20\nrm a - stand_in x\nrm b - stand_in x\n",
+    snprintf(settings, sizeof settings, "program %s\nlog log\nname c\npatience 120\nrm a - stand_in x\nrm b - stand_in x\n",
         getenv("STAND_IN_COORDINATOR"));
     write_file("settings", settings);
     IS(chdir(path_of("")), 0);

@@ -62,7 +62,7 @@ void set_up(const char *rms, const char *others)
     char text[1024];
 
     snprintf(text, sizeof text, "# %s\nprogram %s\nlog %s/log\nname c\nthreads 4\n%s%s", folder, getenv("STAND_IN_COORDINATOR"), folder,
-        rms != NULL ? rms : "rm a - stand_in open\nrm b - stand_in open\n", others != NULL ? others : "patience 20\n");
+        rms != NULL ? rms : "rm a - stand_in open\nrm b - stand_in open\n", others != NULL ? others : "patience 120\n");
     write_file("settings", text);
     setenv("GARTERFOSSIL_SETTINGS", path_of("settings"), 1);
 }
@@ -120,7 +120,7 @@ bool is_settled(void)
 
 static void tell_here(const struct story *it)
 {
-    alarm(400); /* no story waits without end */
+    alarm(600); /* no story waits without end */
     set_up(NULL, NULL);
     stand_in_journal();
     it->tell();
