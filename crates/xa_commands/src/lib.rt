@@ -11,6 +11,7 @@
 mod copies;
 mod failure;
 mod files;
+mod introduction;
 mod jobs;
 mod lists;
 mod log_names;

@@ -1,9 +1,14 @@
 //! Whose log it is. Its label has the name of its manager, which is empty where that has none, and behind it those of its
 //! resource managers, from number 0.
 
+ghost use Rattle.std.specs.Prelude.{◌≡◌, ◌≢◌, ◌<◌, ◌++◌, ℕ, List, [], false, length, map, option_map, IfErr, IfOk, OnOk, Some, slice_get};
+ghost use Rattle.std.specs.Borrow.{Bor};
+ghost use Rattle.std.specs.String.{string_bytes};
+ghost use Rattle.xa_commands.specs.Names.{MayName, MayOpen, label_of, name_given, names_in, spaced};
+
 use crate::failure::Failure;
 use crate::log_reasons::opening_failure;
-use std::alloc::Global;
+use std::alloc::{AllocError, Global};
 use std::io::Write;
 use xa_files::RunFault;
 use xa_names::{ManagerName, NameFault, check_names, line_renamed};
@@ -11,21 +16,43 @@ use xa_restore::is_rm_name;
 use xa_sql_log::SqlLog;
 
 /// The name that a manager is given.
-pub(crate) fn manager_named(text: Option<&str>) -> Result<ManagerName, Failure> {
-    match text {
-        Some(text) => ManagerName::of_text(text).ok_or(Failure::Name),
-        None => Ok(ManagerName::none()),
+pub(crate) fn manager_named(text: Option<&str>) -> Result<ManagerName, Failure>
+    ensures { result ≡ name_given (option_map (λ text. text.now) text.entry) }
+{
+    let Some(text) = text else {
+        return Ok(ManagerName::none());
+    };
+    match ManagerName::of_text(text) {
+        Some(name) => Ok(name),
+        None => Err(Failure::Name),
     }
+}
+
+/// Whether the name at a place stands before it too.
+fn stands_before(names: &[&str], place: usize) -> bool
+    requires { place < length names.now }
+    ensures { result ≡ false → (i : ℕ) → (a b : Bor (List ℕ)) → i < place →
+        slice_get names.now i ≡ Some a → slice_get names.now place ≡ Some b → a.now ≢ b.now }
+{
+    for earlier in 0..place {
+        if names[earlier] == names[place] {
+            return true;
+        }
+    }
+    false
 }
 
 /// Refuses names of resource managers of which one isn't a name, or comes twice, or of which there are more or fewer than
 /// resource managers. There may be none.
-pub(crate) fn check_rm_names(names: &[&str], rms: u32) -> Result<(), Failure> {
+pub(crate) fn check_rm_names(names: &[&str], rms: u32) -> Result<(), Failure>
+    ensures names { OnOk result (MayName rms names.now) }
+    ensures fault { IfErr result (λ failure. failure ≡ Failure.RmNames) }
+{
     if names.is_empty() {
         return Ok(());
     }
-    for (at, name) in names.iter().enumerate() {
-        if !is_rm_name(name) || names.iter().take(at).any(|earlier| earlier == name) {
+    for place in 0..names.len() {
+        if !is_rm_name(names[place]) || stands_before(names, place) {
             return Err(Failure::RmNames);
         }
     }
@@ -39,14 +66,22 @@ pub(crate) fn check_rm_names(names: &[&str], rms: u32) -> Result<(), Failure> {
 /// Refuses a log of which only a part is there.
 pub(crate) fn refuse_half(rt: &HostRuntime, path: &str) -> Result<(), Failure> {
     match SqlLog::is_half(rt, path) {
-        Ok(true) => {}
-        Ok(false) => return Ok(()),
-        Err(fault) => return Err(opening_failure(rt, path, fault)),
+        Ok(true) => Err(half(rt.alloc(), path)),
+        Ok(false) => Ok(()),
+        Err(fault) => Err(opening_failure(rt, path, fault)),
     }
-    Err(Failure::Refused(format!(in rt.alloc();
+}
+
+/// The failure of a log of which only a part is there.
+fn half(alloc: Global, path: &str) -> Failure {
+    let told = format!(in alloc;
         "{path}: the file is missing or empty, and {path}-wal is what is left of it: put the \
         file back, since a new log would roll back what is decided"
-    )?))
+    );
+    match told {
+        Ok(text) => Failure::Refused(text),
+        Err(error) => Failure::from(error),
+    }
 }
 
 /// Why a log of these names is refused to others.
@@ -54,19 +89,21 @@ fn refusal(
     alloc: Global,
     path: &str,
     fault: NameFault,
-    kept: &[&str],
-    given: &[&str],
+    kept: &str,
+    given: &str,
 ) -> Result<Failure, Failure> {
+    let kept = names_in(alloc, kept)?;
+    let given = names_in(alloc, given)?;
     let text = match fault {
         NameFault::Manager => format!(in alloc;
             "{path}: it is that of {}, not of {}",
-            manager_told(alloc, kept)?.as_str(),
-            manager_told(alloc, given)?.as_str()
+            manager_told(alloc, &kept)?.as_str(),
+            manager_told(alloc, &given)?.as_str()
         )?,
         NameFault::ResourceManager(number) => format!(in alloc;
             "{path}: its resource manager {number} is {}, not {}",
-            name_at(kept, number),
-            name_at(given, number)
+            name_at(&kept, number),
+            name_at(&given, number)
         )?,
         NameFault::Unnamed => format!(in alloc;
             "{path}: it keeps names of resource managers, and --rm gives none"
@@ -112,53 +149,68 @@ pub(crate) fn claim_log(
     }
 }
 
+/// Refuses a log whose label has other names.
+fn compare(alloc: Global, path: &str, kept: &str, given: &str) -> Result<(), Failure> {
+    match verdict(alloc, kept, given)? {
+        Ok(()) => Ok(()),
+        Err(fault) => Err(refusal(alloc, path, fault, kept, given)?),
+    }
+}
+
 /// Makes an empty log with a label.
 pub(crate) fn make_labelled(rt: &HostRuntime, path: &str, label: &str) -> Result<(), Failure> {
     SqlLog::make(rt, path, label).map_err(|fault| opening_failure(rt, path, fault))
 }
 
-/// Refuses a log whose label has other names.
-fn compare(alloc: Global, path: &str, kept: &str, given: &str) -> Result<(), Failure> {
-    let kept: Vec<&str> = kept.split(' ').collect(alloc)?;
-    let given: Vec<&str> = given.split(' ').collect(alloc)?;
-    match check_names(&kept, &given) {
-        Ok(()) => Ok(()),
-        Err(fault) => Err(refusal(alloc, path, fault, &kept, &given)?),
+/// The names in a label.
+fn names_in(alloc: Global, label: &str) -> Result<Vec<&str>, AllocError>
+    ensures { IfOk result (λ names. map (λ name. name.now) names.items ≡ names_in label.now) }
+{
+    label.split(' ').collect(alloc)
+}
+
+/// Whether a log with this label may be opened by whoever has the other one, and why not.
+fn verdict(alloc: Global, kept: &str, given: &str) -> Result<Result<(), NameFault>, AllocError>
+    ensures opened { IfOk result (λ verdict. OnOk verdict (MayOpen kept.now given.now)) }
+    ensures refused { IfOk result (λ verdict.
+        IfErr verdict (λ _. MayOpen kept.now given.now → ⊥)) }
+{
+    let kept = names_in(alloc, kept)?;
+    let given = names_in(alloc, given)?;
+    Ok(check_names(&kept, &given))
+}
+
+/// Adds each word behind a space.
+pub(crate) fn push_words(text: &mut String, words: &[&str]) -> Result<(), AllocError>
+    ensures { OnOk result (string_bytes text.new ≡
+        string_bytes text.old ++ spaced (map (λ word. word.now) words.now)) }
+{
+    for word in words {
+        text.push_str(" ")?;
+        text.push_str(word)?;
     }
+    Ok(())
+}
+
+/// The name as text.
+pub(crate) fn name_text(alloc: Global, name: &ManagerName) -> Result<String, AllocError>
+    ensures { IfOk result (λ text. string_bytes text ≡ name.now) }
+{
+    String::from_utf8_lossy(alloc, name.as_slice())
 }
 
 /// The label of a log of these names.
-pub(crate) fn label_of(alloc: Global, name: &ManagerName, rms: &[&str]) -> Result<String, Failure> {
-    let mut label = String::from_utf8_lossy(alloc, name.as_slice())?;
-    for rm in rms {
-        label.push_str(" ")?;
-        label.push_str(rm)?;
-    }
-    Ok(label)
-}
-
-/// Tells a driver which protocol this is, whose coordinator it has, and the names of its resource managers. One without any
-/// name is told nothing.
-pub(crate) fn introduce<W: Write>(
+pub(crate) fn label_of(
     alloc: Global,
     name: &ManagerName,
     rms: &[&str],
-    out: &mut W,
-) -> Result<(), Failure> {
-    if name.as_slice().is_empty() && rms.is_empty() {
-        return Ok(());
-    }
-    let mut line = String::from_str(alloc, "protocol 1")?;
-    if !name.as_slice().is_empty() {
-        line.push_str(" name ")?;
-        line.push_str(String::from_utf8_lossy(alloc, name.as_slice())?.as_str())?;
-    }
-    if !rms.is_empty() {
-        line.push_str(" rms ")?;
-        line.push_str(rms.join(alloc, " ")?.as_str())?;
-    }
-    line.push_str("\n")?;
-    write_all(out, line.as_str())
+) -> Result<String, AllocError>
+    ensures { IfOk result (λ text.
+        string_bytes text ≡ label_of name.now (map (λ rm. rm.now) rms.now)) }
+{
+    let mut label = name_text(alloc, name)?;
+    push_words(&mut label, rms)?;
+    Ok(label)
 }
 
 /// Writes a text.

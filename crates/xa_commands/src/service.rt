@@ -6,7 +6,8 @@ ghost use Rattle.xa_commands.specs.Failures.{failure_status};
 ghost use Rattle.xa_commands.specs.Services.{HasFailed, HasServed, HasServedSome};
 
 use crate::failure::Failure;
-use crate::log_names::{check_rm_names, claim_log, introduce, manager_named};
+use crate::introduction::introduce;
+use crate::log_names::{check_rm_names, claim_log, manager_named};
 use crate::logs::{broken_off, leave, open_log};
 use crate::stores::close_in_files;
 use sqlite::FileStore;
