@@ -1,6 +1,20 @@
--- What is written to a driver.
-use Rattle.std.specs.Prelude.{◌≡◌, ◌⊎◌, ℕ, Bool, List, Option}
-use Rattle.std.specs.Io.KnownBytes.{Keeps}
+-- What is written to a driver, and what it is written from.
+use Rattle.std.specs.Prelude.{◌≡◌, ◌⊎◌, ℕ, Bool, List, Option, Some, OnOk, Result}
+use Rattle.std.specs.Io.KnownBytes.{Appends, Keeps}
+use Rattle.sqlite.specs.Files.{image_of}
+use Rattle.sqlite.specs.Recovery.{Image}
+use Rattle.sqlite_disk.specs.declared.Disk.{Ghosts}
+use Rattle.sqlite_disk.specs.declared.Files.{Files}
+use Rattle.sqlite_wal.specs.Reads.{AreClean}
+use Rattle.xa_sql_log.specs.ClosedFiles.{HoldsWhole}
+use Rattle.xa_sql_log.specs.HeldContents.{HoldsContent, MakesLabelled}
+use Rattle.xa_sql_log.specs.OpenedDatabase.{HoldsLog}
+use Rattle.xa_files.specs.Outputs.{AppendsBeginning}
+use Rattle.xa_log.specs.Content.{Content}
+use Rattle.xa_log.specs.declared.log_fault.LogFault.{LogFault}
+use Rattle.xa_commands.specs.Names.{introduction, label_of}
+use Rattle.xa_commands.specs.declared.service.Served.{Served}
+use Rattle.xa_commands.specs.declared.service.Served.TheVariants.{InUse, Closed, BrokenOff}
 use Rattle.xa_server.specs.NamedLines.{BreaksSessionUnder, ServesUnder}
 use Rattle.xa_server.specs.Replies.{greeting_of}
 use Rattle.xa_server.specs.declared.server.Server.{Server}
@@ -49,12 +63,58 @@ module _ {L : Type 0} (logs : DecisionLog.Ghosts L) (name : List ℕ) (threads r
   HasServed unread left written all log =
       (first : Server L) × (last : Server L) × (log ≡ log_in last.session.manager) × IsServed logs.moment name threads rms (logs.moment handed) unread left written all first last
 
-  abbrev pub HasServedSome : (unread left written all : Option (List ℕ)) → Type 0
-  HasServedSome unread left written all = (log : L) × HasServed unread left written all log
-
   -- none started over it, or its session was broken off
   abbrev pub HasFailed : (unread written all : Option (List ℕ)) → Failure → Type 0
   HasFailed unread written all failure =
       StartsNot logs handed written all failure
       ⊎ ((first : Server L) × (last : Server L)
       × IsBrokenOff logs.moment name threads rms (logs.moment handed) unread written all first last)
+
+-- ** over files
+
+-- A log over files that held this image as they were opened, for whoever has this label: it is in order, if they held a log or nothing, and
+-- has their content, as far as they have been honest.
+pub record OpensAs {L : Type 0} (moment : L → Moment) (image : Image) (label : List ℕ) (log : L) : Type 0 where
+  pub order : HoldsLog image → MakesLabelled label image → (moment log).is_in_order
+  pub held : (c : Content) → HoldsContent c image → MakesLabelled label image → (moment log).is_honest → (moment log).content ≡ Some c
+
+-- the log was closed: the files hold the whole of it, as far as they have been honest
+abbrev pub IsClosedInto : {D L : Type 0} → Ghosts D → (L → Moment) → L → Files D → Type 0
+IsClosedInto disk moment log files =
+    (moment log).is_in_order → AreClean disk files.log files.db → (c : Content) → (moment log).content ≡ Some c → HoldsWhole c (image_of disk files)
+
+module _ {D L : Type 0} (disk : Ghosts D) (logs : DecisionLog.Ghosts L) (name : List ℕ) (threads rms : ℕ) (handed : L) where
+  -- a coordinator served a driver over a log in files; where that could then be closed, the files hold what the session left
+  abbrev pub HasServedFiles : (unread left written all : Option (List ℕ)) → (closed : Result (Unit {0}) LogFault) → Type 0
+  HasServedFiles unread left written all closed =
+      (log : L) × HasServed logs name threads rms handed unread left written all log
+      × OnOk closed ((files : Files D) × IsClosedInto disk logs.moment log files)
+
+  module _ (rm_names : List (List ℕ)) where
+    -- the same, behind the line with its names
+    abbrev pub HasServedNamed : (unread left written all : Option (List ℕ)) → (closed : Result (Unit {0}) LogFault) → Type 0
+    HasServedNamed unread left written all closed =
+        (mid : Option (List ℕ)) × Appends written mid (introduction name rm_names) × HasServedFiles unread left mid all closed
+
+    -- the line was written in part, or such a session broke off, or none began
+    abbrev pub HasFailedNamed : (unread written all : Option (List ℕ)) → Failure → Type 0
+    HasFailedNamed unread written all failure =
+        AppendsBeginning written all (introduction name rm_names)
+        ⊎ ((mid : Option (List ℕ)) × Appends written mid (introduction name rm_names) × HasFailed logs name threads rms handed unread mid all failure)
+
+-- what came of a service, by how it ended
+abbrev pub Ends : Served → (another : Type 0) → (Result (Unit {0}) LogFault → Type 0) → (Failure → Type 0) → Type 0
+Ends InUse another P Q = another
+Ends (Closed closed) another P Q = P closed
+Ends (BrokenOff failure) another P Q = Q failure
+
+module _ {D L : Type 0} (disk : Ghosts D) (logs : DecisionLog.Ghosts L) (image : Image) (name : List ℕ) (rm_names : List (List ℕ)) (threads rms : ℕ) where
+  -- What came of a service over files that held this image: nothing, where another process has them; or a session over the log that they
+  -- held, which went to its end or was broken off.
+  abbrev pub HasServedFrom : (unread left written all : Option (List ℕ)) → Served → Type 0
+  HasServedFrom unread left written all served =
+      Ends served (Keeps written all)
+      (λ closed. (handed : L) × OpensAs logs.moment image (label_of name rm_names) handed
+      × HasServedNamed disk logs name threads rms handed rm_names unread left written all closed)
+      (λ failure. (handed : L) × OpensAs logs.moment image (label_of name rm_names) handed
+      × HasFailedNamed disk logs name threads rms handed rm_names unread written all failure)

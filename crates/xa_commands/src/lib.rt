@@ -27,5 +27,5 @@ pub use jobs::run_threads;
 pub use lists::{list, list_as_json};
 pub use logs::{HostLog, broken_off, leave, open_unnamed};
 pub use made_logs::make_log;
-pub use service::{serve, serve_in_files};
+pub use service::{Served, Service, serve, serve_from, serve_in_files};
 pub use stores::close_in_files;

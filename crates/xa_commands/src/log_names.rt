@@ -73,7 +73,7 @@ pub(crate) fn refuse_half(rt: &HostRuntime, path: &str) -> Result<(), Failure> {
 }
 
 /// The failure of a log of which only a part is there.
-fn half(alloc: Global, path: &str) -> Failure {
+pub(crate) fn half(alloc: Global, path: &str) -> Failure {
     let told = format!(in alloc;
         "{path}: the file is missing or empty, and {path}-wal is what is left of it: put the \
         file back, since a new log would roll back what is decided"
@@ -85,7 +85,7 @@ fn half(alloc: Global, path: &str) -> Failure {
 }
 
 /// Why a log of these names is refused to others.
-fn refusal(
+pub(crate) fn refusal(
     alloc: Global,
     path: &str,
     fault: NameFault,
@@ -130,33 +130,6 @@ fn name_at<'a>(names: &[&'a str], number: usize) -> &'a str {
     names.iter().skip(1).nth(number).copied().unwrap_or("")
 }
 
-/// Gives a log that isn't there yet to the manager and the resource managers of these names, and refuses one that is another's,
-/// or of which only a part is there.
-pub(crate) fn claim_log(
-    rt: &HostRuntime,
-    path: &str,
-    name: &ManagerName,
-    rms: &[&str],
-) -> Result<(), Failure> {
-    refuse_half(rt, path)?;
-    let alloc = rt.alloc();
-    let given = label_of(alloc, name, rms)?;
-    match SqlLog::label(rt, path) {
-        Ok(Some(kept)) => compare(alloc, path, kept.as_str(), given.as_str()),
-        Ok(None) if given.is_empty() => Ok(()),
-        Ok(None) => make_labelled(rt, path, given.as_str()),
-        Err(fault) => Err(opening_failure(rt, path, fault)),
-    }
-}
-
-/// Refuses a log whose label has other names.
-fn compare(alloc: Global, path: &str, kept: &str, given: &str) -> Result<(), Failure> {
-    match verdict(alloc, kept, given)? {
-        Ok(()) => Ok(()),
-        Err(fault) => Err(refusal(alloc, path, fault, kept, given)?),
-    }
-}
-
 /// Makes an empty log with a label.
 pub(crate) fn make_labelled(rt: &HostRuntime, path: &str, label: &str) -> Result<(), Failure> {
     SqlLog::make(rt, path, label).map_err(|fault| opening_failure(rt, path, fault))
@@ -170,7 +143,11 @@ fn names_in(alloc: Global, label: &str) -> Result<Vec<&str>, AllocError>
 }
 
 /// Whether a log with this label may be opened by whoever has the other one, and why not.
-fn verdict(alloc: Global, kept: &str, given: &str) -> Result<Result<(), NameFault>, AllocError>
+pub(crate) fn verdict(
+    alloc: Global,
+    kept: &str,
+    given: &str,
+) -> Result<Result<(), NameFault>, AllocError>
     ensures opened { IfOk result (λ verdict. OnOk verdict (MayOpen kept.now given.now)) }
     ensures refused { IfOk result (λ verdict.
         IfErr verdict (λ _. MayOpen kept.now given.now → ⊥)) }

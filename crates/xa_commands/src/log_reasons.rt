@@ -7,6 +7,7 @@ use crate::stores::{Spent, work_in_files};
 use sqlite::{Connection, Error, ErrorCode, Unknown};
 use std::alloc::Global;
 use std::fs;
+use std::io::{self, Read};
 use std::path::Path;
 use xa_files::RunFault;
 use xa_log::LogFault;
@@ -26,13 +27,18 @@ fn failed(alloc: Global, path: &str, reason: &str) -> Result<Failure, Failure> {
     Ok(Failure::Failed(format!(in alloc; "{path}: {reason}")?))
 }
 
+/// The failure of a log that another process has.
+pub(crate) fn in_use(alloc: Global, path: &str) -> Failure {
+    match failed(alloc, path, "in use by another process") {
+        Ok(failure) | Err(failure) => failure,
+    }
+}
+
 /// What the store's own reason is to the log at a path.
 pub(crate) fn store_failure(alloc: Global, path: &str, error: &Error) -> Result<Failure, Failure> {
     match error {
         Error::SqliteFailure(ErrorCode::OutOfMemory) => Ok(Failure::Run(RunFault::Memory)),
-        Error::SqliteFailure(ErrorCode::DatabaseBusy) => {
-            failed(alloc, path, "in use by another process")
-        }
+        Error::SqliteFailure(ErrorCode::DatabaseBusy) => { Ok(in_use(alloc, path)) }
         Error::SqliteFailure(ErrorCode::DiskFull) => failed(alloc, path, "the disk is full"),
         Error::SqliteFailure(ErrorCode::SystemIoFailure) => {
             failed(alloc, path, "the disk failed, or refuses a write")
@@ -53,6 +59,15 @@ fn has_folder(rt: &HostRuntime, path: &str) -> bool {
     }
 }
 
+/// The first bytes of the file at a path, as many as a file of SQLite begins with.
+fn beginning_of(rt: &HostRuntime, path: &str) -> io::Result<Vec<u8>> {
+    let mut bytes = Vec::new(rt.alloc());
+    fs::open(rt, path)?
+        .take(SQLITE.len() as u64)
+        .read_to_end(&mut bytes)?;
+    Ok(bytes)
+}
+
 /// Why the system refuses the path of a log, if it does, or why what lies there is none.
 fn path_failure(rt: &HostRuntime, path: &str) -> Result<Option<Failure>, Failure> {
     let alloc = rt.alloc();
@@ -70,12 +85,35 @@ fn path_failure(rt: &HostRuntime, path: &str) -> Result<Option<Failure>, Failure
     if found.is_dir() {
         return Ok(Some(refused(alloc, path, "that is a folder")?));
     }
-    match fs::read(rt, path) {
+    if !found.is_file() {
+        return Ok(Some(refused(alloc, path, "that is no path of a file")?));
+    }
+    match beginning_of(rt, path) {
         Ok(bytes) if bytes.len() > 1 && !bytes.starts_with(SQLITE) => {
             Ok(Some(refused(alloc, path, NO_LOG)?))
         }
         Ok(_) => Ok(None),
         Err(error) => Ok(Some(system_failure(alloc, path, &error))),
+    }
+}
+
+/// Whether the file at a path has a journal.
+fn has_journal(rt: &HostRuntime, path: &str) -> Result<bool, Failure> {
+    let Ok(real) = fs::canonicalize(rt, path) else {
+        return Ok(false);
+    };
+    let journal = format!(in rt.alloc(); "{}-wal", real.as_str())?;
+    Ok(fs::exists(rt, journal.as_str()).unwrap_or(true))
+}
+
+/// Why there can be no log at a path, if that is so, and no journal lies beside it: an open would make one. Beside a journal what
+/// lies there may be a log's all the same, since a crash may tear what is copied into the file.
+pub(crate) fn place_failure(rt: &HostRuntime, path: &str) -> Result<Option<Failure>, Failure> {
+    match path_failure(rt, path)? {
+        // Want of memory is no matter of the path.
+        Some(Failure::Run(fault)) => Err(Failure::Run(fault)),
+        Some(failure) if !has_journal(rt, path)? => Ok(Some(failure)),
+        _ => Ok(None),
     }
 }
 

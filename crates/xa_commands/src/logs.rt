@@ -1,26 +1,165 @@
 //! The log at a path: how it is opened, and left.
 
+ghost use Rattle.std.specs.Prelude.{IfOk, IfSome};
+ghost use Rattle.sqlite_wal.specs.Files.{image_at};
+ghost use Rattle.xa_commands.specs.Services.{OpensAs};
+
 use crate::failure::Failure;
-use crate::log_names::claim_log;
-use crate::log_reasons::{opening_failure, running_failure};
+use crate::log_names::{half, refusal, verdict};
+use crate::log_reasons::{in_use, opening_failure, place_failure, running_failure};
 use crate::stores::close_in_files;
-use sqlite::{FileFrom, FileStore, Unknown};
-use xa_log::LogFault;
-use xa_names::ManagerName;
-use xa_sql_log::SqlLog;
+use sqlite::{FileFrom, FileStore, Start, Unknown};
+use std::alloc::AllocError;
+use std::fs;
+use std::thread::sleep;
+use std::time::Duration;
+use xa_log::{DecisionLog, LogFault};
+use xa_names::NameFault;
+use xa_sql_log::{LockFault, SqlLog};
 
 /// A log in a file of the host.
 pub type HostLog = SqlLog<FileStore<FileFrom<Unknown>>>;
 
-/// Opens the log at a path, or makes it.
-pub(crate) fn open_log(rt: &HostRuntime, path: &str) -> Result<HostLog, Failure> {
-    SqlLog::open(rt, path).map_err(|fault| opening_failure(rt, path, fault))
+/// How often a start tries to open a log that another process has, and how long it waits then. A look has a log for some
+/// milliseconds, and a coordinator that ends has it no longer.
+pub(crate) const MOST_TRIES: u32 = 20;
+
+const PAUSE_MILLISECONDS: u64 = 50;
+
+/// Why the log at a path isn't opened for a manager.
+#[derive(Drop)]
+enum ClaimFault {
+    /// Another process has it.
+    InUse,
+    /// Only a part of it is there.
+    Half,
+    /// It has this label, and so it is another's.
+    Names(String, NameFault),
+    /// It can't be opened.
+    Log(LogFault),
+}
+
+impl From<LogFault> for ClaimFault {
+    fn from(fault: LogFault) -> ClaimFault {
+        ClaimFault::Log(fault)
+    }
+}
+
+impl From<AllocError> for ClaimFault {
+    fn from(_error: AllocError) -> ClaimFault {
+        ClaimFault::Log(LogFault::Memory)
+    }
+}
+
+/// Waits, while another process has the log.
+pub(crate) fn pause(rt: &HostRuntime) {
+    // It is tried again in any case.
+    let _slept = sleep(rt, Duration::from_millis(PAUSE_MILLISECONDS));
+}
+
+/// Refuses a log whose file is gone, of which the journal is still there. The file of a log that is being made is there before its
+/// journal: so it is looked for once more when that was found.
+fn check_journal(rt: &HostRuntime, path: &str) -> Result<(), ClaimFault> {
+    if SqlLog::is_half(rt, path)? && !fs::exists(rt, path).unwrap_or(true) {
+        return Err(ClaimFault::Half);
+    }
+    Ok(())
+}
+
+/// Refuses a log that is another's, or of which only a part is there. Its files are locked meanwhile.
+fn check_claim(rt: &HostRuntime, path: &str, label: &str) -> Result<(), ClaimFault> {
+    if SqlLog::is_half(rt, path)? {
+        return Err(ClaimFault::Half);
+    }
+    let Some(kept) = SqlLog::label(rt, path)? else {
+        return Ok(());
+    };
+    match verdict(rt.alloc(), kept.as_str(), label)? {
+        Ok(()) => Ok(()),
+        Err(fault) => Err(ClaimFault::Names(kept, fault)),
+    }
+}
+
+/// Opens the log at a path for whoever has this label, or makes it with the label. What the log keeps is looked at under the lock
+/// that it then has.
+fn claim_log<S: Start>(
+    rt: &HostRuntime,
+    path: &str,
+    start: S,
+    label: &str,
+) -> Result<SqlLog<FileStore<FileFrom<S>>>, ClaimFault>
+    ensures { IfOk result (OpensAs ⟦<SqlLog<FileStore<FileFrom<S>>> as DecisionLog>⟧.moment
+        (image_at S.Start) label.now) }
+{
+    check_journal(rt, path)?;
+    let files = match SqlLog::lock(rt, path, start) {
+        Ok(files) => files,
+        Err(LockFault::InUse) => return Err(ClaimFault::InUse),
+        Err(LockFault::Log(fault)) => return Err(ClaimFault::Log(fault)),
+    };
+    check_claim(rt, path, label)?;
+    match SqlLog::open_locked(rt, files, label) {
+        Ok(log) => Ok(log),
+        Err(fault) => Err(ClaimFault::Log(fault)),
+    }
+}
+
+/// The failure of a log that isn't opened for whoever has this label, if another process doesn't have it.
+fn claim_failure(
+    rt: &HostRuntime,
+    path: &str,
+    label: &str,
+    fault: ClaimFault,
+) -> Result<Option<Failure>, Failure> {
+    let alloc = rt.alloc();
+    match fault {
+        ClaimFault::InUse => Ok(None),
+        ClaimFault::Half => Ok(Some(half(alloc, path))),
+        ClaimFault::Names(kept, fault) => Ok(Some(refusal(
+            alloc,
+            path,
+            fault,
+            kept.as_str(),
+            label,
+        )?)),
+        ClaimFault::Log(fault) => Ok(Some(opening_failure(rt, path, fault))),
+    }
+}
+
+/// Opens the log at a path for whoever has this label, or makes it, unless another process has it. One that is another's is refused,
+/// and so is half of a log. Of a path at which no log can be, nothing is made there.
+pub(crate) fn open_claimed<S: Start>(
+    rt: &HostRuntime,
+    path: &str,
+    start: S,
+    label: &str,
+) -> Result<Option<SqlLog<FileStore<FileFrom<S>>>>, Failure>
+    ensures { IfOk result (λ opened. IfSome opened (OpensAs
+        ⟦<SqlLog<FileStore<FileFrom<S>>> as DecisionLog>⟧.moment (image_at S.Start) label.now)) }
+{
+    if let Some(failure) = place_failure(rt, path)? {
+        return Err(failure);
+    }
+    let fault = match claim_log(rt, path, start, label) {
+        Ok(log) => return Ok(Some(log)),
+        Err(fault) => fault,
+    };
+    match claim_failure(rt, path, label, fault)? {
+        Some(failure) => Err(failure),
+        None => Ok(None),
+    }
 }
 
 /// Opens the log at a path, or makes it, for a manager without a name. One that keeps a name is refused, and so is half of a log.
+/// While another process has it, this waits for a second.
 pub fn open_unnamed(rt: &HostRuntime, path: &str) -> Result<HostLog, Failure> {
-    claim_log(rt, path, &ManagerName::none(), &[])?;
-    open_log(rt, path)
+    for _ in 0..MOST_TRIES {
+        if let Some(log) = open_claimed(rt, path, Unknown, "")? {
+            return Ok(log);
+        }
+        pause(rt);
+    }
+    Err(in_use(rt.alloc(), path))
 }
 
 /// What comes of a run that went to its end, by how its log was closed. A log that has failed can't be: it is opened anew for that.

@@ -1,16 +1,19 @@
 //! What is done for a driver, over a log in any store, over one in files, and over the log at a path.
 
-ghost use Rattle.std.specs.Prelude.{◌≡◌, IfErr, IfOk, OnOk};
+ghost use Rattle.std.specs.Prelude.{◌≡◌, [], map, option_map, unwrap_or, IfErr, IfOk, OnOk, Ok};
+ghost use Rattle.sqlite_disk.specs.declared.Files.{Files};
 ghost use Rattle.std.specs.Io.Buffered.{reader_remaining};
+ghost use Rattle.sqlite_wal.specs.Files.{image_at};
 ghost use Rattle.xa_commands.specs.Failures.{failure_status};
-ghost use Rattle.xa_commands.specs.Services.{HasFailed, HasServed, HasServedSome};
+ghost use Rattle.xa_commands.specs.Names.{MayName, name_given};
+ghost use Rattle.xa_commands.specs.Services.{HasFailed, HasFailedNamed, HasServed, HasServedFiles, HasServedFrom, HasServedNamed, IsClosedInto};
 
 use crate::failure::Failure;
 use crate::introduction::introduce;
-use crate::log_names::{check_rm_names, claim_log, manager_named};
-use crate::logs::{broken_off, leave, open_log};
-use crate::stores::close_in_files;
-use sqlite::FileStore;
+use crate::log_names::{check_rm_names, label_of, manager_named};
+use crate::log_reasons::in_use;
+use crate::logs::{MOST_TRIES, broken_off, leave, open_claimed, pause};
+use sqlite::{FileFrom, FileStore, Start, Unknown};
 use sqlite_disk::Disk;
 use std::alloc::Global;
 use std::io::{self, BufReader, BufWriter, Input, Read, Write};
@@ -19,6 +22,28 @@ use xa_log::{DecisionLog, LogFault};
 use xa_names::ManagerName;
 use xa_server::Server;
 use xa_sql_log::SqlLog;
+
+/// What a service is asked to be: the coordinator of a driver of so many threads and resource managers, over the log at a path; of a
+/// name, if one is given, and with the names of its resource managers, if these are.
+#[derive(Clone, Copy)]
+pub struct Service<'b, 'a> {
+    pub name: Option<&'a str>,
+    pub rm_names: &'b [&'a str],
+    pub log: &'a str,
+    pub threads: u32,
+    pub rms: u32,
+}
+
+/// What came of a service whose names are names.
+#[derive(Drop)]
+pub enum Served {
+    /// Another process has the log. Nothing was read or written.
+    InUse,
+    /// The session went to its end, and this says whether the log could be closed.
+    Closed(Result<(), LogFault>),
+    /// The session ended early, for this reason.
+    BrokenOff(Failure),
+}
 
 /// Serves a driver of so many threads and resource managers over a log, as the manager of this name, until it quits or its
 /// requests end, and gives the log back.
@@ -43,6 +68,17 @@ pub(crate) fn serve_over<L: DecisionLog + Drop, R: Read, W: Write>(
     Ok(server.into_log())
 }
 
+/// Copies the journal of a log into its file, and closes both.
+fn closed_into<D: Disk + Drop>(log: SqlLog<FileStore<D>>) -> Result<(), LogFault>
+    ensures { OnOk result ((files : Files D) × IsClosedInto D.Disk
+        ⟦<SqlLog<FileStore<D>> as DecisionLog>⟧.moment log files) }
+{
+    match log.close_files() {
+        Ok(_files) => Ok(()),
+        Err((fault, _store)) => Err(fault),
+    }
+}
+
 /// The same over files, which are closed then. Tells why the session ended early, or whether the log could be closed.
 pub fn serve_in_files<D: Disk + Drop, R: Read, W: Write>(
     alloc: Global,
@@ -53,7 +89,7 @@ pub fn serve_in_files<D: Disk + Drop, R: Read, W: Write>(
     input: &mut BufReader<R>,
     out: &mut W,
 ) -> Result<Result<(), LogFault>, Failure>
-    ensures served { OnOk result (HasServedSome ⟦<SqlLog<FileStore<D>> as DecisionLog>⟧
+    ensures served { IfOk result (HasServedFiles D.Disk ⟦<SqlLog<FileStore<D>> as DecisionLog>⟧
         name.now threads rms log
         (reader_remaining R.remaining input.old) (reader_remaining R.remaining input.new)
         (W.contents out.old) (W.contents out.new)) }
@@ -63,38 +99,70 @@ pub fn serve_in_files<D: Disk + Drop, R: Read, W: Write>(
     ensures status { IfErr result (λ failure. failure_status failure ≡ 2) }
 {
     match serve_over(alloc, name, threads, rms, log, input, out) {
-        Ok(log) => Ok(close_in_files(log)),
+        Ok(log) => Ok(closed_into(log)),
         Err(failure) => Err(failure),
     }
 }
 
-/// Serves the driver behind standard input and output, of so many threads and resource managers, over the log at a path; as the
-/// manager of a name, where one is given, and with the names of the resource managers, where there are some. They stand in what the
-/// driver is told first.
-pub fn serve(
-    rt: &HostRuntime,
-    name: Option<&str>,
-    rm_names: &[&str],
-    log: &str,
-    threads: u32,
-    rms: u32,
-) -> Result<(), Failure> {
-    check_rm_names(rm_names, rms)?;
-    let name = manager_named(name)?;
-    claim_log(rt, log, &name, rm_names)?;
-    // Nothing is buffered: it goes out in one text.
-    introduce(rt.alloc(), &name, rm_names, &mut io::writer(rt))?;
-    serve_at(rt, &name, log, threads, rms)
+/// The same behind the line that has the names, where there are some.
+fn serve_named<D: Disk + Drop, R: Read, W: Write>(
+    alloc: Global,
+    name: &ManagerName,
+    service: &Service<'_, '_>,
+    log: SqlLog<FileStore<D>>,
+    input: &mut BufReader<R>,
+    out: &mut W,
+) -> Result<Result<(), LogFault>, Failure>
+    ensures served { IfOk result (HasServedNamed D.Disk ⟦<SqlLog<FileStore<D>> as DecisionLog>⟧
+        name.now service.now.threads service.now.rms log
+        (map (λ rm. rm.now) service.now.rm_names.now)
+        (reader_remaining R.remaining input.old) (reader_remaining R.remaining input.new)
+        (W.contents out.old) (W.contents out.new)) }
+    ensures broken { IfErr result (HasFailedNamed D.Disk ⟦<SqlLog<FileStore<D>> as DecisionLog>⟧
+        name.now service.now.threads service.now.rms log
+        (map (λ rm. rm.now) service.now.rm_names.now)
+        (reader_remaining R.remaining input.old) (W.contents out.old) (W.contents out.new)) }
+{
+    introduce(alloc, name, service.rm_names, out)?;
+    serve_in_files(alloc, name, service.threads, service.rms, log, input, out)
 }
 
-/// Serves that driver over the log at a path, which is this manager's.
-fn serve_at(
+/// Opens the log of a service, or makes it, serves the driver behind `input` and `out` over it, and closes it. `start` stands for
+/// what the files of the log hold as they are opened; the contract speaks of each such start.
+pub fn serve_from<S: Start, R: Read, W: Write>(
     rt: &HostRuntime,
-    name: &ManagerName,
-    log: &str,
-    threads: u32,
-    rms: u32,
-) -> Result<(), Failure> {
+    service: &Service<'_, '_>,
+    start: S,
+    input: &mut BufReader<R>,
+    out: &mut W,
+) -> Result<Served, Failure>
+    ensures name { IfOk result (λ _. name_given (option_map (λ name. name.now) service.now.name)
+        ≡ Ok (unwrap_or (option_map (λ name. name.now) service.now.name) [])) }
+    ensures names { IfOk result (λ _. MayName service.now.rms service.now.rm_names.now) }
+    ensures served { IfOk result (HasServedFrom ⟦<FileFrom<S> as Disk>⟧
+        ⟦<SqlLog<FileStore<FileFrom<S>>> as DecisionLog>⟧ (image_at S.Start)
+        (unwrap_or (option_map (λ name. name.now) service.now.name) [])
+        (map (λ rm. rm.now) service.now.rm_names.now) service.now.threads service.now.rms
+        (reader_remaining R.remaining input.old) (reader_remaining R.remaining input.new)
+        (W.contents out.old) (W.contents out.new)) }
+{
+    let alloc = rt.alloc();
+    check_rm_names(service.rm_names, service.rms)?;
+    let name = manager_named(service.name)?;
+    let label = label_of(alloc, &name, service.rm_names)?;
+    let log = match open_claimed(rt, service.log, start, label.as_str()) {
+        Ok(Some(log)) => log,
+        Ok(None) => return Ok(Served::InUse),
+        Err(failure) => return Err(failure),
+    };
+    match serve_named(alloc, &name, service, log, input, out) {
+        Ok(closed) => Ok(Served::Closed(closed)),
+        Err(failure) => Ok(Served::BrokenOff(failure)),
+    }
+}
+
+/// Serves the driver behind standard input and output. While another process has the log, this waits for a second.
+pub fn serve(rt: &HostRuntime, service: &Service<'_, '_>) -> Result<(), Failure> {
     let alloc = rt.alloc();
     let mut input = BufReader::new(alloc, rt.reader()).map_err(|error| Failure::Input.caused_by(
         &error,
@@ -102,15 +170,20 @@ fn serve_at(
     let mut out = BufWriter::new(alloc, io::writer(rt)).map_err(|error| Failure::Run(
         RunFault::Output,
     ).caused_by(&error))?;
-    let opened = open_log(rt, log)?;
-    let served = serve_in_files(alloc, name, threads, rms, opened, &mut input, &mut out);
-    let flushed = out.flush();
-    match served {
-        Ok(closed) => {
-            let left = leave(rt, log, closed);
-            flushed.map_err(|_| Failure::Run(RunFault::Output))?;
-            left
+    for _ in 0..MOST_TRIES {
+        match serve_from(rt, service, Unknown, &mut input, &mut out)? {
+            Served::InUse => pause(rt),
+            Served::Closed(closed) => {
+                let flushed = out.flush();
+                let left = leave(rt, service.log, closed);
+                flushed.map_err(|_| Failure::Run(RunFault::Output))?;
+                return left;
+            }
+            Served::BrokenOff(failure) => {
+                let _unwritten = out.flush();
+                return Err(broken_off(rt, service.log, failure));
+            }
         }
-        Err(failure) => Err(broken_off(rt, log, failure)),
     }
+    Err(in_use(alloc, service.log))
 }

@@ -107,13 +107,7 @@ fn perform<T: Threads + Wait + Clock + Sync>(
             let source = Source::of(file, &text, FileKind::Jobs);
             run_threads(rt, threads, source, log, &mut out)
         }
-        Command::Serve {
-            name,
-            rm_names,
-            log,
-            threads,
-            rms,
-        } => { serve(rt, name, rm_names.unwrap_or(&[]), log, threads, rms) }
+        Command::Serve(service) => serve(rt, &service),
         Command::Log {
             path,
             explains,

@@ -1,0 +1,25 @@
+use Rattle.std.proofs.Common.{Ok, Err, Result, IfErr, inl, inr}
+use Rattle.std.proofs.lemmas.Result.{err_from_is_err_and}
+use Rattle.xa_log.proofs.Parts.{if_ok}
+use Rattle.xa_commands.proofs.service.serve_named.Goals as goal
+
+if_err : {A E : Type 0} (r : Result A E) (P Q : E → Type 0) → ((e : E) → P e → Q e) → IfErr r P → IfErr r Q
+if_err (Ok x) P Q gives h = tt
+if_err (Err e) P Q gives h = gives e h
+
+pub returns-in_err-introduce-clause-broken : goal.returns-in_err-introduce-clause-broken
+returns-in_err-introduce-clause-broken g c =
+    let p = err_from_is_err_and c.from_residual.result c.from_residual.ensures.1 in
+    rw p.1 (inl c.in_err-introduce.ensures.begun)
+
+pub returns-clause-served : goal.returns-clause-served
+returns-clause-served g c =
+    if_ok c.serve_in_files.result _ _
+    (λ closed served. (g.W.Write.contents c.introduce.new.out, c.in_ok-introduce.ensures.told, served))
+    c.serve_in_files.ensures.served
+
+pub returns-clause-broken : goal.returns-clause-broken
+returns-clause-broken g c =
+    if_err c.serve_in_files.result _ _
+    (λ failure failed. inr (g.W.Write.contents c.introduce.new.out, c.in_ok-introduce.ensures.told, failed))
+    c.serve_in_files.ensures.broken
