@@ -1,6 +1,6 @@
 //! What is done for a driver, over a log in any store, over one in files, and over the log at a path.
 
-ghost use Rattle.std.specs.Prelude.{◌≡◌, [], map, option_map, unwrap_or, IfErr, IfOk, OnOk, Ok};
+ghost use Rattle.std.specs.Prelude.{◌≡◌, ℕ, List, map, option_map, IfErr, IfOk, OnOk, Ok};
 ghost use Rattle.sqlite_disk.specs.declared.Files.{Files};
 ghost use Rattle.std.specs.Io.Buffered.{reader_remaining};
 ghost use Rattle.sqlite_wal.specs.Files.{image_at};
@@ -136,15 +136,14 @@ pub fn serve_from<S: Start, R: Read, W: Write>(
     input: &mut BufReader<R>,
     out: &mut W,
 ) -> Result<Served, Failure>
-    ensures name { IfOk result (λ _. name_given (option_map (λ name. name.now) service.now.name)
-        ≡ Ok (unwrap_or (option_map (λ name. name.now) service.now.name) [])) }
     ensures names { IfOk result (λ _. MayName service.now.rms service.now.rm_names.now) }
-    ensures served { IfOk result (HasServedFrom ⟦<FileFrom<S> as Disk>⟧
-        ⟦<SqlLog<FileStore<FileFrom<S>>> as DecisionLog>⟧ (image_at S.Start)
-        (unwrap_or (option_map (λ name. name.now) service.now.name) [])
+    ensures served { IfOk result (λ served. (name : List ℕ) ×
+        (name_given (option_map (λ name. name.now) service.now.name) ≡ Ok name) ×
+        HasServedFrom ⟦<FileFrom<S> as Disk>⟧
+        ⟦<SqlLog<FileStore<FileFrom<S>>> as DecisionLog>⟧ (image_at S.Start) name
         (map (λ rm. rm.now) service.now.rm_names.now) service.now.threads service.now.rms
         (reader_remaining R.remaining input.old) (reader_remaining R.remaining input.new)
-        (W.contents out.old) (W.contents out.new)) }
+        (W.contents out.old) (W.contents out.new) served) }
 {
     let alloc = rt.alloc();
     check_rm_names(service.rm_names, service.rms)?;
