@@ -5,10 +5,13 @@ use Rattle.std.specs.Bool.{MatchBool}
 use Rattle.std.specs.Borrow.{Bor}
 use Rattle.std.specs.Prelude.{codes, slice_get, IsSomeAnd, None}
 use Rattle.std.specs.Str.Pattern.{FindsTextPrefix, HasPrefixMatch}
+use Rattle.std.specs.List.{AllWithin}
+use Rattle.std.specs.Str.{bytes_eq}
 use Rattle.std.proofs.lemmas.Bool.{true≢false}
+use Rattle.std.proofs.lemmas.List.Quantifiers.{all_pairs_push}
 use Rattle.std.proofs.lemmas.List.{length-map, map-append, take-append-drop, take_all, take_more}
 use Rattle.xa_names.specs.Names.{is_manager_name}
-use Rattle.xa_restore.specs.Headings.{IsFaultBehind, IsHeadingOf, IsWrongLine, name_line, name_lines, rm_line, rm_lines, rm_lines_from}
+use Rattle.xa_restore.specs.Headings.{AreApart, IsFaultBehind, IsHeadingOf, IsWrongLine, name_line, name_lines, rm_line, rm_lines, rm_lines_from}
 use Rattle.xa_restore.specs.declared.faults.LineFault.TheVariants as Faults
 use Rattle.xa_restore.specs.declared.faults.RestoreFault.TheVariants.{Line}
 
@@ -101,3 +104,14 @@ rm_fault lines at first d r short cases is =
       subst (λ n. IsSomeAnd (slice_get (texts lines) n) (IsWrongLine Faults.Rm)) same
           (here (IsWrongLine Faults.Rm) lines at d short (begins r _ cases is)),
     )
+
+-- ** names of which none comes twice
+
+-- one more that is none of them
+pub apart_more : (rms slice more : List (Bor (List ℕ))) (rm : Bor (List ℕ)) → AreApart rms → slice ≡ rms
+    → AllWithin (λ (y : Bor (List ℕ)). bytes_eq y.now rm.now ≡ false) slice 0 (length slice) → more ≡ rms ++ rm ∷ [] → AreApart more
+apart_more rms slice more rm apart same others is =
+    let Others : List (Bor (List ℕ)) → Type 0 = λ s. AllWithin (λ (y : Bor (List ℕ)). bytes_eq y.now rm.now ≡ false) s 0 (length s) in
+    let all = subst Others same others in
+    subst AreApart (sym is)
+    (all_pairs_push (λ a b. bytes_eq a.now b.now ≡ false) rms rm apart (λ k d short. all k d (let low : 0 ≤ k = omega arith in low) short))

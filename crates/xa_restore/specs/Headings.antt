@@ -1,7 +1,9 @@
 -- The names that the lines of a log begin with.
-use Rattle.std.specs.Prelude.{◌≡◌, ◌&&◌, ◌≤◌, ℕ, ◌+◌, ◌-◌, Bool, true, nat_le, List, [], ◌∷◌, ◌++◌, codes, length, slice_get, IsSomeAnd}
+use Rattle.std.specs.Prelude.{◌≡◌, ◌&&◌, ◌≤◌, ℕ, ◌+◌, ◌-◌, Bool, false, true, nat_le, List, [], ◌∷◌, ◌++◌, codes, length, slice_get, IsSomeAnd}
 use Rattle.std.specs.Fmt.{decimal}
-use Rattle.std.specs.List.{list_all}
+use Rattle.std.specs.Borrow.{Bor}
+use Rattle.std.specs.List.{AllPairs, list_all}
+use Rattle.std.specs.Str.{bytes_eq}
 use Rattle.xa_names.specs.Names.{is_manager_name, is_manager_name_byte}
 use Rattle.xa_restore.specs.declared.faults.LineFault.{LineFault}
 use Rattle.xa_restore.specs.declared.faults.LineFault.TheVariants as lines
@@ -31,6 +33,10 @@ rm_lines = rm_lines_from 0
 abbrev pub name_lines : List ℕ → List (List ℕ)
 name_lines [] = []
 name_lines name = name_line name ∷ []
+
+-- no name comes twice
+abbrev pub AreApart : List (Bor (List ℕ)) → Type 0
+AreApart = AllPairs (λ a b. bytes_eq a.now b.now ≡ false)
 
 -- The lines begin with those of these names: that of the manager's, where it has one, and one for each resource manager.
 pub record IsHeadingOf (name : List ℕ) (rms : List (List ℕ)) (lines : List (List ℕ)) : Type 0 where

@@ -1,9 +1,9 @@
 -- The lines of a log.
-use Rattle.std.specs.Prelude.{◌≡◌, ℕ, List, [], ◌∷◌, ◌++◌, codes, length, map, Option, Some, None}
+use Rattle.std.specs.Prelude.{◌≡◌, false, ℕ, List, [], ◌∷◌, ◌++◌, codes, length, map, Option, Some, None}
 use Rattle.std.specs.Fmt.{decimal}
-use Rattle.std.specs.List.{AllByRecursion, flat_map}
+use Rattle.std.specs.List.{AllByRecursion, AllPairs, flat_map}
 use Rattle.std.specs.declared.cmp.Ordering.TheVariants.{Less}
-use Rattle.xa_base.specs.Branch.{gtrid_cmp, gtrid_text, xid_of_branch}
+use Rattle.xa_base.specs.Branch.{branch_eq, gtrid_cmp, gtrid_text, xid_of_branch}
 use Rattle.xa_base.specs.Xid.{text_of}
 use Rattle.xa_base.specs.declared.branch.Branch.{Branch}
 use Rattle.xa_base.specs.declared.branch.Gtrid.{Gtrid}
@@ -28,6 +28,10 @@ decision_row_line d = gtrid_text d.gtrid ++ codes " " ++ decimal (length d.parti
 -- the participants are branches of the transaction
 abbrev pub OwnsBranches : Decision → Type 0
 OwnsBranches d = AllByRecursion (λ b. b.gtrid ≡ d.gtrid) d.participants.items
+
+-- no branch is named twice
+abbrev pub AreOnce : List Branch → Type 0
+AreOnce = AllPairs (λ b c. branch_eq b c ≡ false)
 
 -- a transaction stands behind that of the line before it, if there is one
 abbrev pub StandsBehind : Option Gtrid → Gtrid → Type 0

@@ -4,7 +4,7 @@ ghost use Rattle.std.specs.Prelude.{◌≡◌, ◌++◌, ◌↔◌, IfOk, IfSome
 ghost use Rattle.std.specs.List.{AllByRecursion};
 ghost use Rattle.std.specs.String.{string_bytes};
 ghost use Rattle.xa_log.specs.Contract.{FitsRow};
-ghost use Rattle.xa_restore.specs.LogLines.{OwnsBranches, branch_word, branch_words, decision_row_line};
+ghost use Rattle.xa_restore.specs.LogLines.{AreOnce, OwnsBranches, branch_word, branch_words, decision_row_line};
 
 use crate::spelling::is_written;
 use std::alloc::Global;
@@ -52,15 +52,18 @@ fn gtrid_named(alloc: Global, word: &str) -> Result<Option<Gtrid>, Memory> {
     Ok(branch_named(text.as_str()).map(|branch| branch.gtrid))
 }
 
-/// The branches that words name, where each is one of the transaction.
+/// The branches that words name, where each is another one of the transaction.
 fn own_branches(alloc: Global, gtrid: Gtrid, words: &[&str]) -> Result<Option<Vec<Branch>>, Memory>
-    ensures { IfOk result (λ branches. IfSome branches (λ branches.
+    ensures own { IfOk result (λ branches. IfSome branches (λ branches.
         AllByRecursion (λ b. b.gtrid ≡ gtrid) branches.items)) }
+    ensures once { IfOk result (λ branches. IfSome branches (λ branches. AreOnce branches.items)) }
 {
     let mut branches = Vec::with_capacity(alloc, words.len())?;
     for word in words {
         match branch_named(word) {
-            Some(branch) if branch.gtrid == gtrid => branches.push(branch)?,
+            Some(branch) if branch.gtrid == gtrid && !branches.contains(&branch) => {
+                branches.push(branch)?;
+            }
             _ => return Ok(None),
         }
     }
@@ -69,7 +72,8 @@ fn own_branches(alloc: Global, gtrid: Gtrid, words: &[&str]) -> Result<Option<Ve
 
 /// What words say of a transaction and its participants, if they do.
 fn decision_in(alloc: Global, words: &[&str]) -> Result<Option<Decision>, Memory>
-    ensures { IfOk result (λ decision. IfSome decision OwnsBranches) }
+    ensures own { IfOk result (λ decision. IfSome decision OwnsBranches) }
+    ensures once { IfOk result (λ decision. IfSome decision (λ d. AreOnce d.participants.items)) }
 {
     let [gtrid, _count, branches @ ..] = words else {
         return Ok(None);
@@ -99,6 +103,7 @@ fn fits_row(gtrid: Gtrid) -> bool
 pub(crate) fn read_decision(alloc: Global, line: &str) -> Result<Option<Decision>, Memory>
     ensures line { IfOk result (λ decision. IfSome decision (λ d. line.now ≡ decision_row_line d)) }
     ensures own { IfOk result (λ decision. IfSome decision OwnsBranches) }
+    ensures once { IfOk result (λ decision. IfSome decision (λ d. AreOnce d.participants.items)) }
     ensures fits { IfOk result (λ decision. IfSome decision (λ d. FitsRow d.gtrid)) }
 {
     let words: Vec<&str> = line.split(' ').collect(alloc)?;

@@ -22,7 +22,7 @@ pub enum LineFault {
     Incarnation,
     /// It isn't the line of a decision.
     #[error("a decision is wanted: its transaction, how many participants it has, and these, \
-        each a branch of it by its identifier, all as `xatm log` prints them")]
+        each another branch of it by its identifier, all as `xatm log` prints them")]
     Decision,
     /// Its transaction doesn't come behind that of the line before it.
     #[error("its transaction is to come behind that of the line before it")]

@@ -1,8 +1,9 @@
 //! The names that the lines of a log begin with.
 
 ghost use Rattle.std.specs.Prelude.{◌≡◌, ◌≤◌, true, length, map, IfErr, IfOk, IfSome, take};
+ghost use Rattle.std.specs.List.{AllByRecursion};
 ghost use Rattle.xa_names.specs.Names.{is_manager_name};
-ghost use Rattle.xa_restore.specs.Headings.{IsFaultBehind, IsHeadingOf, IsWrongLine, is_rm_name, name_line, rm_line, rm_lines};
+ghost use Rattle.xa_restore.specs.Headings.{AreApart, IsFaultBehind, IsHeadingOf, IsWrongLine, is_rm_name, name_line, rm_line, rm_lines};
 
 use crate::faults::{LineFault, RestoreFault};
 use crate::spelling::is_written;
@@ -44,7 +45,8 @@ fn read_name(line: &str) -> Result<Option<ManagerName>, LineFault>
 
 /// The name of the resource manager of a number in the line that gives it.
 fn read_rm<'a>(alloc: Global, number: usize, line: &'a str) -> Result<Option<&'a str>, Memory>
-    ensures { IfOk result (λ rm. IfSome rm (λ rm. line.now ≡ rm_line number rm.now)) }
+    ensures named { IfOk result (λ rm. IfSome rm (λ rm. is_rm_name rm.now ≡ true)) }
+    ensures line { IfOk result (λ rm. IfSome rm (λ rm. line.now ≡ rm_line number rm.now)) }
 {
     let Some((_front, rm)) = line.rsplit_once(' ') else {
         return Ok(None);
@@ -69,6 +71,8 @@ fn read_rms<'a>(
     requires { first ≤ 2 }
     ensures lines { IfOk result (λ rms. map (λ line. line.now) (take (length rms.items) lines.now)
         ≡ rm_lines (map (λ rm. rm.now) rms.items)) }
+    ensures names { IfOk result (λ rms. AllByRecursion (λ rm. is_rm_name rm.now ≡ true) rms.items) }
+    ensures apart { IfOk result (λ rms. AreApart rms.items) }
     ensures fault { IfErr result (IsFaultBehind first (map (λ line. line.now) lines.now)) }
 {
     let mut rms: Vec<&'a str> = Vec::new(alloc);
@@ -90,6 +94,9 @@ fn read_rms<'a>(
 pub fn read_heading<'a>(alloc: Global, lines: &[&'a str]) -> Result<Heading<'a>, RestoreFault>
     ensures lines { IfOk result (λ h. IsHeadingOf h.name (map (λ rm. rm.now) h.rms.items)
         (map (λ line. line.now) lines.now)) }
+    ensures names { IfOk result (λ h.
+        AllByRecursion (λ rm. is_rm_name rm.now ≡ true) h.rms.items) }
+    ensures apart { IfOk result (λ h. AreApart h.rms.items) }
     ensures fault { IfErr result (IsFaultBehind 1 (map (λ line. line.now) lines.now)) }
 {
     let [first, rest @ ..] = lines else {

@@ -1,10 +1,10 @@
 //! The lines of a log.
 
-ghost use Rattle.std.specs.Prelude.{◌≡◌, ◌≤◌, ℕ, map, IfNone, IfOk, IfSome, None};
+ghost use Rattle.std.specs.Prelude.{◌≡◌, ◌<◌, ◌≤◌, ◌⊎◌, ℕ, map, IfNone, IfOk, IfSome, None, Some};
 ghost use Rattle.std.specs.List.{AllByRecursion};
 ghost use Rattle.xa_log.specs.Contract.{FitsRow};
 ghost use Rattle.xa_names.specs.Lines.{line_renamed};
-ghost use Rattle.xa_restore.specs.LogLines.{AreLogLinesOf, OwnsBranches, Rise, StandsBehind, decision_row_line, incarnation_line, last_behind};
+ghost use Rattle.xa_restore.specs.LogLines.{AreLogLinesOf, AreOnce, OwnsBranches, Rise, StandsBehind, decision_row_line, incarnation_line, last_behind};
 
 use crate::decision_line::read_decision;
 use crate::faults::{LineFault, RestoreFault};
@@ -54,6 +54,9 @@ fn read_incarnation(alloc: Global, line: &str) -> Result<Option<u64>, Memory>
 fn fault_of(gtrid: Gtrid, last: Option<Gtrid>, incarnation: u64) -> Option<LineFault>
     ensures started { IfNone result (gtrid.incarnation ≤ incarnation) }
     ensures behind { IfNone result (StandsBehind last gtrid) }
+    ensures later { result ≡ Some LineFault.Later → incarnation < gtrid.incarnation }
+    ensures order { result ≡ Some LineFault.Order → ¬ StandsBehind last gtrid }
+    ensures kind { IfSome result (λ fault. (fault ≡ LineFault.Later) ⊎ (fault ≡ LineFault.Order)) }
 {
     if gtrid.incarnation > incarnation {
         return Some(LineFault::Later);
@@ -84,6 +87,8 @@ fn read_decisions(
     ensures lines { IfOk result (λ decisions. map (λ line. line_renamed name.now line.now) lines.now
         ≡ map decision_row_line decisions.items) }
     ensures own { IfOk result (λ decisions. AllByRecursion OwnsBranches decisions.items) }
+    ensures once { IfOk result (λ decisions.
+        AllByRecursion (λ d. AreOnce d.participants.items) decisions.items) }
     ensures fits { IfOk result (λ decisions.
         AllByRecursion (λ d. FitsRow d.gtrid) decisions.items) }
     ensures started { IfOk result (λ decisions.
@@ -115,6 +120,8 @@ pub fn read_log(alloc: Global, name: &ManagerName, lines: &[&str]) -> Result<Log
     ensures lines { IfOk result (λ log. AreLogLinesOf name.now (map (λ line. line.now) lines.now)
         log.incarnation log.decisions.items) }
     ensures own { IfOk result (λ log. AllByRecursion OwnsBranches log.decisions.items) }
+    ensures once { IfOk result (λ log.
+        AllByRecursion (λ d. AreOnce d.participants.items) log.decisions.items) }
     ensures fits { IfOk result (λ log. AllByRecursion (λ d. FitsRow d.gtrid) log.decisions.items) }
     ensures started { IfOk result (λ log.
         AllByRecursion (λ d. d.gtrid.incarnation ≤ log.incarnation) log.decisions.items) }

@@ -9,6 +9,7 @@ pub loop-at-preserved : goal.loop-at-preserved
 loop-at-preserved c = record {
   lines = grind (arith, common_steps);
   own = grind (arith, common_steps);
+  once = grind (arith, common_steps);
   fits = grind (arith, common_steps);
   started = grind (arith, common_steps);
   rise = rise_more c.loop-at.decisions.items c.push.new.self.items c.in-Some.decision c.last_gtrid-last.result c.loop-at.invariant.rise
