@@ -1,0 +1,4 @@
+pub mod ActLemmas
+pub mod AskedLines
+pub mod DecidedLemmas
+pub mod PlainLemmas

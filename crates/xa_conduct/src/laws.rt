@@ -1,0 +1,26 @@
+//! Laws of conducted sessions. These functions do nothing: each contract is a theorem.
+
+ghost use Rattle.xa_conduct.specs.Conducted.{ConductedSessionsAreServed};
+ghost use Rattle.xa_conduct.specs.Plain.{PlainRequestsHaveLines};
+
+use xa_log::DecisionLog;
+use xa_names::laws::without_a_name_nothing_changes;
+use xa_requests::laws::words_have_one_spelling;
+use xa_server::laws::served_sessions_agree;
+
+/// Each request that a conductor makes is one that a driver might have asked for, by a line of its own.
+pub fn plain_requests_have_lines()
+    ensures { PlainRequestsHaveLines }
+{
+    words_have_one_spelling();
+}
+
+/// So a conducted session is one of a driver, of which [`served_sessions_agree`] speaks: each line of moves (`acts` of
+/// [`Conductor::turn`](crate::Conductor::turn)), and all of them (`acts` of [`serve`](crate::serve)), lead on by such
+/// requests alone.
+pub fn conducted_sessions_are_served<L: DecisionLog + Drop>()
+    ensures { ConductedSessionsAreServed L.moment }
+{
+    served_sessions_agree::<L>();
+    without_a_name_nothing_changes();
+}

@@ -1,0 +1,170 @@
+//! What follows from a line of moves: decisions, rows that leave the log, transactions that begin, and the replies.
+
+ghost use Rattle.std.specs.Prelude.{◌≡◌, ◌≤◌, length, IfOk};
+ghost use Rattle.std.specs.List.{list_any};
+ghost use Rattle.xa_conduct.specs.Decided.{is_same};
+
+use super::{Notes, Reply, add_over};
+use crate::plan::Plan;
+use crate::transaction::{Standing, Transaction};
+use crate::writing::{add_next, add_told};
+use std::alloc::Global;
+use xa_base::{Gtrid, Memory, Outcome};
+
+/// So many rows leave the log by one write.
+const DONE_AT_ONCE: usize = 64;
+
+/// The transaction that a reply is of.
+fn transaction_of(transactions: &[Transaction], reply: Reply) -> Option<&Transaction> {
+    match reply {
+        Reply::Thread(thread) => transactions.get(thread as usize),
+        _ => None,
+    }
+}
+
+/// Whether these are the same.
+fn is_same(gtrid: Gtrid, other: Gtrid) -> bool
+    ensures { result ≡ is_same gtrid other }
+{
+    gtrid.incarnation == other.incarnation && gtrid.sequence == other.sequence
+}
+
+/// Whether the transaction is one of these.
+fn has(gtrids: &[Gtrid], gtrid: Gtrid) -> bool
+    ensures { result ≡ list_any (is_same gtrid) gtrids.now }
+{
+    gtrids.iter().any(|other| is_same(gtrid, *other))
+}
+
+/// The transactions that are ready to be committed, of those that replies are of.
+fn ready_of(
+    alloc: Global,
+    transactions: &[Transaction],
+    replies: &[Reply],
+) -> Result<Vec<Gtrid>, Memory>
+    ensures { IfOk result (λ ready. length ready.items ≤ length replies.now) }
+{
+    let mut ready = Vec::new(alloc);
+    for reply in replies {
+        if let Some(transaction) = transaction_of(transactions, *reply) {
+            if transaction.standing == Standing::Ready {
+                ready.push(transaction.gtrid)?;
+            }
+        }
+    }
+    Ok(ready)
+}
+
+impl Notes {
+    /// All transactions that have their votes are decided by one request, and their branches are to be committed.
+    pub fn decide(&mut self, replies: &[Reply], plan: &mut Plan) -> Result<(), Memory>
+        requires { length replies.now ≤ 1024 }
+    {
+        let ready = ready_of(self.alloc, self.transactions.as_slice(), replies)?;
+        plan.decide(ready.as_slice(), Outcome::Commit)?;
+        for reply in replies {
+            let Reply::Thread(thread) = *reply else {
+                continue;
+            };
+            if let Some(transaction) = self.transactions.get_mut(thread as usize) {
+                if matches!(transaction.standing, Standing::Ready)
+                    && has(ready.as_slice(), transaction.gtrid)
+                {
+                    transaction.commit(plan)?;
+                }
+            }
+        }
+        Ok(())
+    }
+
+    /// The rows of transactions that are over leave the log, once there are many.
+    pub fn finish(&mut self, replies: &[Reply], plan: &mut Plan) -> Result<(), Memory> {
+        for reply in replies {
+            match transaction_of(self.transactions.as_slice(), *reply) {
+                Some(transaction) if transaction.has_spare_row() => {
+                    add_over(&mut self.over, transaction.gtrid)?;
+                }
+                _ => {}
+            }
+        }
+        if self.over.len() >= DONE_AT_ONCE {
+            plan.done(self.over.as_slice())?;
+            self.over.clear();
+        }
+        Ok(())
+    }
+
+    /// The next transaction begins of each thread whose transaction is over: the names.
+    pub fn begin_next(
+        &mut self,
+        replies: &[Reply],
+        plan: &mut Plan,
+    ) -> Result<Vec<Option<Gtrid>>, Memory> {
+        let mut nexts = Vec::with_capacity(self.alloc, replies.len())?;
+        for reply in replies {
+            let over = match transaction_of(self.transactions.as_slice(), *reply) {
+                Some(transaction) if transaction.is_over() => Some(transaction.thread),
+                _ => None,
+            };
+            let next = match over {
+                Some(thread) => {
+                    plan.begin(thread)?;
+                    Some(self.next())
+                }
+                None => None,
+            };
+            nexts.push(next)?;
+        }
+        Ok(nexts)
+    }
+
+    /// The replies to the moves of a line.
+    pub fn reply(&mut self, replies: &[Reply], nexts: &[Option<Gtrid>]) -> Result<String, Memory> {
+        let mut text = String::new(self.alloc);
+        let mut nexts = nexts.iter();
+        let mut is_first = true;
+        for reply in replies {
+            if !is_first {
+                text.push_str(";")?;
+            }
+            is_first = false;
+            let next = match nexts.next() {
+                Some(next) => *next,
+                None => None,
+            };
+            self.add_reply(&mut text, *reply, next)?;
+        }
+        Ok(text)
+    }
+
+    /// Adds the reply to a move.
+    fn add_reply(
+        &mut self,
+        text: &mut String,
+        reply: Reply,
+        next: Option<Gtrid>,
+    ) -> Result<(), Memory> {
+        match reply {
+            Reply::Thread(thread) => {
+                if let Some(transaction) = self.transactions.get_mut(thread as usize) {
+                    transaction.has_moved = false;
+                    add_told(text, self.alloc, transaction)?;
+                    if let Some(gtrid) = next {
+                        add_next(text, self.alloc, gtrid)?;
+                        transaction.begin(gtrid);
+                    }
+                }
+            }
+            Reply::Started(thread, gtrid) => {
+                if let Some(transaction) = self.transactions.get_mut(thread as usize) {
+                    transaction.has_moved = false;
+                }
+                text.push_str("started")?;
+                add_next(text, self.alloc, gtrid)?;
+            }
+            Reply::NoMove => text.push_str("error not a move")?,
+            Reply::NotNow => text.push_str("error not now")?,
+        }
+        Ok(())
+    }
+}

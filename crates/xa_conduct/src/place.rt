@@ -1,0 +1,78 @@
+//! How far a branch has come.
+
+ghost use Rattle.std.specs.Prelude.{◌≡◌};
+ghost use Rattle.xa_conduct.specs.Places.{is_asked};
+
+use crate::meaning::{
+    commit_end_of, end_at_once_of, forget_end_of, rollback_end_of, undo_end_of, vote_of,
+};
+use crate::report::Report;
+
+/// How far a branch has come: which of its calls wait on its line, and so, which one its driver was told to make.
+#[derive(Clone, Copy, Debug, PartialEq, Eq)]
+pub(crate) enum Place {
+    /// Work goes on; no call waits.
+    Working,
+    /// xa_end and xa_prepare wait.
+    Preparing,
+    /// xa_end and an xa_commit in one phase wait.
+    AtOnce,
+    /// It voted yes; no call waits.
+    Prepared,
+    /// xa_commit waits.
+    Committing,
+    /// xa_rollback waits.
+    RollingBack,
+    /// xa_end and xa_rollback wait.
+    Undoing,
+    /// xa_end and xa_prepare wait, and it is rolled back: xa_prepare is answered by a no.
+    Refusing,
+    /// It ended by itself; xa_forget waits.
+    Forgetting,
+    /// It is over, or its end is left to the recovery.
+    Over,
+}
+
+impl Place {
+    /// Whether the driver was told to make a call.
+    pub fn is_asked(self) -> bool
+        ensures { result ≡ is_asked self }
+    {
+        match self {
+            Place::Preparing
+            | Place::AtOnce
+            | Place::Committing
+            | Place::RollingBack
+            | Place::Undoing
+            | Place::Refusing
+            | Place::Forgetting => true,
+            Place::Working | Place::Prepared | Place::Over => false,
+        }
+    }
+
+    /// Whether there is such an answer to the call that was told.
+    pub fn takes(self, report: Report) -> bool {
+        match self {
+            Place::Preparing => vote_of(report).is_some(),
+            Place::AtOnce => end_at_once_of(report).is_some(),
+            Place::Committing => commit_end_of(report).is_some(),
+            Place::RollingBack => rollback_end_of(report).is_some(),
+            Place::Undoing | Place::Refusing => undo_end_of(report).is_some(),
+            Place::Forgetting => forget_end_of(report).is_some(),
+            Place::Working | Place::Prepared | Place::Over => false,
+        }
+    }
+
+    /// The word of the call that is told.
+    pub fn verb(self) -> &'static str {
+        match self {
+            Place::Preparing => "prepare",
+            Place::AtOnce => "commit-at-once",
+            Place::Committing => "commit",
+            Place::RollingBack => "rollback",
+            Place::Undoing | Place::Refusing => "undo",
+            Place::Forgetting => "forget",
+            Place::Working | Place::Prepared | Place::Over => "",
+        }
+    }
+}

@@ -1,0 +1,244 @@
+//! Requests that are to be done in turn.
+
+ghost use Rattle.std.specs.List.{list_all, list_any};
+ghost use Rattle.std.specs.Prelude.{◌≡◌, ◌+◌, ◌≤◌, ◌++◌, ◌∷◌, [], length, true, IfOk};
+ghost use Rattle.xa_base.specs.declared.branch.Gtrid.{Gtrid};
+ghost use Rattle.xa_base.specs.declared.step.Outcome.TheVariants as Outcomes;
+ghost use Rattle.xa_base.specs.Branch.{xid_of_branch};
+ghost use Rattle.xa_conduct.specs.Decided.{IsDecided, IsKept, is_same};
+ghost use Rattle.xa_conduct.specs.Plain.{ArePlain, is_gtrid, is_on_branch, is_own, is_plain, is_plain_call};
+
+use std::alloc::{AllocError, Global};
+use xa_base::{Answer, Branch, Call, CallKind, Code, Gtrid, Outcome, Xid};
+use xa_requests::{CallName, Gtrids, Request};
+
+/// Requests, in the order in which they are to be done.
+#[derive(Drop)]
+pub(crate) struct Plan {
+    alloc: Global,
+    requests: Vec<Request>,
+    ghost plain: { ArePlain requests.items },
+}
+
+/// The identifier of a branch.
+pub(crate) fn name_of(branch: Branch) -> Xid
+    ensures own { is_own result ≡ true }
+    ensures branch { result ≡ xid_of_branch branch }
+{
+    branch.xid()
+}
+
+/// Adds a transaction.
+fn add_gtrid(copy: &mut Vec<Gtrid>, gtrid: Gtrid) -> Result<(), AllocError>
+    requires { list_all is_gtrid copy.old.items ≡ true }
+    ensures fit { IfOk result (λ _. list_all is_gtrid copy.new.items ≡ true) }
+    ensures added { IfOk result (λ _. copy.new.items ≡ copy.old.items ++ gtrid ∷ []) }
+{
+    copy.push(gtrid)?;
+    Ok(())
+}
+
+/// The same transactions.
+fn copy_of(alloc: Global, gtrids: &[Gtrid]) -> Result<Vec<Gtrid>, AllocError>
+    ensures fit { IfOk result (λ copy. list_all is_gtrid copy.items ≡ true) }
+    ensures same { IfOk result (λ copy. copy.items ≡ gtrids.now) }
+{
+    let mut copy = Vec::with_capacity(alloc, gtrids.len())?;
+    for gtrid in gtrids {
+        add_gtrid(&mut copy, *gtrid)?;
+    }
+    Ok(copy)
+}
+
+impl Plan {
+    /// Nothing is to be done yet.
+    pub fn new(alloc: Global) -> Plan {
+        Plan {
+            alloc,
+            requests: Vec::new(alloc),
+        }
+    }
+
+    pub fn requests(&self) -> &[Request]
+        ensures { ArePlain result.now }
+    {
+        self.requests.as_slice()
+    }
+
+    fn add(&mut self, request: Request) -> Result<(), AllocError>
+        requires { is_plain request ≡ true }
+        ensures { IfOk result (λ _.
+            self.new.requests.items ≡ self.old.requests.items ++ request ∷ []) }
+    {
+        self.requests.push(request)?;
+        Ok(())
+    }
+
+    /// A transaction of the thread begins.
+    pub fn begin(&mut self, thread: u32) -> Result<(), AllocError> {
+        self.add(Request::Begin { thread })
+    }
+
+    /// The line of a thread opens: there is a connection.
+    pub fn open(&mut self, thread: u32, rm: u32) -> Result<(), AllocError> {
+        self.add(Request::Issue {
+            thread,
+            rm,
+            call: Call::OpenRm,
+        })?;
+        self.add(Request::Answer {
+            thread,
+            rm,
+            name: CallName {
+                kind: CallKind::OpenRm,
+                xid: None,
+            },
+            answer: Answer::Ret(Code::Success),
+        })
+    }
+
+    /// A call waits on the line of the branch.
+    fn issue(&mut self, branch: Branch, call: Call) -> Result<(), AllocError>
+        requires { is_plain_call call ≡ true }
+        ensures { IfOk result (λ _. IsKept self.old.requests.items self.new.requests.items) }
+    {
+        self.add(Request::Issue {
+            thread: branch.thread,
+            rm: branch.rm,
+            call,
+        })?;
+        Ok(())
+    }
+
+    /// The call of this kind on the branch, which waits first on its line, was answered so.
+    pub fn answer(&mut self, branch: Branch, kind: CallKind, code: Code) -> Result<(), AllocError>
+        requires { is_on_branch kind ≡ true }
+    {
+        self.add(Request::Answer {
+            thread: branch.thread,
+            rm: branch.rm,
+            name: CallName {
+                kind,
+                xid: Some(name_of(branch)),
+            },
+            answer: Answer::Ret(code),
+        })
+    }
+
+    /// The branch began.
+    pub fn start(&mut self, branch: Branch) -> Result<(), AllocError> {
+        self.issue(
+            branch,
+            Call::Start {
+                xid: name_of(branch),
+                join: false,
+            },
+        )?;
+        self.answer(branch, CallKind::Start, Code::Success)
+    }
+
+    /// Its work is to end.
+    pub fn issue_end(&mut self, branch: Branch) -> Result<(), AllocError> {
+        self.issue(
+            branch,
+            Call::End {
+                xid: name_of(branch),
+                fail: false,
+            },
+        )
+    }
+
+    pub fn issue_prepare(&mut self, branch: Branch) -> Result<(), AllocError> {
+        self.issue(
+            branch,
+            Call::Prepare {
+                xid: name_of(branch),
+            },
+        )
+    }
+
+    /// It is to be committed in two phases: behind a decision of this plan.
+    pub fn issue_commit(&mut self, branch: Branch) -> Result<(), AllocError>
+        requires { IsDecided self.old.requests.items branch.gtrid }
+        ensures { IfOk result (λ _. IsKept self.old.requests.items self.new.requests.items) }
+    {
+        self.issue(
+            branch,
+            Call::Commit {
+                xid: name_of(branch),
+                one_phase: false,
+            },
+        )
+    }
+
+    pub fn issue_commit_at_once(&mut self, branch: Branch) -> Result<(), AllocError> {
+        self.issue(
+            branch,
+            Call::Commit {
+                xid: name_of(branch),
+                one_phase: true,
+            },
+        )
+    }
+
+    pub fn issue_rollback(&mut self, branch: Branch) -> Result<(), AllocError> {
+        self.issue(
+            branch,
+            Call::Rollback {
+                xid: name_of(branch),
+            },
+        )
+    }
+
+    pub fn issue_forget(&mut self, branch: Branch) -> Result<(), AllocError> {
+        self.issue(
+            branch,
+            Call::Forget {
+                xid: name_of(branch),
+            },
+        )
+    }
+
+    /// Its work has ended.
+    pub fn ended(&mut self, branch: Branch) -> Result<(), AllocError> {
+        self.answer(branch, CallKind::End, Code::Success)
+    }
+
+    /// Its line is lost.
+    pub fn lose(&mut self, branch: Branch) -> Result<(), AllocError> {
+        self.add(Request::CrashLine {
+            thread: branch.thread,
+            rm: branch.rm,
+        })
+    }
+
+    /// These transactions are decided so, if there are some.
+    pub fn decide(&mut self, gtrids: &[Gtrid], outcome: Outcome) -> Result<(), AllocError>
+        requires { length gtrids.now ≤ 1024 }
+        ensures { IfOk result (λ _. outcome ≡ Outcomes.Commit → (g : Gtrid) →
+            list_any (is_same g) gtrids.now ≡ true → IsDecided self.new.requests.items g) }
+    {
+        if gtrids.is_empty() {
+            return Ok(());
+        }
+        let gtrids = copy_of(self.alloc, gtrids)?;
+        self.add(Request::Decide {
+            gtrids: Gtrids::new(gtrids),
+            outcome,
+        })?;
+        Ok(())
+    }
+
+    /// The rows of these leave the log, if there are some.
+    pub fn done(&mut self, gtrids: &[Gtrid]) -> Result<(), AllocError>
+        requires { length gtrids.now ≤ 1024 }
+    {
+        if gtrids.is_empty() {
+            return Ok(());
+        }
+        let gtrids = copy_of(self.alloc, gtrids)?;
+        self.add(Request::Done {
+            gtrids: Gtrids::new(gtrids),
+        })
+    }
+}
