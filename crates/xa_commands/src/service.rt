@@ -65,7 +65,8 @@ pub(crate) fn serve_over<L: DecisionLog + Drop, R: Read, W: Write>(
 {
     let mut server = Server::new(alloc, threads, rms, log)?;
     server.serve_under(name, input, out)?;
-    Ok(server.into_log())
+    let left = server.into_log();
+    Ok(left)
 }
 
 /// Copies the journal of a log into its file, and closes both.
@@ -160,8 +161,41 @@ pub fn serve_from<S: Start, R: Read, W: Write>(
     }
 }
 
-/// Serves the driver behind standard input and output. While another process has the log, this waits for a second.
-pub fn serve(rt: &HostRuntime, service: &Service<'_, '_>) -> Result<(), Failure> {
+/// A service of these.
+fn service_of<'b, 'a>(
+    name: Option<&'a str>,
+    rm_names: &'b [&'a str],
+    log: &'a str,
+    threads: u32,
+    rms: u32,
+) -> Service<'b, 'a>
+    ensures name { result.name ≡ name.entry }
+    ensures names { result.rm_names.now ≡ rm_names.now }
+    ensures log { result.log.now ≡ log.now }
+    ensures threads { result.threads ≡ threads }
+    ensures rms { result.rms ≡ rms }
+{
+    Service {
+        name,
+        rm_names,
+        log,
+        threads,
+        rms,
+    }
+}
+
+/// Serves the driver behind standard input and output, of so many threads and resource managers, over the log at a path; as the
+/// manager of a name, where one is given, and with the names of the resource managers, where there are some. While another process
+/// has the log, this waits for a second.
+pub fn serve<'b, 'a>(
+    rt: &HostRuntime,
+    name: Option<&'a str>,
+    rm_names: &'b [&'a str],
+    log: &'a str,
+    threads: u32,
+    rms: u32,
+) -> Result<(), Failure> {
+    let service = service_of(name, rm_names, log, threads, rms);
     let alloc = rt.alloc();
     let mut input = BufReader::new(alloc, rt.reader()).map_err(|error| Failure::Input.caused_by(
         &error,
@@ -170,19 +204,19 @@ pub fn serve(rt: &HostRuntime, service: &Service<'_, '_>) -> Result<(), Failure>
         RunFault::Output,
     ).caused_by(&error))?;
     for _ in 0..MOST_TRIES {
-        match serve_from(rt, service, Unknown, &mut input, &mut out)? {
+        match serve_from(rt, &service, Unknown, &mut input, &mut out)? {
             Served::InUse => pause(rt),
             Served::Closed(closed) => {
                 let flushed = out.flush();
-                let left = leave(rt, service.log, closed);
+                let left = leave(rt, log, closed);
                 flushed.map_err(|_| Failure::Run(RunFault::Output))?;
                 return left;
             }
             Served::BrokenOff(failure) => {
                 let _unwritten = out.flush();
-                return Err(broken_off(rt, service.log, failure));
+                return Err(broken_off(rt, log, failure));
             }
         }
     }
-    Err(in_use(alloc, service.log))
+    Err(in_use(alloc, log))
 }

@@ -107,7 +107,14 @@ fn perform<T: Threads + Wait + Clock + Sync>(
             let source = Source::of(file, &text, FileKind::Jobs);
             run_threads(rt, threads, source, log, &mut out)
         }
-        Command::Serve(service) => serve(rt, &service),
+        Command::Serve(asked) => serve(
+            rt,
+            asked.name,
+            asked.rm_names.unwrap_or(&[]),
+            asked.log,
+            asked.threads,
+            asked.rms,
+        ),
         Command::Log {
             path,
             explains,

@@ -54,7 +54,7 @@ returns-clause-served g c =
     let made = c.in_ok-server.ensures in (
       c.in_ok-server.server,
       c.serve_under.new.self,
-      c.into_log.ensures,
+      c.into_log-left.ensures,
       record {
         starts = record { stands = made.stands; old = made.old; started = made.started; over = made.over; holds = made.holds };
         serves = c.in_ok-serve_under.ensures.served;
