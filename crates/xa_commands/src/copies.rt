@@ -1,7 +1,8 @@
 //! Copies of a log's files, in memory. Who looks at a log by way of them neither locks nor writes it, so a manager may run over it
 //! meanwhile.
 
-ghost use Rattle.std.specs.Prelude.{IsTrue, IfOk};
+ghost use Rattle.std.specs.Prelude.{◌≡◌, ◌&&◌, nat_eq, take, IsTrue, IfOk};
+ghost use Rattle.std.specs.Cmp.Lexicographic.{pointwise};
 
 use crate::failure::Failure;
 use crate::files::{is_missing, system_failure};
@@ -11,7 +12,7 @@ use sqlite_disk::{Disk, Memory};
 use std::alloc::Global;
 use std::{fs, io};
 use xa_log::LogFault;
-use xa_sql_log::SqlLog;
+use xa_sql_log::{SqlLog, journal_path};
 
 /// How long the header of a journal is. It changes whenever the journal begins anew.
 const HEADER_LEN: usize = 32;
@@ -32,8 +33,20 @@ fn bytes_at(rt: &HostRuntime, path: &str) -> io::Result<Vec<u8>> {
 }
 
 /// The header of a journal.
-fn header_of(journal: &[u8]) -> &[u8] {
+fn header_of(journal: &[u8]) -> &[u8]
+    ensures { result.now ≡ take HEADER_LEN journal.now }
+{
     journal.get(..HEADER_LEN).unwrap_or(journal)
+}
+
+/// Whether a journal wasn't begun anew from the moment when it was read before to that when it was read after: it has the same header
+/// each time.
+fn is_one_journal(before: &[u8], journal: &[u8], after: &[u8]) -> bool
+    ensures { result ≡ (pointwise nat_eq (take HEADER_LEN before.now) (take HEADER_LEN journal.now)
+        && pointwise nat_eq (take HEADER_LEN after.now) (take HEADER_LEN journal.now)) }
+{
+    let header = header_of(journal);
+    header_of(before) == header && header_of(after) == header
 }
 
 /// The database file and the journal of a log, as they stood together at one moment.
@@ -43,7 +56,7 @@ fn header_of(journal: &[u8]) -> &[u8] {
 /// has all that was written into the database file meanwhile. What was added while it was read may lack.
 fn bytes_of(rt: &HostRuntime, path: &str) -> io::Result<(Vec<u8>, Vec<u8>)> {
     let real = fs::canonicalize(rt, path)?;
-    let journal_path = match format!(in rt.alloc(); "{}-wal", real.as_str()) {
+    let journal_path = match journal_path(rt.alloc(), real.as_str()) {
         Ok(journal_path) => journal_path,
         Err(error) => return Err(io::Error::from(error)),
     };
@@ -52,8 +65,7 @@ fn bytes_of(rt: &HostRuntime, path: &str) -> io::Result<(Vec<u8>, Vec<u8>)> {
         let db = bytes_at(rt, real.as_str())?;
         let journal = bytes_at(rt, journal_path.as_str())?;
         let after = bytes_at(rt, journal_path.as_str())?;
-        let header = header_of(journal.as_slice());
-        if header_of(before.as_slice()) == header && header_of(after.as_slice()) == header {
+        if is_one_journal(&before, &journal, &after) {
             return Ok((db, journal));
         }
     }

@@ -22,6 +22,8 @@ pub enum Failure {
     CommandLine(String),
     /// The words of the command line can't be read.
     Words,
+    /// The words of a look at a log ask for two things at once.
+    LogWords,
     /// A file can't be read: its path, and why.
     Unreadable(String),
     /// The work on the file ended early.
@@ -40,6 +42,8 @@ pub enum Failure {
     RmNames,
     /// The log is another's, or only a part of it is there, as this text says.
     Refused(String),
+    /// The log has had fewer starts than were asked for, as this text says.
+    Older(String),
     /// The line of this number, of those that a log is to be made from, is wrong in this.
     Line(usize, LineFault),
 }
@@ -61,14 +65,16 @@ impl Failure {
     }
 
     /// The status that the program ends with: 1 where the file is refused, 2 where the work on it fails, 3 where the
-    /// command line is refused.
+    /// command line is refused, 4 where the log is older than one that was asked for.
     pub fn status(&self) -> u8
         ensures { result ≡ failure_status self.now }
     {
         match self {
-            Failure::CommandLine(_) | Failure::Words | Failure::Name | Failure::RmNames => 3,
+            Failure::CommandLine(_) | Failure::Words | Failure::LogWords => 3,
+            Failure::Name | Failure::RmNames => 3,
             Failure::Unreadable(_) | Failure::Line(_, _) => 1,
             Failure::TooLong | Failure::Input | Failure::Refused(_) | Failure::Failed(_) => 2,
+            Failure::Older(_) => 4,
             Failure::Run(fault) | Failure::Told(fault, _) => fault.status(),
         }
     }
@@ -77,6 +83,9 @@ impl Failure {
     pub fn print<R: Print + Eprint>(&self, rt: &R) -> io::Result<()> {
         match self {
             Failure::Words => eprintln!(rt; "xatm: command line"),
+            Failure::LogWords => eprintln!(rt;
+                "xatm: command line: --explain, --json and --make don't go together"
+            ),
             Failure::Unreadable(text) | Failure::Failed(text) => eprintln!(rt; "xatm: {text}"),
             Failure::Run(fault) => eprintln!(rt; "{fault}"),
             Failure::CommandLine(text) | Failure::Told(_, text) => eprint!(rt; "{text}"),
@@ -87,7 +96,7 @@ impl Failure {
                 "xatm: rm: a name for each resource manager, and for each another one: \
                 1 to 64 letters, digits, _ and -"
             ),
-            Failure::Refused(text) => eprintln!(rt; "xatm: log: {text}"),
+            Failure::Refused(text) | Failure::Older(text) => eprintln!(rt; "xatm: log: {text}"),
             Failure::Line(number, fault) => eprintln!(rt; "xatm: line {number}: {fault}"),
         }
     }

@@ -8,6 +8,7 @@
 //! (1991).
 #![tactic(auto)]
 
+mod ages;
 mod copies;
 mod failure;
 mod files;
@@ -18,9 +19,11 @@ mod log_names;
 mod log_reasons;
 mod logs;
 mod made_logs;
+mod places;
 mod service;
 mod stores;
 
+pub use ages::{is_older, refuse_older};
 pub use failure::Failure;
 pub use files::{Source, output_to, text_of, texts_of, told_path};
 pub use jobs::run_threads;

@@ -3,8 +3,12 @@
 use crate::copies::copied_log;
 use crate::failure::Failure;
 use crate::log_names::{manager_in, print_named, refuse_half};
-use crate::log_reasons::{no_log, opening_failure, running_failure};
-use crate::stores::{Listing, work_in_files};
+use crate::log_reasons::{looking_failure, no_log, opening_failure};
+use crate::places::check_place;
+use crate::stores::{Listing, incarnation_in_files, work_in_files};
+use sqlite::FileStore;
+use sqlite_disk::Disk;
+use std::alloc::Global;
 use std::io::Write;
 use xa_diagnostics::log_json;
 use xa_files::write_text;
@@ -19,6 +23,7 @@ pub fn list<W: Write>(
     explains: bool,
     out: &mut W,
 ) -> Result<(), Failure> {
+    check_place(rt, path)?;
     refuse_half(rt, path)?;
     let alloc = rt.alloc();
     let label = match SqlLog::label(rt, path) {
@@ -43,23 +48,18 @@ fn text_about(
     path: &str,
     explained_for: Option<&[u8]>,
 ) -> Result<Vec<u8>, Failure> {
-    let mut listing = Listing {
-        explained_for,
-        text: Vec::new(rt.alloc()),
-        listed: Ok(()),
-    };
+    let alloc = rt.alloc();
     match SqlLog::look(rt, path) {
         Ok(log) => {
-            let closed = work_in_files(log, &mut listing);
-            match listed_text(listing, closed) {
-                Ok(text) => Ok(text),
-                Err(failure) => Err(running_failure(rt, path, failure)),
+            match listed_text(alloc, explained_for, log) {
+                Ok((text, Ok(()))) => Ok(text),
+                Ok((_text, Err(fault))) => Err(looking_failure(rt, path, Failure::from(fault))),
+                Err(failure) => Err(looking_failure(rt, path, failure)),
             }
         }
         Err(LogFault::Store) => {
             // A copy is let go: whether it could be closed says nothing of the log.
-            let _closed = work_in_files(copied_log(rt, path)?, &mut listing);
-            let text = listed_text(listing, Ok(()))?;
+            let (text, _closed) = listed_text(alloc, explained_for, copied_log(rt, path)?)?;
             // A note that can't be written changes no status.
             let _unwritten = eprintln!(rt;
                 "xatm: {path}: another process runs over it, or it can't be written: \
@@ -71,11 +71,25 @@ fn text_about(
     }
 }
 
-/// What was listed of a log that was closed then, if neither failed.
-fn listed_text(listing: Listing<'_>, closed: Result<(), LogFault>) -> Result<Vec<u8>, Failure> {
+/// What there is to say about a log, its incarnation first where it isn't explained; and whether it could be closed then.
+fn listed_text<D: Disk + Drop>(
+    alloc: Global,
+    explained_for: Option<&[u8]>,
+    mut log: SqlLog<FileStore<D>>,
+) -> Result<(Vec<u8>, Result<(), LogFault>), Failure> {
+    let mut listing = Listing {
+        explained_for,
+        text: Vec::new(alloc),
+        listed: Ok(()),
+    };
+    if explained_for.is_none() {
+        let incarnation = incarnation_in_files(&mut log)?;
+        let line = format!(in alloc; "incarnation {incarnation}\n")?;
+        listing.text.extend_from_slice(line.as_bytes())?;
+    }
+    let closed = work_in_files(log, &mut listing);
     listing.listed?;
-    closed?;
-    Ok(listing.text)
+    Ok((listing.text, closed))
 }
 
 /// Lists the log at a path, and prints JSON.

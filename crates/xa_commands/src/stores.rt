@@ -2,11 +2,17 @@
 //! a proof several times as long, and that files are a store is proved anew for each call that asks for one. So a function does no
 //! more there than to call the one behind it, once.
 
+ghost use Rattle.std.specs.Prelude.{◌≡◌, IfOk, OnOk, Some};
 ghost use Rattle.std.specs.List.{AllByRecursion};
-ghost use Rattle.xa_log.specs.Contract.{FitsRow};
+ghost use Rattle.sqlite.specs.Files.{image_of};
+ghost use Rattle.sqlite_wal.specs.Reads.{AreClean};
+ghost use Rattle.xa_log.specs.Content.{Content};
+ghost use Rattle.xa_log.specs.Contract.{FitsRow, Honestly};
 ghost use Rattle.xa_restore.specs.LogLines.{OwnsBranches};
+ghost use Rattle.xa_restore.specs.Restored.{restored};
+ghost use Rattle.xa_sql_log.specs.ClosedFiles.{HoldsWhole};
 
-use sqlite::{Alter, FileStore};
+use sqlite::{Alter, FileStore, Files};
 use sqlite_disk::Disk;
 use std::alloc::Global;
 use std::io::Write;
@@ -99,7 +105,7 @@ pub fn close_in_files<D: Disk + Drop>(log: SqlLog<FileStore<D>>) -> Result<(), L
     log.close()
 }
 
-/// Writes into an empty log what lines say.
+/// Writes into a log what lines say.
 fn restore_over<S: Alter>(
     alloc: Global,
     log: &mut SqlLog<S>,
@@ -107,21 +113,53 @@ fn restore_over<S: Alter>(
 ) -> Result<(), LogFault>
     requires own { AllByRecursion OwnsBranches lines.now.decisions.items }
     requires fits { AllByRecursion (λ d. FitsRow d.gtrid) lines.now.decisions.items }
+    ensures made { (c : Content) →
+        (⟦<SqlLog<S> as DecisionLog>⟧.moment log.old).content ≡ Some c →
+        Honestly (⟦<SqlLog<S> as DecisionLog>⟧.moment log.old)
+        (⟦<SqlLog<S> as DecisionLog>⟧.moment log.new)
+        (OnOk result ((⟦<SqlLog<S> as DecisionLog>⟧.moment log.new).content
+        ≡ Some (restored lines.now.incarnation lines.now.decisions.items c))) }
+    ensures order { (⟦<SqlLog<S> as DecisionLog>⟧.moment log.old).is_in_order →
+        (⟦<SqlLog<S> as DecisionLog>⟧.moment log.new).is_in_order }
+    ensures honest { (⟦<SqlLog<S> as DecisionLog>⟧.moment log.new).is_honest →
+        (⟦<SqlLog<S> as DecisionLog>⟧.moment log.old).is_honest }
 {
     restore_log(alloc, log, lines)
 }
 
-/// Does so over a log in files, and closes it.
+/// Does so over a log in files, and copies its journal: the files, which are still open, hold all that the lines say, and each holds
+/// it whole by itself. Where a part of it failed there are no files.
 pub(crate) fn restore_in_files<D: Disk + Drop>(
     alloc: Global,
     mut log: SqlLog<FileStore<D>>,
     lines: &LogLines,
-) -> Result<(), LogFault>
+) -> Result<Files<D>, LogFault>
     requires own { AllByRecursion OwnsBranches lines.now.decisions.items }
     requires fits { AllByRecursion (λ d. FitsRow d.gtrid) lines.now.decisions.items }
+    ensures made { IfOk result (λ files.
+        (⟦<SqlLog<FileStore<D>> as DecisionLog>⟧.moment log).is_in_order →
+        AreClean D.Disk files.log files.db → (c : Content) →
+        (⟦<SqlLog<FileStore<D>> as DecisionLog>⟧.moment log).content ≡ Some c →
+        HoldsWhole (restored lines.now.incarnation lines.now.decisions.items c)
+        (image_of D.Disk files)) }
+    ensures honest { IfOk result (λ files. AreClean D.Disk files.log files.db →
+        (⟦<SqlLog<FileStore<D>> as DecisionLog>⟧.moment log).is_honest) }
 {
-    let restored = restore_over(alloc, &mut log, lines);
-    let closed = close_in_files(log);
-    restored?;
-    closed
+    restore_over(alloc, &mut log, lines)?;
+    match log.close_files() {
+        Ok(files) => Ok(files),
+        Err((fault, _store)) => Err(fault),
+    }
+}
+
+/// The incarnation of the manager that has started last over a log in a store.
+fn incarnation_over<S: Alter>(log: &mut SqlLog<S>) -> Result<u64, LogFault> {
+    log.incarnation()
+}
+
+/// The same over a log in files.
+pub(crate) fn incarnation_in_files<D: Disk + Drop>(
+    log: &mut SqlLog<FileStore<D>>,
+) -> Result<u64, LogFault> {
+    incarnation_over(log)
 }

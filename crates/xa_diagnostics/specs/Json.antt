@@ -6,7 +6,7 @@ use Rattle.std.specs.List.{after_first, before_first, flat_map, join_with_byte, 
 use Rattle.std.specs.Str.{bytes_eq, chars}
 use Rattle.std.specs.Str.Lines.{lines}
 use Rattle.xa_diagnostics.specs.declared.json.Item.{Item}
-use Rattle.xa_diagnostics.specs.declared.json.Item.TheVariants.{Line, Branch, Event, Name, Rm, Decision}
+use Rattle.xa_diagnostics.specs.declared.json.Item.TheVariants.{Line, Branch, Event, Name, Rm, Incarnation, Decision}
 
 -- a character, as it stands in a text in quotes
 abbrev pub escaped : ℕ → List ℕ
@@ -45,7 +45,11 @@ is_item Branch line = tells_branch line
 is_item Event line = not (tells_branch line)
 is_item Name line = bytes_eq (json_word_of line) (codes "name")
 is_item Rm line = bytes_eq (json_word_of line) (codes "rm")
-is_item Decision line = not (tells_branch line || (bytes_eq (json_word_of line) (codes "name") || bytes_eq (json_word_of line) (codes "rm")))
+is_item Incarnation line = bytes_eq (json_word_of line) (codes "incarnation")
+is_item Decision line =
+    not (tells_branch line
+    || (bytes_eq (json_word_of line) (codes "name")
+    || (bytes_eq (json_word_of line) (codes "rm") || bytes_eq (json_word_of line) (codes "incarnation"))))
 
 -- the item that a line is
 abbrev pub item_text : Item → List ℕ → List ℕ
@@ -54,6 +58,7 @@ item_text Line line = quoted line
 item_text Event line = quoted line
 item_text Name line = quoted (rest_of line)
 item_text Rm line = quoted (rest_of (rest_of line))
+item_text Incarnation line = rest_of line
 item_text Decision line = codes "{\"transaction\":" ++ quoted (json_word_of line) ++ codes ",\"branches\":" ++ rest_of line ++ codes "}"
 
 -- the same, if it is one
@@ -76,10 +81,11 @@ run_json with_trace printed =
     ++ codes ",\"branches\":" ++ array (items_in Branch (lines printed)) ++ codes "}\n"
     else codes "{\"branches\":" ++ array (items_in Branch (lines printed)) ++ codes "}\n"
 
--- what a look at a log prints, as JSON: the names that it keeps, its decisions, and its heuristic ends
+-- what a look at a log prints, as JSON: the names that it keeps, its incarnation, its decisions, and its heuristic ends
 abbrev pub log_json : List ℕ → List ℕ
 log_json printed =
     codes "{\"name\":" ++ first_or_null (items_in Name (lines printed))
     ++ codes ",\"rms\":" ++ array (items_in Rm (lines printed))
+    ++ codes ",\"incarnation\":" ++ first_or_null (items_in Incarnation (lines printed))
     ++ codes ",\"decisions\":" ++ array (items_in Decision (lines printed))
     ++ codes ",\"heuristics\":" ++ array (items_in Branch (lines printed)) ++ codes "}\n"

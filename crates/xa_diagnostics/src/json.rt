@@ -22,6 +22,8 @@ pub enum Item {
     Name,
     /// The name of a resource manager.
     Rm,
+    /// How often a manager has started over a log.
+    Incarnation,
     /// A transaction that is decided to commit, and how many branches it waits for.
     Decision,
 }
@@ -122,13 +124,15 @@ impl Item {
         let is_branch = tells_branch(line);
         let is_name = word == "name";
         let is_rm = word == "rm";
+        let is_incarnation = word == "incarnation";
         match self {
             Item::Line => true,
             Item::Branch => is_branch,
             Item::Event => !is_branch,
             Item::Name => is_name,
             Item::Rm => is_rm,
-            Item::Decision => !(is_branch || is_name || is_rm),
+            Item::Incarnation => is_incarnation,
+            Item::Decision => !(is_branch || is_name || is_rm || is_incarnation),
         }
     }
 
@@ -141,6 +145,7 @@ impl Item {
             Item::Line | Item::Event => quoted(alloc, line),
             Item::Name => quoted(alloc, cut(line).1),
             Item::Rm => quoted(alloc, cut(cut(line).1).1),
+            Item::Incarnation => Ok(String::from_str(alloc, cut(line).1)?),
             Item::Decision => decision(alloc, line),
         }
     }
@@ -188,15 +193,24 @@ impl Item {
     }
 }
 
-/// The name of the manager in some lines, or null.
-fn name_in(alloc: Global, lines: &[&str]) -> Result<String, Memory>
-    ensures { IfOk result (λ text. string_bytes text
-        ≡ first_or_null (items_in Item.Name (map (λ line. line.now) lines.now))) }
+/// The first of some texts, or null.
+fn first_or_null(alloc: Global, texts: &[String]) -> Result<String, Memory>
+    ensures { IfOk result (λ text. string_bytes text ≡ first_or_null (map string_bytes texts.now)) }
 {
-    let names = Item::Name.all_in(alloc, lines)?;
-    match names.first() {
-        Some(name) => Ok(name.clone()?),
+    match texts.first() {
+        Some(text) => Ok(text.clone()?),
         None => Ok(String::from_str(alloc, "null")?),
+    }
+}
+
+impl Item {
+    /// The first of some lines, or null.
+    pub fn first_in(self, alloc: Global, lines: &[&str]) -> Result<String, Memory>
+        ensures { IfOk result (λ text. string_bytes text
+            ≡ first_or_null (items_in self (map (λ line. line.now) lines.now))) }
+    {
+        let items = self.all_in(alloc, lines)?;
+        first_or_null(alloc, items.as_slice())
     }
 }
 
@@ -214,16 +228,18 @@ pub fn run_json(alloc: Global, printed: &str, with_trace: bool) -> Result<String
     }
 }
 
-/// What a look at a log prints, as JSON: the names that it keeps, its decisions, and its heuristic ends.
+/// What a look at a log prints, as JSON: the names that it keeps, its incarnation, its decisions, and its heuristic ends.
 pub fn log_json(alloc: Global, printed: &str) -> Result<String, Memory>
     ensures { IfOk result (λ text. string_bytes text ≡ log_json printed.now) }
 {
     let lines = lines_of(alloc, printed)?;
-    let name = name_in(alloc, lines.as_slice())?;
+    let name = Item::Name.first_in(alloc, lines.as_slice())?;
     let rms = Item::Rm.array_in(alloc, lines.as_slice())?;
+    let incarnation = Item::Incarnation.first_in(alloc, lines.as_slice())?;
     let decisions = Item::Decision.array_in(alloc, lines.as_slice())?;
     let ends = Item::Branch.array_in(alloc, lines.as_slice())?;
     Ok(format!(in alloc;
-        "{{\"name\":{name},\"rms\":{rms},\"decisions\":{decisions},\"heuristics\":{ends}}}\n"
+        "{{\"name\":{name},\"rms\":{rms},\"incarnation\":{incarnation},\
+        \"decisions\":{decisions},\"heuristics\":{ends}}}\n"
     )?)
 }

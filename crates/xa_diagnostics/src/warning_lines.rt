@@ -84,24 +84,26 @@ fn named_in(entry: &Entry) -> Named {
     }
 }
 
-/// What is said of a number that is past the last one, of so many.
+/// What comes of a step on a line that isn't there.
+const REFUSED: &str = "the step will be refused (14)";
+
+/// What comes of a step that names a branch of a thread that isn't there.
+const NO_BRANCH: &str = "no branch is of that thread";
+
+/// What is said of a number that is past the last one, of so many, and what comes of it.
 fn past_text(
     alloc: Global,
     key: &str,
     what: &str,
     number: u32,
     count: u32,
+    so: &str,
 ) -> Result<String, Memory> {
     let last = count.saturating_sub(1);
     Ok(if last == 0 {
-        format!(in alloc;
-            "{key} is {number}, and there is only {what} 0: the step will be refused (14)"
-        )?
+        format!(in alloc; "{key} is {number}, and there is only {what} 0: {so}")?
     } else {
-        format!(in alloc;
-            "{key} is {number}, and there are only {what}s 0 to {last}: \
-            the step will be refused (14)"
-        )?
+        format!(in alloc; "{key} is {number}, and there are only {what}s 0 to {last}: {so}")?
     })
 }
 
@@ -125,14 +127,20 @@ fn warning_of(
     if let Some(thread) = past(named.thread, threads) {
         return Ok(Some((
             "thread",
-            past_text(alloc, "thread", "thread", thread, threads)?,
+            past_text(alloc, "thread", "thread", thread, threads, REFUSED)?,
         )));
     }
     if let Some(rm) = past(named.rm, rms) {
-        return Ok(Some(("rm", past_text(alloc, "rm", "resource manager", rm, rms)?)));
+        return Ok(Some((
+            "rm",
+            past_text(alloc, "rm", "resource manager", rm, rms, REFUSED)?,
+        )));
     }
     if let Some(of) = past(named.of, threads) {
-        return Ok(Some(("of", past_text(alloc, "of", "thread", of, threads)?)));
+        return Ok(Some((
+            "of",
+            past_text(alloc, "of", "thread", of, threads, NO_BRANCH)?,
+        )));
     }
     Ok(None)
 }

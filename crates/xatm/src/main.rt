@@ -20,7 +20,8 @@ use std::thread::Threads;
 use std::time::Clock;
 use std::{env, io};
 use xa_commands::{
-    Failure, Source, list, list_as_json, make_log, output_to, run_threads, serve, text_of,
+    Failure, Source, list, list_as_json, make_log, output_to, refuse_older, run_threads, serve,
+    text_of,
 };
 use xa_diagnostics::FileKind;
 use xa_files::RunFault;
@@ -107,14 +108,17 @@ fn perform<T: Threads + Wait + Clock + Sync>(
             let source = Source::of(file, &text, FileKind::Jobs);
             run_threads(rt, threads, source, log, &mut out)
         }
-        Command::Serve(asked) => serve(
-            rt,
-            asked.name,
-            asked.rm_names.unwrap_or(&[]),
-            asked.log,
-            asked.threads,
-            asked.rms,
-        ),
+        Command::Serve { service, at_least } => {
+            refuse_older(rt, service.log, at_least)?;
+            serve(
+                rt,
+                service.name,
+                service.rm_names.unwrap_or(&[]),
+                service.log,
+                service.threads,
+                service.rms,
+            )
+        }
         Command::Log {
             path,
             explains,
@@ -127,5 +131,6 @@ fn perform<T: Threads + Wait + Clock + Sync>(
             }
         }
         Command::MakeLog { path } => make_log(rt, path),
+        Command::RefusedLog => Err(Failure::LogWords),
     }
 }
