@@ -9,6 +9,7 @@
 #![tactic(auto)]
 
 mod ages;
+mod conduct;
 mod copies;
 mod failure;
 mod files;

@@ -8,6 +8,7 @@ ghost use Rattle.xa_commands.specs.Failures.{failure_status};
 ghost use Rattle.xa_commands.specs.Names.{MayName, name_given};
 ghost use Rattle.xa_commands.specs.Services.{HasFailed, HasFailedNamed, HasServed, HasServedFiles, HasServedFrom, HasServedNamed, IsClosedInto};
 
+use crate::conduct::conduct_from;
 use crate::failure::Failure;
 use crate::introduction::introduce;
 use crate::log_names::{check_rm_names, label_of, manager_named};
@@ -70,7 +71,7 @@ pub(crate) fn serve_over<L: DecisionLog + Drop, R: Read, W: Write>(
 }
 
 /// Copies the journal of a log into its file, and closes both.
-fn closed_into<D: Disk + Drop>(log: SqlLog<FileStore<D>>) -> Result<(), LogFault>
+pub(crate) fn closed_into<D: Disk + Drop>(log: SqlLog<FileStore<D>>) -> Result<(), LogFault>
     ensures { OnOk result ((files : Files D) × IsClosedInto D.Disk
         ⟦<SqlLog<FileStore<D>> as DecisionLog>⟧.moment log files) }
 {
@@ -185,10 +186,11 @@ fn service_of<'b, 'a>(
 }
 
 /// Serves the driver behind standard input and output, of so many threads and resource managers, over the log at a path; as the
-/// manager of a name, where one is given, and with the names of the resource managers, where there are some. While another process
-/// has the log, this waits for a second.
+/// manager of a name, where one is given, and with the names of the resource managers, where there are some; by requests, or by moves.
+/// While another process has the log, this waits for a second.
 pub fn serve<'b, 'a>(
     rt: &HostRuntime,
+    by_moves: bool,
     name: Option<&'a str>,
     rm_names: &'b [&'a str],
     log: &'a str,
@@ -204,7 +206,12 @@ pub fn serve<'b, 'a>(
         RunFault::Output,
     ).caused_by(&error))?;
     for _ in 0..MOST_TRIES {
-        match serve_from(rt, &service, Unknown, &mut input, &mut out)? {
+        let served = if by_moves {
+            conduct_from(rt, &service, Unknown, &mut input, &mut out)?
+        } else {
+            serve_from(rt, &service, Unknown, &mut input, &mut out)?
+        };
+        match served {
             Served::InUse => pause(rt),
             Served::Closed(closed) => {
                 let flushed = out.flush();

@@ -108,10 +108,15 @@ fn perform<T: Threads + Wait + Clock + Sync>(
             let source = Source::of(file, &text, FileKind::Jobs);
             run_threads(rt, threads, source, log, &mut out)
         }
-        Command::Serve { service, at_least } => {
+        Command::Serve {
+            service,
+            at_least,
+            by_moves,
+        } => {
             refuse_older(rt, service.log, at_least)?;
             serve(
                 rt,
+                by_moves,
                 service.name,
                 service.rm_names.unwrap_or(&[]),
                 service.log,
