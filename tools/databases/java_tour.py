@@ -7,7 +7,7 @@ import subprocess
 import tempfile
 
 from jdbc import BITRONIX, compiled, driver_of, paths_of
-from servers import MariaDBServer, Missing, PostgreSQLServer, free_port
+from servers import MariaDBServer, Missing, PostgreSQLServer, free_port, processes_of
 from world import TOP
 
 EXAMPLES = f"{TOP}/drivers/java/examples"
@@ -61,7 +61,8 @@ def run(world):
     try:
         urls = [server.url() for server in world.servers]
         with open(f"{world.home}/driver.log", "a") as log:
-            words = ["java", "-cp", ":".join(path), "Tour", folder, world.coordinator, *urls]
+            processes = ",".join(str(number) for number in processes_of(world.servers[1].process.pid))
+            words = ["java", "-cp", ":".join(path), "Tour", folder, world.coordinator, *urls, processes]
             wrong = subprocess.run(words, stderr=log).returncode != 0
         return wrong + see_set_ups(world, folder, path)
     finally:

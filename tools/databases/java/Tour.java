@@ -21,7 +21,7 @@ import javax.transaction.xa.XAResource;
  * Stories over two databases, by JTA over drivers/java: how a transaction ends where all goes well, and where something goes wrong at each
  * of its moments. Each is looked at in the databases.
  *
- * <p>Usage: Tour FOLDER PROGRAM URL URL. Prints a line for each story, and at the end 'N stories, M wrong'.
+ * <p>Usage: Tour FOLDER PROGRAM URL URL [PROCESSES], those of database 1. Prints a line for each story, and at the end 'N stories, M wrong'.
  */
 public class Tour {
     private static final String ENDED = "committed", UNDONE = "rolled back";
@@ -336,6 +336,41 @@ public class Tour {
         }
     }
 
+    /** A database that is stopped keeps its own branches, and no others. */
+    private void isSilent(String[] processes) {
+        story("a time-out while database 1 says nothing", UNDONE, token -> {
+            jta.suspend().rollback();
+            jta.setTransactionTimeout(2);
+            jta.begin();
+            jta.setTransactionTimeout(0);
+            write(1, token);
+            write(0, token);
+            signal("STOP", processes);
+            try {
+                seeNoLocks();
+            } finally {
+                signal("CONT", processes);
+            }
+        });
+    }
+
+    /** Sees that no transaction of the manager is open at PostgreSQL, a while after a time-out. */
+    private void seeNoLocks() throws Exception {
+        long until = System.nanoTime() + 20_000_000_000L;
+        while (ask(0, "SELECT COUNT(*) FROM pg_stat_activity WHERE application_name LIKE 'garterfossil tour%' AND state LIKE 'idle in%'") > 0) {
+            if (System.nanoTime() > until) {
+                throw new IllegalStateException("its locks at database 0 stay");
+            }
+            Thread.sleep(100);
+        }
+    }
+
+    private static void signal(String name, String[] processes) throws Exception {
+        for (String process : processes) {
+            new ProcessBuilder("kill", "-" + name, process).inheritIO().start().waitFor();
+        }
+    }
+
     private void coordinatorEnds() {
         story("the coordinator ends in the work", UNDONE, token -> {
             writeBoth(token);
@@ -413,6 +448,9 @@ public class Tour {
         tour.pastTheGate();
         tour.readsAlone();
         tour.connectionsAreLost();
+        if (words.length > 4) {
+            tour.isSilent(words[4].split(","));
+        }
         tour.coordinatorEnds();
         tour.manager.close();
         boolean isEnded = isOlderBranchEnded(Path.of(words[0]), words[1], tour.plain[tour.isPostgreSQL(0) ? 0 : 1]);

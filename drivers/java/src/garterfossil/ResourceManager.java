@@ -261,7 +261,8 @@ final class ResourceManager {
             if (!isMine) {
                 throw silent(longest);
             }
-            if (pending != null && pending.isOld()) {
+            // One that was begun before another connection was lost hasn't seen that this is gone.
+            if (pending != null && (hasStrays || pending.isOld())) {
                 giveUpPending();
             }
             if (pending == null) {
