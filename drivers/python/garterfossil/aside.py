@@ -58,7 +58,11 @@ class Aside:
         if threading.get_ident() != threading.main_thread().ident or _is_of_gevent():
             return step()
         job = _Job(step)
-        self.give(job)
+        try:
+            self.give(job)
+        except RuntimeError:
+            # There is no thread to be had any more, as at the interpreter's end.
+            return step()
         interrupt: Optional[BaseException] = None
         # (An exception may come behind the lock as well, when it is taken already.)
         while not job.is_over:

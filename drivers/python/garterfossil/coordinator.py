@@ -16,7 +16,7 @@ from typing import Deque, Iterable, List, Optional, Sequence, Tuple
 
 from .calls import Call
 from .errors import CoordinatorGone, LogInUse, Refused, RequestError, SetupError, Unexplained, XaError
-from .logs import Names, fault_of_log, is_log_in_use
+from .logs import Names, fault_of_log, is_disk_full, is_log_in_use
 from .xid import Xid
 
 log = logging.getLogger("garterfossil")
@@ -79,7 +79,8 @@ class Coordinator:
     coordinator replies in the order of the lines, so several may be under way at once: whichever thread waits reads what has come: its
     lines are the replies to those that were posted first."""
 
-    def __init__(self, command: Sequence[str], patience: float = 30.0):
+    def __init__(self, command: Sequence[str], patience: float = 30.0, path: Optional[str] = None):
+        self._path = path
         # No reply is waited for longer: the greeting may take longer than others, as with a log that holds much.
         self._patience = max(patience, SHORTEST)
         # Of a socket the system itself sees that no reply is waited for too long, by the same call that reads it.
@@ -137,7 +138,7 @@ class Coordinator:
         begun = time.monotonic()
         while True:
             try:
-                return cls(command, patience)
+                return cls(command, patience, path)
             except CoordinatorGone as gone:
                 if gone.status not in LOG_STATUSES:
                     raise
@@ -270,7 +271,8 @@ class Coordinator:
             return error(f"{rest}, to the request: {reply.request}")
         number, name = rest.split(" ")
         if int(number) in (MANAGER_DOWN, LOG_FAULT):
-            return self._gone(f"its log failed: refused {rest}")
+            full = "; the disk of the log is full" if self._path is not None and is_disk_full(self._path) else ""
+            return self._gone(f"its log failed: refused {rest}{full}")
         return Refused(int(number), name, reply.request)
 
     def _arrive(self, number: int) -> None:

@@ -27,6 +27,8 @@ LETTERS, DRAWN = string.ascii_lowercase + string.digits, 12
 #: How the text that made a log's table of participants ends, if the log keeps names: the manager's, which may be empty, and those of
 #: its resource managers.
 KEPT = re.compile(r" /\* ([A-Za-z0-9_ -]*) \*/\)$")
+#: A log is written by pages, with some beside it.
+LEAST_ROOM = 65536
 #: A look at a log that takes longer than so many seconds is given up.
 LONGEST_LOOK = 60
 #: How the lines begin that `xatm log` prints before what is decided.
@@ -204,7 +206,18 @@ def fault_of_log(path: str) -> Optional[str]:
         return "this user may not write it, or its folder"
     with open(path, "rb") as it:
         begin = it.read(len(HEADER))
-    return "it is another kind of file" if begin and begin != HEADER else None
+    if begin and begin != HEADER:
+        return "it is another kind of file"
+    return f"the disk of {folder} is full" if is_disk_full(path) else None
+
+
+def is_disk_full(path: str) -> bool:
+    """Whether there is no room for a log at this path any more, as far as the system tells."""
+    try:
+        found = os.statvfs(os.path.dirname(os.path.abspath(path)))
+    except OSError:
+        return False
+    return found.f_bavail * found.f_frsize < LEAST_ROOM
 
 
 def is_log_in_use(path: str) -> bool:

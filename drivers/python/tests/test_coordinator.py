@@ -6,7 +6,9 @@ import sys
 import tempfile
 import threading
 import time
+import types
 import unittest
+from unittest import mock
 
 from garterfossil.coordinator import Coordinator
 from garterfossil.errors import CoordinatorGone, Refused, RequestError, SetupError, Unexplained
@@ -107,6 +109,12 @@ class Coordinators(unittest.TestCase):
         with self.assertRaises(CoordinatorGone):
             coordinator.ask("refused 15 LogFault")
         self.assertTrue(coordinator.is_gone)
+
+    def test_a_log_that_failed_for_a_full_disk_is_told_so(self):
+        coordinator = Coordinator([sys.executable, "-c", ECHO], 2.0, "/tmp/log")
+        full = types.SimpleNamespace(f_bavail=1, f_frsize=4096)
+        with mock.patch("os.statvfs", lambda path: full), self.assertRaisesRegex(CoordinatorGone, "disk of the log is full"):
+            coordinator.ask("refused 15 LogFault")
 
     def test_a_coordinator_that_does_not_start_tells_why(self):
         with self.assertRaisesRegex(CoordinatorGone, "xatm: log"):
