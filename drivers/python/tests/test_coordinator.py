@@ -84,7 +84,7 @@ class Coordinators(unittest.TestCase):
                     thread.join(20)
                 self.assertEqual(len(raised), 3)
                 self.assertIn("it says nothing any more", raised[0])
-                self.assertLess(time.monotonic() - begun, 10)
+                self.assertLess(time.monotonic() - begun, 25)
                 self.assertTrue(coordinator.is_gone)
 
     def test_a_process_that_was_forked_off_does_not_keep_it_up(self):

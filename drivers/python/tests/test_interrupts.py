@@ -85,7 +85,7 @@ class Interrupts(Case):
             outer[1].execute("give")
             inner[0].execute("take")
             inner[1].execute("give")
-        self.assertLess(time.monotonic() - begun, 3, where)
+        self.assertLess(time.monotonic() - begun, 15, where)
 
     def sweep(self, work, error):
         at = 1

@@ -37,7 +37,7 @@ class Beside(Case):
                 with xa.transaction(independent=True) as t:
                     t[0].execute("take")
                     t[1].execute("give")
-            self.assertLess(time.monotonic() - begun, 3)
+            self.assertLess(time.monotonic() - begun, 10)
         self.assertEqual(len(self.right.written), 20)
 
     def test_a_silent_database_does_not_hold_up_those_that_do_not_use_it(self):
@@ -48,7 +48,7 @@ class Beside(Case):
             for _ in range(20):
                 with xa.transaction() as t:
                     t[0].execute("take")
-            self.assertLess(time.monotonic() - begun, 2)
+            self.assertLess(time.monotonic() - begun, 8)
             xa._session._rms[1].is_recovery_due = False
         self.assertEqual(len(self.left.written), 20)
 
