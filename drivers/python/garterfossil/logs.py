@@ -29,6 +29,8 @@ LETTERS, DRAWN = string.ascii_lowercase + string.digits, 12
 KEPT = re.compile(r" /\* ([A-Za-z0-9_ -]*) \*/\)$")
 #: A log is written by pages, with some beside it.
 LEAST_ROOM = 65536
+#: What a look at a log meets for so many seconds may still pass.
+MOMENT = 2.0
 #: A look at a log that takes longer than so many seconds is given up.
 LONGEST_LOOK = 60
 #: How the lines begin that `xatm log` prints before what is decided.
@@ -85,20 +87,21 @@ def printed_log(program: str, path: str) -> List[str]:
 def _printed_in_time(program: str, path: str, patience: float) -> Optional[List[str]]:
     """The lines of the log at a path. None where there is no log yet. While another program has it, looks again for so many seconds, and
     then raises LogInUse. Raises SetupError if it can't be read."""
-    until = time.monotonic() + patience
+    begun = time.monotonic()
     while not is_new_log(path):
         try:
             return printed_log(program, path)
         except (LogInUse, LookKilled):
-            if time.monotonic() >= until:
+            if time.monotonic() >= begun + patience:
                 raise
-            time.sleep(0.1)
         except SetupError as error:
-            if not is_log_in_use(path):
-                fault = fault_of_log(path)
-                if fault is None:
-                    raise
+            fault = None if is_log_in_use(path) else fault_of_log(path)
+            if fault is not None:
                 raise SetupError(f"the log {path}: {fault} ({error})") from error
+            # Who had it may have let it go since it was looked at.
+            if time.monotonic() >= begun + min(patience, MOMENT):
+                raise
+        time.sleep(0.1)
     return None
 
 

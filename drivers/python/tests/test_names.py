@@ -136,10 +136,20 @@ class Kept(Case):
     def test_a_look_that_somebody_kills_is_made_again(self):
         program = os.path.join(self.folder, "is_killed")
         with open(program, "w") as it:
-            it.write(f"#!/bin/sh\n[ -e {self.folder}/once ] || {{ touch {self.folder}/once; kill -9 $$; }}\necho name shop-1\necho incarnation 3\n")
+            it.write(f"#!/bin/sh\n[ -e {self.folder}/once ] || {{ touch {self.folder}/once; kill -9 $$; }}\necho incarnation 3\n")
         os.chmod(program, 0o755)
-        with open(self.log, "w") as it:
-            it.write("a log")
+        with open(self.log, "wb") as it:
+            it.write(b"SQLite format 3\0")
+        self.assertEqual(kept_log(program, self.log, 5.0), KeptLog(3))
+
+    def test_a_log_that_was_in_use_as_it_was_looked_at_is_looked_at_again(self):
+        program = os.path.join(self.folder, "in_use")
+        used = f"echo 'xatm: {self.log}: another process runs over it, or it cannot be written' >&2; exit 2"
+        with open(program, "w") as it:
+            it.write(f"#!/bin/sh\n[ -e {self.folder}/once ] || {{ touch {self.folder}/once; {used}; }}\necho incarnation 3\n")
+        os.chmod(program, 0o755)
+        with open(self.log, "wb") as it:
+            it.write(b"SQLite format 3\0")
         self.assertEqual(kept_log(program, self.log, 5.0), KeptLog(3))
 
     def test_how_often_a_log_was_started_stands_in_its_file(self):
