@@ -57,7 +57,9 @@ PROGRAM = """
                 met += 1
             finally:
                 signal.setitimer(signal.ITIMER_REAL, 0)
-        time.sleep(0.5)
+        until = time.monotonic() + 10
+        while (len(xa._session.threads._free) < 5 or xa.counts()["open"]) and time.monotonic() < until:
+            time.sleep(0.1)
         print(met, len(xa._session.threads._free), xa.counts()["open"], flush=True)
         # What is left is looked at while the program lives.
         sys.stdin.readline()
@@ -157,7 +159,7 @@ class Guards:
         for path in kept:
             os.rename(path, f"{path}.right")
         shutil.copy(f"{self.log}.copy", self.log)
-        self.refused("an older log", "sessions, and database")
+        self.refused("an older log", "is older than")
         os.remove(self.log)
         self.refused("a new log in its place", "the log is new, and database")
         for path in (self.log, f"{self.log}-wal"):

@@ -51,7 +51,7 @@ class Block:
             raise
 
     def _begin(self) -> None:
-        session, thread, gtrid = self._manager.begin()
+        session, thread, gtrid = self._manager.begin(lambda: self._is_given_up)
         transaction = Transaction(session, thread, gtrid, self._options, self._timeout)
         self._lease = Lease(self._manager, session, thread, transaction)
         # From now on it is ended, whatever becomes of the block.

@@ -361,8 +361,9 @@ class TransactionManager:
         if entry is not None and entry.is_mine and not is_independent:
             raise NestedTransaction("this thread or task has a transaction already: independent=True is for one that commits by itself")
 
-    def begin(self) -> Tuple[Session, int, str]:
-        """A transaction that has begun, in the session that is up, or else in the next one: with its thread and its name."""
+    def begin(self, is_given_up: Callable[[], bool] = lambda: False) -> Tuple[Session, int, str]:
+        """A transaction that has begun, in the session that is up, or else in the next one: with its thread and its name. No thread is
+        waited for any more once it is given up."""
         until = time.monotonic() + self._settings.patience
         while True:
             try:
@@ -370,7 +371,7 @@ class TransactionManager:
                 if session is None or session.coordinator.is_gone:
                     session = self._current()
                 session.see_to_recoveries()
-                thread = session.threads.take(until)
+                thread = session.threads.take(until, is_given_up)
                 gtrid = self._begin_on(session, thread)
                 self._counts.begin()
                 return session, thread, gtrid

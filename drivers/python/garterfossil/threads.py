@@ -11,6 +11,8 @@ from .errors import Overdue
 
 #: Beyond so many transactions at a time somebody else writes soon.
 BUSY = 2
+#: Whoever waits looks after so many seconds whether he is still waited for.
+GLANCE = 0.2
 #: The thread on which databases are recovered (docs/SERVE.md).
 FIRST = 0
 
@@ -26,12 +28,20 @@ class Threads:
         self._whole_is_wanted = False
         # How many recoveries have the first thread, and how many wait for it.
         self._recoveries = self._recoveries_waiting = 0
+        # How many wait for a thread.
+        self._takers = 0
 
-    def take(self, until: float) -> int:
+    def take(self, until: float, is_given_up: Callable[[], bool] = lambda: False) -> int:
         """A thread that is free: the first only if no recovery wants it, and no other is. Waits for one until this moment of the
-        monotonic clock, and then raises Overdue."""
+        monotonic clock, or until nobody wants it any more, and then raises Overdue."""
         with self._change:
-            self._wait(self._has_one, until)
+            self._takers += 1
+            try:
+                while not self._change.wait_for(self._has_one, min(GLANCE, until - time.monotonic())):
+                    if is_given_up() or time.monotonic() >= until:
+                        raise Overdue("all threads of the coordinator are in use")
+            finally:
+                self._takers -= 1
             mine = self._free.pop()
             if mine == FIRST and self._free:
                 mine = self._free.pop()
@@ -41,6 +51,11 @@ class Threads:
     def _has_one(self) -> bool:
         is_first_wanted = self._recoveries_waiting > 0 and FIRST in self._free
         return len(self._free) > is_first_wanted and not self._whole_is_wanted
+
+    @property
+    def are_waited_for(self) -> bool:
+        """Whether somebody waits for one."""
+        return self._takers > 0
 
     @property
     def are_busy(self) -> bool:

@@ -184,6 +184,25 @@ class Interrupts(Case):
         self.assertTrue(is_interrupt(KeyboardInterrupt()))
 
 
+class Waiting(Case):
+    def test_who_is_interrupted_as_he_waits_for_a_thread_waits_no_longer(self):
+        def interrupt(*_):
+            raise SoftTimeLimit
+
+        self.addCleanup(signal.signal, signal.SIGALRM, signal.signal(signal.SIGALRM, interrupt))
+        self.addCleanup(signal.setitimer, signal.ITIMER_REAL, 0)
+        with self.manager(threads=1, patience=20.0) as xa:
+            with xa.transaction():
+                for _ in range(5):
+                    signal.setitimer(signal.ITIMER_REAL, 0.1)
+                    with self.assertRaises(SoftTimeLimit):
+                        xa.transaction(independent=True).__enter__()
+                # Those that were given up don't wait for the thread as long as the patience.
+                wait_for(lambda: not xa._session.threads.are_waited_for)
+            self.move(xa)
+        self.assertEqual(self.written(), (["take"], ["give"]))
+
+
 class Abandoned(Case):
     """Blocks that nobody leaves."""
 
