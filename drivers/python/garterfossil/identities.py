@@ -124,9 +124,9 @@ class Identities:
     def _write(self) -> None:
         """Writes the file anew, whole or not at all. Called with the lock."""
         entries: List[Dict[str, object]] = [{"number": number, **entry} for number, entry in sorted(self._known.items())]
-        found: Dict[str, object] = {"version": VERSION, "manager": self._manager, "incarnation": self._incarnation, "databases": entries}
-        if self._shut is not None:
-            found["shut"] = self._shut
+        # The line of what is shut isn't the last one, so that what is left without it is JSON as well.
+        shut = {} if self._shut is None else {"shut": self._shut}
+        found = {"version": VERSION, **shut, "manager": self._manager, "incarnation": self._incarnation, "databases": entries}
         try:
             with open(f"{self.path}-new", "w", encoding="utf-8") as it:
                 json.dump(found, it, indent=1)
