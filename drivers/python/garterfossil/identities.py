@@ -7,6 +7,7 @@ from __future__ import annotations
 import json
 import logging
 import os
+import re
 import threading
 from typing import Any, Dict, List, Optional
 
@@ -46,7 +47,8 @@ class Identities:
     def _read(self) -> Optional[Dict[str, Any]]:
         try:
             with open(self.path, encoding="utf-8") as it:
-                found: Dict[str, Any] = json.load(it)
+                # (Where somebody has removed the last line a comma stays behind.)
+                found: Dict[str, Any] = json.loads(re.sub(r",\s*}\s*$", "}", it.read()))
             if found["version"] != VERSION:
                 raise SetupError(f"{self.path} is of another version of the driver")
             # What is missing would be found later otherwise.

@@ -93,6 +93,15 @@ class Identities(Case):
         self.assertIn("is missing", logged.output[0])
         self.assertEqual(self.kept(), {0: "the left one", 1: "the right one"})
 
+    def test_a_last_line_that_was_removed_by_hand(self):
+        self.manager().close()
+        with open(self.log + SUFFIX) as it:
+            text = it.read().rstrip().rstrip("}")
+        with open(self.log + SUFFIX, "w") as it:
+            it.write(text.rstrip() + ",\n}\n")
+        self.manager().close()
+        self.assertEqual(self.kept(), {0: "the left one", 1: "the right one"})
+
     def test_a_file_that_is_none_is_refused(self):
         self.manager().close()
         for text in ("", "{}", "[]", '{"version": 2}'):
