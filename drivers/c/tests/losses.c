@@ -72,14 +72,14 @@ static void it_ends(void)
 /* A process that waits for ever, and one that is stopped. */
 static void it_is_silent(void)
 {
-    set_up(NULL, "patience 3\n");
-    see_moments("silent", 4);
+    set_up(NULL, "patience 6\n");
+    see_moments("silent", 8);
 }
 
 static void it_is_stopped(void)
 {
-    set_up(NULL, "patience 3\n");
-    see_moments("stop", 4);
+    set_up(NULL, "patience 6\n");
+    see_moments("stop", 8);
 }
 
 static void its_log_fails(void)

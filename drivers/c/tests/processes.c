@@ -139,7 +139,7 @@ static void interruptions_of_a_silence(void)
     struct sigaction it = {.sa_handler = tick};
     struct itimerval often = {.it_interval = {.tv_usec = 3000}, .it_value = {.tv_usec = 3000}}, never = {.it_value = {0}};
 
-    set_up(NULL, "patience 3\n");
+    set_up(NULL, "patience 6\n");
     IS(tx_open(), TX_OK);
     BEGIN(5);
     write_file("log.silent", "decide");
