@@ -41,16 +41,6 @@ static void see_moment(const char *how, const char *moment, int (*end)(void), in
     see_end(moment, begun, ended, before);
 }
 
-/* Where the patience is short, a start may take longer on a busy machine. */
-static bool is_begun(void)
-{
-    bool is_so = false;
-
-    for (int tries = 0; tries < 10 && !is_so; tries++)
-        is_so = tx_open() == TX_OK && tx_begin() == TX_OK;
-    return is_so;
-}
-
 static void see_moments(const char *how, size_t step)
 {
     for (size_t i = 0; i < sizeof moments / sizeof moments[0]; i += step) {

@@ -106,6 +106,15 @@ void kill_coordinator(void)
     nanosleep(&(struct timespec){.tv_nsec = 50000000}, NULL);
 }
 
+bool is_begun(void)
+{
+    bool is_so = false;
+
+    for (int tries = 0; tries < 10 && !is_so; tries++)
+        is_so = tx_open() == TX_OK && tx_begin() == TX_OK;
+    return is_so;
+}
+
 bool is_settled(void)
 {
     for (int i = 0; i < 1500; i++) {

@@ -26,6 +26,8 @@ const char *told(const char *request);
 int count_told(const char *request);
 /* Kills the coordinator. */
 void kill_coordinator(void);
+/* Opens and begins. Where the patience is short, a start may take longer on a busy machine. */
+bool is_begun(void);
 /* Waits until nothing is prepared: whether that came to be. */
 bool is_settled(void);
 
