@@ -36,10 +36,7 @@ pub fn make_log(rt: &HostRuntime, path: &str) -> Result<(), Failure> {
 }
 
 /// What the lines of a log say.
-fn read_lines<'a>(
-    alloc: Global,
-    lines: &[&'a str],
-) -> Result<(Heading<'a>, LogLines), Failure>
+fn read_lines<'a>(alloc: Global, lines: &[&'a str]) -> Result<(Heading<'a>, LogLines), Failure>
     ensures own { IfOk result (λ it. AllByRecursion OwnsBranches it.1.decisions.items) }
     ensures fits { IfOk result (λ it.
         AllByRecursion (λ d. FitsRow d.gtrid) it.1.decisions.items) }
