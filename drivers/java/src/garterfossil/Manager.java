@@ -24,6 +24,8 @@ public final class Manager implements AutoCloseable {
     static final Logger LOG = System.getLogger("garterfossil");
     /** So many milliseconds the end of a transaction waits for work that another thread still does in it. */
     static final long WORK_PATIENCE = 2_000;
+    /** So long a session that follows another waits for resources that are silent, and with it the transactions that begin meanwhile. */
+    private static final Duration AGAIN = Duration.ofSeconds(2);
 
     /** What a manager is made of. */
     public static final class Builder {
@@ -226,8 +228,9 @@ public final class Manager implements AutoCloseable {
         try {
             identities.begin(next.incarnation);
             decisions.find(next.incarnation, next.owed());
+            Duration longest = session == null || made.patience.compareTo(AGAIN) < 0 ? made.patience : AGAIN;
             session = next;
-            next.recover(made.patience);
+            next.recover(longest);
         } catch (Fault error) {
             coordinator.kill("its start failed: " + error.getMessage());
             throw error;

@@ -472,6 +472,23 @@ public class RecoveryTest {
     }
 
     @Test
+    public void aResourceThatIsSilentAtARestart() throws Exception {
+        CountDownLatch mayGoOn = new CountDownLatch(1);
+        world.a.beforeConnect = () -> World.await(mayGoOn);
+        Session before = world.manager.session();
+        before.coordinator.kill("a test");
+        FutureTask<Session> next = new FutureTask<>(world.manager::session);
+        new Thread(next).start();
+        // It isn't waited for as long as a start waits.
+        next.get(6, TimeUnit.SECONDS);
+        GlobalTransaction transaction = world.begin();
+        transaction.enlist(world.b);
+        transaction.commit();
+        mayGoOn.countDown();
+        nothingIsLeft();
+    }
+
+    @Test
     public void aResourceThatIsSilentAtTheStart() throws Exception {
         world.manager.close();
         CountDownLatch mayGoOn = new CountDownLatch(1);
