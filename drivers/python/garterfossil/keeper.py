@@ -69,7 +69,7 @@ class Keeper:
 
     def try_to_recover(self, rm: ResourceManager) -> bool:
         """Recovers the database, if it can be reached. Whether that was done."""
-        if not rm.can_be_reached():
+        if not rm.can_be_reached() or self._stop.is_set():
             return False
         try:
             with self._session.threads.first(time.monotonic() + self._session.patience):
@@ -87,11 +87,8 @@ class Keeper:
             log.warning("the recovery of %s is put off: %s", rm.label, error)
         return False
 
-    def finish(self, until: float) -> None:
-        """Has what is due done once more, and lets no more begin. Waits until this moment of the monotonic clock."""
+    def finish(self) -> None:
+        """Lets no recovery begin any more. One that is under way has the first thread; one that only looks at a database has nothing."""
         with self._lock:
             self._is_over = True
-            working = list(self._working.values())
         self._stop.set()
-        for thread, _ in working:
-            thread.join(max(0.0, until - time.monotonic()))

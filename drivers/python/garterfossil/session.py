@@ -291,7 +291,7 @@ class Session:
         and raises Overdue: the next session rolls them back."""
         seconds = self.patience if patience is None else patience
         until = time.monotonic() + seconds
-        self.keeper.finish(until)
+        self.keeper.finish()
         try:
             with self.threads.all(until):
                 for rm in self._rms:

@@ -111,6 +111,15 @@ class Beside(Case):
             self.right.before.clear()
         self.assertEqual((self.left.prepared, self.right.prepared), ({}, {}))
 
+    def test_close_does_not_wait_for_a_database_that_is_silent(self):
+        xa = self.manager(patience=20.0)
+        xa._session._rms[1].can_be_reached = lambda: time.sleep(5)
+        xa._session._rms[1].is_recovery_due = True
+        self.move(xa)
+        begun = time.monotonic()
+        xa.close()
+        self.assertLess(time.monotonic() - begun, 3)
+
     def test_threads_end_once_nothing_is_due(self):
         with self.manager() as xa:
             self.right.next["work"] = "lost"
