@@ -13,8 +13,8 @@ static int one_phase_result(int code)
     return code == XA_HEURMIX ? TX_MIXED : TX_HAZARD;
 }
 
-/* The calls are issued, and the next transaction is begun with them. False if the session is over: the coordinator may
- * take the branch for one that decides by itself. */
+/* The calls are issued, and the next transaction is begun with them. False if the session is over:
+ * the coordinator may take the branch for one that decides by itself. */
 static bool is_one_phase_issued(int rm)
 {
     say_issue(rm, "xa_end", " TMSUCCESS");
@@ -90,8 +90,8 @@ static bool has_all_votes(void)
     return has_all;
 }
 
-/* All branches are told to commit. What can't be told now is left to the keeper: the transaction is committed in any
- * case. */
+/* All branches are told to commit. What can't be told now is left to the keeper: the transaction is
+ * committed in any case. */
 static int tell_commit(void)
 {
     int result = TX_OK;

@@ -47,17 +47,17 @@ struct coordinator {
     struct wish *wishes, **last_wish;
 };
 
-/* Starts the program, and gives the line that it greets with (`restarted ..`), to be freed; NULL if there is none. It
- * is ended then, too. */
+/* Starts the program, and gives the line that it greets with (`restarted ..`), to be freed; NULL if
+ * there is none. It is ended then, too. */
 char *coordinator_start(struct coordinator *, char *const words[], pthread_cond_t *);
 
-/* Puts a line on its way: it is written with the next that is waited for. A post that is nobody's is freed when the
- * reply is there. There is none if the session is over. */
+/* Puts a line on its way: it is written with the next that is waited for. A post that is nobody's
+ * is freed when the reply is there. There is none if the session is over. */
 void coordinator_post(struct coordinator *, struct post *, unsigned session, const char *requests);
 void coordinator_flush(struct coordinator *);
 
-/* Asks for a decision to commit, by one request with those that other threads ask for meanwhile. The post is that of
- * the line behind it. */
+/* Asks for a decision to commit, by one request with those that other threads ask for meanwhile.
+ * The post is that of the line behind it. */
 void coordinator_decide(struct coordinator *, struct wish *);
 
 /* Waits until the reply to a post is there, or the coordinator is gone. */
@@ -81,7 +81,7 @@ void add(struct coordinator *, const char *text);
 /* The line that was added has this post. */
 void enqueue(struct coordinator *, struct post *);
 void lose(struct coordinator *);
-/* Decides what was asked for until now, by one request: the log is written once for all of it. Each line behind it is
- * refused if the decision is. */
+/* Decides what was asked for until now, by one request: the log is written once for all of it. Each
+ * line behind it is refused if the decision is. */
 void decide_next(struct coordinator *);
 #endif

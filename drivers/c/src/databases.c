@@ -1,7 +1,8 @@
-/* What is kept beside the log, in `<log>-databases`: which databases it belongs to, and how far it has come. The drivers in
- * Python and Java read and write the same file:
+/* What is kept beside the log, in `<log>-databases`: which databases it belongs to, and how far it
+ * has come. The drivers in Python and Java read and write the same file:
  *
- *     {"version": 1, "manager": "shop-1", "incarnation": 12, "databases": [{"number": 0, "at": "..", "identity": ".."}]}
+ *     {"version": 1, "manager": "shop-1", "incarnation": 12,
+ *      "databases": [{"number": 0, "at": "..", "identity": ".."}]}
  *
  * and, if nobody is to use the log, "shut" with the reason. */
 #include "databases.h"
@@ -188,7 +189,8 @@ bool save_databases(void)
 
 /* ** which databases they are */
 
-/* The name of another resource manager that the log has met as this, NULL if there is none: two have changed places. */
+/* The name of another resource manager that the log has met as this, NULL if there is none: two
+ * have changed places. */
 static const char *place_of(const char *identity)
 {
     for (int rm = 0; rm < settings.rms; rm++)

@@ -7,13 +7,15 @@
 
 /* Reads `<log>-databases`, if it is there and this manager's. False if it can't be read. */
 bool read_databases(void);
-/* Whether the database that the calling thread has opened at a resource manager is the one that the log belongs to. One
- * that wasn't met yet is from then on, and one that tells no identity always is. */
+/* Whether the database that the calling thread has opened at a resource manager is the one that the
+ * log belongs to. One that wasn't met yet is from then on, and one that tells no identity always
+ * is. */
 bool is_its_database(int rm);
 /* The last incarnation of the log that was met, 0 if there is none. */
 long last_incarnation(void);
 void meet_incarnation(long);
-/* Why no session is to begin over the log until somebody has looked, "" if one may; and that none is, in later runs too. */
+/* Why no session is to begin over the log until somebody has looked, "" if one may; and that none
+ * is, in later runs too. */
 const char *shut_because(void);
 void shut_log(const char *why);
 /* Writes what was met. False if it can't be written. */

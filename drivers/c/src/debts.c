@@ -73,8 +73,8 @@ bool is_any_due(void)
 void owe(const struct thread *t, int rm, bool commits)
 {
     lock();
-    /* What an earlier session left is in its log, or is rolled back. If there is no memory, this one is an earlier one
-     * from now on. */
+    /* What an earlier session left is in its log, or is rolled back. If there is no memory, this
+     * one is an earlier one from now on. */
     if (t->session == all.session && !is_debt_added(rm, &t->line[rm].xid, t->gtrid, commits, t->line[rm].was_asked))
         coordinator_lose(&coordinator, t->session);
     set_due(rm);
@@ -165,7 +165,8 @@ bool pay_debts(int rm)
 
 /* ** rows */
 
-/* Nobody waits for the reply: a row that stays is found by the next session, whose branches are over. */
+/* Nobody waits for the reply: a row that stays is found by the next session, whose branches are
+ * over. */
 void post_rows(void)
 {
     char request[8 + ROWS * GTRID];

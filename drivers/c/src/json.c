@@ -35,7 +35,8 @@ static size_t put_utf8(long point, char to[4])
     return count;
 }
 
-/* What `\u` stands for, whose digits come next, with its other half where it has one. How many bytes; 0 if it is none. */
+/* What `\u` stands for, whose digits come next, with its other half where it has one. How many
+ * bytes; 0 if it is none. */
 static size_t read_point(const char **at, char to[4])
 {
     long point = unit_at(*at), low;

@@ -53,8 +53,8 @@ static void set_command(struct command *to)
     *word = NULL;
 }
 
-/* Why it didn't start. One that was killed says nothing, and while another process has the log, it may be free in a
- * moment: then it is started again. */
+/* Why it didn't start. One that was killed says nothing, and while another process has the log, it
+ * may be free in a moment: then it is started again. */
 static void note_failed_start(enum seen seen)
 {
     char said[512];
@@ -73,7 +73,8 @@ static void note_failed_start(enum seen seen)
         hinder("the coordinator doesn't start: %s", said);
 }
 
-/* `restarted <incarnation> <decisions> <heuristics>`: notes the incarnation. False if it isn't so. */
+/* `restarted <incarnation> <decisions> <heuristics>`: notes the incarnation. False if it isn't
+ * so. */
 static bool is_greeted(const char *greeting)
 {
     long incarnation = 0;
@@ -130,8 +131,9 @@ static void end_session(void)
         warn(said, "");
 }
 
-/* What became of a decision whose reply never came: the rows say it, before anything is recovered. If another process had
- * the log in between, it may have ended the transaction, and that there is no row says nothing. */
+/* What became of a decision whose reply never came: the rows say it, before anything is recovered.
+ * If another process had the log in between, it may have ended the transaction, and that there is
+ * no row says nothing. */
 static enum outcome outcome_by_rows(const char *gtrid)
 {
     if (is_owed(gtrid))

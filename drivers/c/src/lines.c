@@ -121,8 +121,8 @@ static void deliver_all(struct coordinator *c)
         lose(c); /* no reply is so long */
 }
 
-/* What has come, waiting for it if no flag is given: EAGAIN if nothing comes within the patience. A process that was
- * stopped for so long looks once more. */
+/* What has come, waiting for it if no flag is given: EAGAIN if nothing comes within the patience. A
+ * process that was stopped for so long looks once more. */
 static ssize_t receive(const struct coordinator *c, int lines, char *to, size_t room, int flags)
 {
     struct timespec until = in_seconds(c->patience);
@@ -166,8 +166,8 @@ static void read_some(struct coordinator *c, int flags)
 
 /* ** writing */
 
-/* Writes what it can without waiting, or waits for a moment for room. How much was written; -1 if the coordinator is
- * gone. The lock is free meanwhile. */
+/* Writes what it can without waiting, or waits for a moment for room. How much was written; -1 if
+ * the coordinator is gone. The lock is free meanwhile. */
 static ssize_t write_some(struct coordinator *c, const char *from, size_t length)
 {
     struct pollfd it = {.fd = c->process.lines, .events = POLLOUT | POLLIN};
@@ -178,7 +178,8 @@ static ssize_t write_some(struct coordinator *c, const char *from, size_t length
     if (is_full)
         poll(&it, 1, 10);
     pthread_mutex_lock(&c->lock);
-    /* If nobody reads, the coordinator might wait for a reader, and this writer for the coordinator. */
+    /* If nobody reads, the coordinator might wait for a reader, and this writer for the
+     * coordinator. */
     if (is_full && !c->is_read)
         read_some(c, MSG_DONTWAIT);
     return is_later ? 0 : count;

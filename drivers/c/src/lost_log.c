@@ -1,5 +1,6 @@
-/* Whether the log is the one that the databases belong to. What another log has decided would be rolled back over it: so
- * each start looks before the coordinator starts, and a log that was refused once stays refused. */
+/* Whether the log is the one that the databases belong to. What another log has decided would be
+ * rolled back over it: so each start looks before the coordinator starts, and a log that was
+ * refused once stays refused. */
 #include <stdarg.h>
 #include <stdio.h>
 #include <sys/stat.h>

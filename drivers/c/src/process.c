@@ -32,7 +32,8 @@ static pid_t spawn(char *const words[], int lines, int errors)
     posix_spawn_file_actions_adddup2(&files, lines, STDOUT_FILENO);
     posix_spawn_file_actions_adddup2(&files, errors, STDERR_FILENO);
 #if __GLIBC_PREREQ(2, 34)
-    /* What the program has open is no affair of the coordinator's, as a socket that it listens on. */
+    /* What the program has open is no affair of the coordinator's, as a socket that it listens
+     * on. */
     posix_spawn_file_actions_addclosefrom_np(&files, STDERR_FILENO + 1);
 #endif
     posix_spawnattr_init(&how);

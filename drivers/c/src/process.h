@@ -5,16 +5,18 @@
 #include <stddef.h>
 #include <sys/types.h>
 
-/* The handle is the system's own of this process. So no other is meant, even if the program waits for all its children
- * itself and their numbers are given out again. */
+/* The handle is the system's own of this process. So no other is meant, even if the program waits
+ * for all its children itself and their numbers are given out again. */
 struct process {
     pid_t pid;
     int handle, lines, errors; /* -1 if there is none: a system before Linux 5.3 has no handles */
 };
 
-/* Its lines are a socket: a write to one that has ended can be kept from ending the program (SIGPIPE). */
+/* Its lines are a socket: a write to one that has ended can be kept from ending the program
+ * (SIGPIPE). */
 bool process_start(struct process *, char *const words[]);
-/* Sees that it has ended, and gives what it printed of errors. It is killed if it hasn't ended in so many seconds. */
+/* Sees that it has ended, and gives what it printed of errors. It is killed if it hasn't ended in
+ * so many seconds. */
 void process_end(struct process *, double patience, char *said, size_t room);
 /* In a child that was forked off: lets go of it, so that the parent's end is its end. */
 void process_forget(struct process *);

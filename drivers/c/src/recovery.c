@@ -1,7 +1,7 @@
 /* The recovery of a resource manager, on the coordinator's thread 0 (docs/SERVE.md, "Recovery").
  *
- * Of what a resource manager lists, the coordinator is told only what earlier sessions have begun. What this session left
- * there is owed by name. So no transaction waits for a recovery. */
+ * Of what a resource manager lists, the coordinator is told only what earlier sessions have begun.
+ * What this session left there is owed by name. So no transaction waits for a recovery. */
 #include <stdio.h>
 #include <stdlib.h>
 #include <string.h>
@@ -15,7 +15,8 @@ enum { SCANS = 20 };
 
 enum standing { EARLIER, STRANGE, FORGOTTEN, ITS_OWN };
 
-/* That of a transaction of this session. Those that ended after the list was read may still be on it. */
+/* That of a transaction of this session. Those that ended after the list was read may still be on
+ * it. */
 static enum standing standing_now(const char *gtrid, unsigned long ended_before)
 {
     for (struct thread *t = all.threads; t != NULL; t = t->next)
@@ -29,8 +30,8 @@ static enum standing standing_now(const char *gtrid, unsigned long ended_before)
     return STRANGE;
 }
 
-/* A database may forget in a crash that it rolled a branch back; one of a transaction that nobody began is another
- * log's. */
+/* A database may forget in a crash that it rolled a branch back; one of a transaction that nobody
+ * began is another log's. */
 static enum standing standing_of(const char *gtrid, unsigned long ended_before)
 {
     if (incarnation_of(gtrid) != all.incarnation)
@@ -71,8 +72,8 @@ int end_listed(int rm, const char *name, XID *xid, bool was_asked)
 
 /* ** scans */
 
-/* Leaves in a page what earlier sessions have begun. How much that is; -1 if the session is over, since a branch is
- * another log's, or one that its database forgot that it is over. */
+/* Leaves in a page what earlier sessions have begun. How much that is; -1 if the session is over,
+ * since a branch is another log's, or one that its database forgot that it is over. */
 static int earlier_of(int rm, XID *page, long count, unsigned long ended_before)
 {
     char text[XID_TEXT], gtrid[GTRID];
@@ -92,8 +93,8 @@ static int earlier_of(int rm, XID *page, long count, unsigned long ended_before)
     return earlier;
 }
 
-/* Tells what is listed of earlier sessions. How many were listed in all, after so many transactions had ended; -1 if
- * that can't be done now. */
+/* Tells what is listed of earlier sessions. How many were listed in all, after so many transactions
+ * had ended; -1 if that can't be done now. */
 static long scan_page(int rm, bool is_first, unsigned long ended_before)
 {
     char text[XID_TEXT];
@@ -127,7 +128,8 @@ static int end_resolved(int rm)
     return calls;
 }
 
-/* Ends what is listed, as the coordinator says. How many calls it took; -1 if that can't be done now. */
+/* Ends what is listed, as the coordinator says. How many calls it took; -1 if that can't be done
+ * now. */
 static int scan(int rm)
 {
     long listed = PAGE;

@@ -1,5 +1,6 @@
-/* The sessions of the process with the coordinator, one after the other, which the keeper begins and ends: a thread that
- * lives as long as a thread of the program has the resource managers open. It recovers these, too. */
+/* The sessions of the process with the coordinator, one after the other, which the keeper begins
+ * and ends: a thread that lives as long as a thread of the program has the resource managers open.
+ * It recovers these, too. */
 #ifndef SESSION_H
 #define SESSION_H
 #include <stdatomic.h>
@@ -15,7 +16,8 @@ enum {
 
 /* ** what threads of the program ask: session.c */
 
-/* A thread comes, or goes: the first starts the keeper, and the last ends it. TX_OK, or else TX_ERROR or TX_FAIL. */
+/* A thread comes, or goes: the first starts the keeper, and the last ends it. TX_OK, or else
+ * TX_ERROR or TX_FAIL. */
 int session_join(struct thread *);
 void session_leave(struct thread *);
 /* The session that is up, waiting for it; 0 if there is none in time. */
@@ -28,10 +30,12 @@ void note_over(const struct thread *);
 /* The thread's transaction begins; it is over, and whether it has a row that may leave the log. */
 void note_begun(struct thread *, const char *gtrid);
 void note_ended(struct thread *, bool is_rolled_back, bool has_row);
-/* Before a decision; if its reply never came, waits for the next session to say what became of it. */
+/* Before a decision; if its reply never came, waits for the next session to say what became of
+ * it. */
 void expect(struct thread *);
 enum outcome outcome_of(struct thread *);
-/* The branch of the thread's transaction is to end so, which couldn't be told or wasn't acknowledged. */
+/* The branch of the thread's transaction is to end so, which couldn't be told or wasn't
+ * acknowledged. */
 void owe(const struct thread *, int rm, bool commits);
 
 /* ** what the keeper's parts share */
@@ -106,14 +110,14 @@ bool is_any_due(void);
 bool is_due(int rm);
 /* Ends what is in doubt at a resource manager. What can't be done now stays due. */
 void recover(int rm);
-/* Makes a call that waits, and tells its answer; an end that the resource manager chose is forgotten then. The code that
- * was told, or NO_ANSWER. */
+/* Makes a call that waits, and tells its answer; an end that the resource manager chose is
+ * forgotten then. The code that was told, or NO_ANSWER. */
 int end_listed(int rm, const char *name, XID *, bool was_asked);
 
 /* ** lost_log.c */
 
-/* Before the coordinator starts: whether the log isn't lost, as far as that can be known. What another log has decided
- * would be rolled back by the second start over a new one. */
+/* Before the coordinator starts: whether the log isn't lost, as far as that can be known. What
+ * another log has decided would be rolled back by the second start over a new one. */
 bool may_begin(void);
 /* Once it has started: whether the log isn't older than it was. */
 bool is_log_current(void);

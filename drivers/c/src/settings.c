@@ -109,7 +109,8 @@ static bool is_number(const char *text, double *number, double least, double mos
     return sscanf(text, "%lf%n", number, &end) == 1 && text[end] == '\0' && *number >= least && *number <= most;
 }
 
-/* The path as it is from any folder: the program may go to another one, and the coordinator is started again there. */
+/* The path as it is from any folder: the program may go to another one, and the coordinator is
+ * started again there. */
 static bool is_path_kept(char *to, size_t room, const char *name)
 {
     char folder[512];

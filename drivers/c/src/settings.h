@@ -17,8 +17,9 @@ struct rm {
     char name[65], open[MAXINFOSIZE], close[MAXINFOSIZE];
     bool is_embedded; /* what the program has opened in it lasts as long as it is open */
     const struct xa_switch_t *xa;
-    /* What the database calls itself that the thread has opened there, and maybe what it was kept as, or NULL: 0, or 1 if it
-     * tells nothing, -1 if it can't be asked. NULL if the switch has no such function. */
+    /* What the database calls itself that the thread has opened there, and maybe what it was kept
+     * as, or NULL: 0, or 1 if it tells nothing, -1 if it can't be asked. NULL if the switch has no
+     * such function. */
     int (*identity)(int rmid, const char *kept, char identity[IDENTITY]);
 };
 

@@ -78,7 +78,8 @@ static enum seen seen_of(struct thread *t, struct post *post)
     return REFUSED;
 }
 
-/* Waits for all that is due, of which the last comes last. What is seen of the first that wasn't done stays. */
+/* Waits for all that is due, of which the last comes last. What is seen of the first that wasn't
+ * done stays. */
 static enum seen see_due(struct thread *t)
 {
     enum seen seen = t->overdue;
@@ -96,7 +97,8 @@ static enum seen see_due(struct thread *t)
     return seen;
 }
 
-/* The word that the reply to a request begins with, once it is done; NULL if it is one of several. */
+/* The word that the reply to a request begins with, once it is done; NULL if it is one of
+ * several. */
 static const char *replied_to(const char *request)
 {
     static const char *const words[][2] = {{"begin ", "begun "}, {"issue ", "issued "}, {"answer ", "heard "}, {"decide ", "decided"},
@@ -138,8 +140,8 @@ enum seen see(struct thread *t)
     return see_due(t);
 }
 
-/* Why a line of several wasn't done tells whether its first request was: if it tells neither, the next session will
- * find out. */
+/* Why a line of several wasn't done tells whether its first request was: if it tells neither, the
+ * next session will find out. */
 static enum seen refused_as(struct thread *t, const char *first, enum seen seen)
 {
     if (seen != REFUSED || (t->done == 0 && strncmp(t->reply, first, strlen(first)) == 0))

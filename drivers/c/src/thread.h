@@ -1,4 +1,5 @@
-/* A thread of the coordinator: what it asks, and the calls that it makes at the resource managers. */
+/* A thread of the coordinator: what it asks, and the calls that it makes at the resource
+ * managers. */
 #ifndef THREAD_H
 #define THREAD_H
 #include <pthread.h>
@@ -65,24 +66,26 @@ void say(struct thread *, const char *format, ...) LIKE_PRINTF(2, 3);
 void say_more(struct thread *, const char *word);
 /* Posts what is kept, as a line. */
 void post(struct thread *);
-/* Posts what is kept, and waits for the replies to all that was posted. DONE if all of it was done; `reply` is the last
- * then, and else that to the first request that wasn't. */
+/* Posts what is kept, and waits for the replies to all that was posted. DONE if all of it was done;
+ * `reply` is the last then, and else that to the first request that wasn't. */
 enum seen see(struct thread *);
-/* The same of a decision to commit the transaction, with what is kept in the line behind it. REFUSED only if it isn't
- * decided. */
+/* The same of a decision to commit the transaction, with what is kept in the line behind it.
+ * REFUSED only if it isn't decided. */
 enum seen decide(struct thread *);
 /* Nobody knows how the coordinator stands: the session is over, and the next one finds out. */
 enum seen lose_session(struct thread *, const char *why);
 
 /* ** calls: calls.c */
 
-/* Opens a resource manager, unless the thread has. False if it can't be, or is another database than the log's. */
+/* Opens a resource manager, unless the thread has. False if it can't be, or is another database
+ * than the log's. */
 bool is_rm_open(struct thread *, int rm);
-/* Begins a call at the resource manager, or makes it if that takes no asynchronous ones; `made` waits for its code. */
+/* Begins a call at the resource manager, or makes it if that takes no asynchronous ones; `made`
+ * waits for its code. */
 void make(struct thread *, int rm, int (*call)(XID *, int, long), long flags);
 int made(struct thread *, int rm);
-/* The connection is lost, or can't be used any more: it is closed, unless the resource manager is embedded, and the
- * coordinator is told. */
+/* The connection is lost, or can't be used any more: it is closed, unless the resource manager is
+ * embedded, and the coordinator is told. */
 void lose_line(struct thread *, int rm);
 /* The thread gives the resource manager up. */
 void close_line(struct thread *, int rm);

@@ -13,7 +13,8 @@ static pthread_once_t once = PTHREAD_ONCE_INIT;
 
 /* ** the calling thread */
 
-/* A thread that is cancelled is so behind the call: it may hold a lock, or read what others wait for. */
+/* A thread that is cancelled is so behind the call: it may hold a lock, or read what others wait
+ * for. */
 static int shielded(int (*call)(void))
 {
     int before;
@@ -67,7 +68,8 @@ static void at_thread_end(void *t)
     leave_all(t);
 }
 
-/* In a child: the connections and the coordinator are the parent's, and nothing here may touch them. */
+/* In a child: the connections and the coordinator are the parent's, and nothing here may touch
+ * them. */
 static void forked(void)
 {
     was_forked = true;
@@ -239,7 +241,8 @@ API int tx_info(TXINFO *info)
     return me->is_in_transaction;
 }
 
-/* A decision that is logged is told by the thread's own connections: so it can't return before they have answered. */
+/* A decision that is logged is told by the thread's own connections: so it can't return before they
+ * have answered. */
 API int tx_set_commit_return(COMMIT_RETURN when_return)
 {
     if (is_out() != TX_OK)

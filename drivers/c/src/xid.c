@@ -1,4 +1,5 @@
-/* The identifiers of this manager: `7:<name and transaction>:<thread and resource manager>` (docs/SERVE.md). */
+/* The identifiers of this manager: `7:<name and transaction>:<thread and resource manager>`
+ * (docs/SERVE.md). */
 #include "xid.h"
 
 #include <stdlib.h>

@@ -1,5 +1,5 @@
-/* The text of an identifier: `<format>:<gtrid>:<bqual>`, both parts in hexadecimal (docs/SERVE.md). The library and its
- * switches have it. */
+/* The text of an identifier: `<format>:<gtrid>:<bqual>`, both parts in hexadecimal (docs/SERVE.md).
+ * The library and its switches have it. */
 #include "xid_text.h"
 
 #include <stdio.h>

@@ -1,4 +1,5 @@
-/* What both switches do alike: the connections that threads hold, and what C193 says of a call before it is made. */
+/* What both switches do alike: the connections that threads hold, and what C193 says of a call
+ * before it is made. */
 #include "held.h"
 
 #include <pthread.h>

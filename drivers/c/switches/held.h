@@ -1,4 +1,5 @@
-/* What both switches do alike: the connections that threads hold, and what C193 says of a call before it is made. */
+/* What both switches do alike: the connections that threads hold, and what C193 says of a call
+ * before it is made. */
 #ifndef HELD_H
 #define HELD_H
 #include <stdbool.h>
@@ -7,7 +8,8 @@
 #define API __attribute__((visibility("default")))
 enum { HANDLE = 1 }; /* of the one call that may be under way */
 
-/* A connection of a thread to a resource manager, and its branch. Each switch has more behind it. */
+/* A connection of a thread to a resource manager, and its branch. Each switch has more behind
+ * it. */
 struct held {
     struct held *next, *next_of_all;
     int rmid;

@@ -1,5 +1,5 @@
-/* MariaDB as a resource manager (C193), over libmariadb and the server's statements XA. Any transaction manager may use
- * the switches; nothing here knows of one. */
+/* MariaDB as a resource manager (C193), over libmariadb and the server's statements XA. Any
+ * transaction manager may use the switches; nothing here knows of one. */
 #include "mariadb.h"
 
 #include <stdio.h>
@@ -38,7 +38,8 @@ static const char *or_null(const char *text)
     return text[0] == '\0' ? NULL : text;
 }
 
-/* A lock that another branch has isn't waited for any longer: no database sees a deadlock that goes over two. */
+/* A lock that another branch has isn't waited for any longer: no database sees a deadlock that goes
+ * over two. */
 static bool is_timeout_set(struct connection *c, const char *seconds)
 {
     char statement[64];
@@ -47,7 +48,8 @@ static bool is_timeout_set(struct connection *c, const char *seconds)
     return seconds[0] == '\0' || mysql_query(c->link, statement) == 0;
 }
 
-/* Work outside of a branch would be committed by itself: so one that begins later finds the connection read-only. */
+/* Work outside of a branch would be committed by itself: so one that begins later finds the
+ * connection read-only. */
 static bool is_connected(struct connection *c, const struct words *words)
 {
     unsigned seconds = SECONDS_TO_CONNECT;
@@ -208,7 +210,8 @@ static void compare(const struct held *own, void *with)
     it->is_found = it->is_found || mysql_thread_id(((const struct connection *)own)->link) == it->number;
 }
 
-/* The connections of this label that aren't of this process: how many; -1 if that can't be asked. */
+/* The connections of this label that aren't of this process: how many; -1 if that can't be
+ * asked. */
 static int strays_of(struct connection *c, unsigned long found[LOCKS])
 {
     char statement[LOCKS * 96] = "SELECT ";
@@ -231,7 +234,8 @@ static int strays_of(struct connection *c, unsigned long found[LOCKS])
     return is_right ? count : -1;
 }
 
-/* Ends them, and waits until they are gone: what they had under way could happen after the list is read. */
+/* Ends them, and waits until they are gone: what they had under way could happen after the list is
+ * read. */
 static bool are_strays_ended(struct connection *c)
 {
     unsigned long found[LOCKS];
@@ -287,8 +291,8 @@ API MYSQL *gf_mariadb_connection(int rmid)
     return is_registered(rmid, &xid) && begin(c, &xid, TMNOFLAGS) == XA_OK ? c->link : NULL;
 }
 
-/* What is in the view that is made in the database at its first use, to be freed; NULL if it can't be made: there is no
- * database, or no privilege. Of several that make it at once one does. */
+/* What is in the view that is made in the database at its first use, to be freed; NULL if it can't
+ * be made: there is no database, or no privilege. Of several that make it at once one does. */
 static char *own_identity(struct connection *c)
 {
     static const char asked[] = "SELECT id FROM garterfossil_identity";
@@ -307,8 +311,8 @@ static char *own_identity(struct connection *c)
     return is_made ? value_of(c->link, asked) : NULL;
 }
 
-/* As the drivers in Python and Java call it. What the server calls itself changes with its machine, so it is only taken if
- * the database can't have a name of its own. */
+/* As the drivers in Python and Java call it. What the server calls itself changes with its machine,
+ * so it is only taken if the database can't have a name of its own. */
 API int gf_mariadb_switch_identity(int rmid, const char *kept, char identity[256])
 {
     static const char asked[] = "SELECT VARIABLE_VALUE FROM information_schema.GLOBAL_VARIABLES WHERE VARIABLE_NAME = 'SERVER_UID'";

@@ -113,8 +113,8 @@ MYSQL_RES *list_of(struct connection *c)
     return mysql_query(c->link, "XA RECOVER") == 0 ? mysql_store_result(c->link) : NULL;
 }
 
-/* Whether the server lists a branch. It says that there is none, too, while another connection that prepared it is still
- * there. */
+/* Whether the server lists a branch. It says that there is none, too, while another connection that
+ * prepared it is still there. */
 static bool is_listed(struct connection *c, const XID *xid)
 {
     MYSQL_RES *rows = list_of(c);

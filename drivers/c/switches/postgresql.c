@@ -1,5 +1,5 @@
-/* PostgreSQL as a resource manager (C193), over libpq. Any transaction manager may use the switches; nothing here knows
- * of one. */
+/* PostgreSQL as a resource manager (C193), over libpq. Any transaction manager may use the
+ * switches; nothing here knows of one. */
 #include "postgresql.h"
 
 #include <stdio.h>
@@ -26,7 +26,8 @@ static bool is_true(PGresult *result, ExecStatusType status)
 
 /* ** xa_open, xa_close */
 
-/* Work outside of a branch would be committed by itself: so one that begins later finds the connection read-only. */
+/* Work outside of a branch would be committed by itself: so one that begins later finds the
+ * connection read-only. */
 static bool is_connected(struct connection *c, const char *info)
 {
     c->link = PQconnectdb(info);
@@ -105,7 +106,8 @@ static int pg_start(XID *xid, int rmid, long flags)
     return refused != XA_OK ? refused : begin(c, xid, flags);
 }
 
-/* The server knows no end of the work. What the program left of results is read, so that the connection is free. */
+/* The server knows no end of the work. What the program left of results is read, so that the
+ * connection is free. */
 static int pg_end(XID *xid, int rmid, long flags)
 {
     struct connection *c = connection_of(rmid);
@@ -213,8 +215,8 @@ static bool are_ended(struct connection *c, const char *statement)
     return is_done;
 }
 
-/* Ends the connections of this application_name that aren't of this process, and waits until they are gone: what they
- * had under way could happen after the list is read. */
+/* Ends the connections of this application_name that aren't of this process, and waits until they
+ * are gone: what they had under way could happen after the list is read. */
 static bool are_strays_ended(struct connection *c)
 {
     struct statement it = {.text = "SELECT pg_terminate_backend(pid) FROM pg_stat_activity WHERE usename = current_user"

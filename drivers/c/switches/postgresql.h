@@ -7,7 +7,8 @@
 struct connection {
     struct held held;
     PGconn *link;
-    /* What was sent, and what came of it: the tag of a statement that went well, and the SQLSTATE of one that didn't. */
+    /* What was sent, and what came of it: the tag of a statement that went well, and the SQLSTATE
+     * of one that didn't. */
     enum step { NOTHING, STARTS, LOOKS, PREPARES, COMMITS, ROLLS_BACK, COMMITS_PREPARED, ROLLS_BACK_PREPARED } step;
     const XID *about;
     int vote;

@@ -1,5 +1,6 @@
-/* The statements that XA's calls are at PostgreSQL (docs/SERVE.md, "Two databases"). A branch is the transaction of a
- * connection until it is prepared, and from then on the server's, by the text of its identifier. */
+/* The statements that XA's calls are at PostgreSQL (docs/SERVE.md, "Two databases"). A branch is
+ * the transaction of a connection until it is prepared, and from then on the server's, by the text
+ * of its identifier. */
 #include <stdio.h>
 #include <string.h>
 
@@ -85,8 +86,8 @@ static int finish_prepared(struct connection *c)
     return is_right ? XA_OK : XAER_NOTA;
 }
 
-/* The code of what was answered. A failed transaction is prepared and committed without an error, and only the tag says
- * that it was rolled back. */
+/* The code of what was answered. A failed transaction is prepared and committed without an error,
+ * and only the tag says that it was rolled back. */
 static int code_of(struct connection *c)
 {
     bool is_right = c->sqlstate[0] == '\0';

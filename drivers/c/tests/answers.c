@@ -1,5 +1,5 @@
-/* How answers of resource managers are told to the coordinator and to the program (docs/SERVE.md, "How answers are
- * reported"). */
+/* How answers of resource managers are told to the coordinator and to the program (docs/SERVE.md,
+ * "How answers are reported"). */
 #include <stdio.h>
 #include <string.h>
 
@@ -8,8 +8,8 @@
 static const char dynamic_rms[] = "rm a - stand_in_dynamic x\nrm b - stand_in_dynamic x\n";
 enum { LOST = 2000 }; /* told by `crash line` */
 
-/* A call of `a` that is answered so, whether it was made; what the program gets, and what the coordinator is told to
- * which call; and whether both committed. */
+/* A call of `a` that is answered so, whether it was made; what the program gets, and what the
+ * coordinator is told to which call; and whether both committed. */
 struct row {
     const char *call;
     int code;

@@ -1,5 +1,6 @@
-/* What the coordinator may say: the input is what it says of two lives, one after the other, whatever it was asked. Nothing
- * but its words comes from it, so nothing may end but the session. (libFuzzer; tests/fuzz builds and runs it.) */
+/* What the coordinator may say: the input is what it says of two lives, one after the other,
+ * whatever it was asked. Nothing but its words comes from it, so nothing may end but the session.
+ * (libFuzzer; tests/fuzz builds and runs it.) */
 #include <errno.h>
 #include <stdint.h>
 #include <stdio.h>

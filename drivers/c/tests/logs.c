@@ -1,5 +1,5 @@
-/* Whether the log is the one that the databases belong to: another one is refused at each start, and so is another
- * database. */
+/* Whether the log is the one that the databases belong to: another one is refused at each start,
+ * and so is another database. */
 #include <stdio.h>
 #include <stdlib.h>
 #include <string.h>
@@ -49,7 +49,8 @@ static void the_file(void)
     IS(tx_open(), TX_OK);
 }
 
-/* That of another driver, with what this one doesn't know; and that of another manager, whose log was here. */
+/* That of another driver, with what this one doesn't know; and that of another manager, whose log
+ * was here. */
 static void the_file_of_another(void)
 {
     write_file("log-databases",

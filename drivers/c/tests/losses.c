@@ -1,5 +1,5 @@
-/* The coordinator ends, or says nothing, or refuses, at each of its requests: both resource managers end each transaction
- * alike, and as the program was told. */
+/* The coordinator ends, or says nothing, or refuses, at each of its requests: both resource
+ * managers end each transaction alike, and as the program was told. */
 #include <stdio.h>
 #include <string.h>
 #include <time.h>

@@ -1,5 +1,6 @@
-/* The request for memory that REFUSE_AT numbers is refused, of those that the library makes: a transaction ends as its
- * program was told, and the next one goes well. memory FOLDER, which has the settings. */
+/* The request for memory that REFUSE_AT numbers is refused, of those that the library makes: a
+ * transaction ends as its program was told, and the next one goes well. memory FOLDER, which has
+ * the settings. */
 #include <garterfossil.h>
 #include <stdatomic.h>
 #include <stdbool.h>

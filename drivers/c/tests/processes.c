@@ -171,7 +171,8 @@ static void in_thread(void *(*work)(void *), void *with)
     pthread_join(thread, NULL);
 }
 
-/* Those that end without tx_close are closed, and their transactions rolled back; their numbers are free again. */
+/* Those that end without tx_close are closed, and their transactions rolled back; their numbers are
+ * free again. */
 static void threads_that_leave(void)
 {
     IS(tx_open(), TX_OK);

@@ -223,7 +223,8 @@ static int answer(const char *call, XID *xid, int rm, long flags)
         code = other->code;
         if (code == XAER_RMFAIL)
             lose_work(rm);
-        /* C193: XAER_RMERR to xa_commit says that the work was rolled back, as XA_RB* do of any call but xa_end. */
+        /* C193: XAER_RMERR to xa_commit says that the work was rolled back, as XA_RB* do of any
+         * call but xa_end. */
         bool is_end = strcmp(call, "xa_end") == 0;
         if (it != NULL && !is_end && ((code >= XA_RBBASE && code <= XA_RBEND) || (code == XAER_RMERR && strcmp(call, "xa_commit") == 0)))
             it->state = FREE;

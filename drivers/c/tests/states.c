@@ -6,7 +6,8 @@
 static const char dynamic_rms[] = "rm a - stand_in_dynamic x\nrm b - stand_in_dynamic x\n";
 static const char async_rms[] = "rm a - stand_in_async x\nrm b - stand_in x\n";
 
-/* S0 without tx_open; S1 and S2 outside of a transaction, unchained and chained; S3 and S4 in one. */
+/* S0 without tx_open; S1 and S2 outside of a transaction, unchained and chained; S3 and S4 in
+ * one. */
 static int state_now(void)
 {
     TXINFO info;

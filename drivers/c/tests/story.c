@@ -1,5 +1,6 @@
-/* Tells the stories of the driver's tests, which need no database: `stories [-NAME ..] [NAME ..]`, those whose names begin so,
- * without those that are named behind a `-`. The last line is 'N passed, M failed'. */
+/* Tells the stories of the driver's tests, which need no database: `stories [-NAME ..] [NAME ..]`,
+ * those whose names begin so, without those that are named behind a `-`. The last line is 'N
+ * passed, M failed'. */
 #include "story.h"
 
 #include <errno.h>

@@ -1,4 +1,5 @@
-/* Stories: each is told in a process of its own, over a coordinator and resource managers that are stand-ins. */
+/* Stories: each is told in a process of its own, over a coordinator and resource managers that are
+ * stand-ins. */
 #ifndef STORY_H
 #define STORY_H
 #include <garterfossil.h>
@@ -15,13 +16,15 @@ struct story {
 
 extern const struct story of_states[], of_answers[], of_losses[], of_logs[], of_processes[], of_parts[];
 
-/* What the process is to be set up with: without it, two resource managers `a` and `b`, whose switch is `stand_in`. */
+/* What the process is to be set up with: without it, two resource managers `a` and `b`, whose
+ * switch is `stand_in`. */
 void set_up(const char *rms, const char *others);
 /* A path in the story's folder; that of its log, and a tail. */
 const char *path_of(const char *name);
 void write_file(const char *name, const char *text);
 bool is_file(const char *name);
-/* The last word of the last request that the coordinator read and that begins so, "" if there is none. */
+/* The last word of the last request that the coordinator read and that begins so, "" if there is
+ * none. */
 const char *told(const char *request);
 int count_told(const char *request);
 /* Kills the coordinator. */

@@ -1,5 +1,5 @@
-/* Moves money between PostgreSQL and MariaDB on several threads, until it is killed or the seconds are over, and notes each
- * outcome that it was told: bank THREADS SECONDS TOLD */
+/* Moves money between PostgreSQL and MariaDB on several threads, until it is killed or the seconds
+ * are over, and notes each outcome that it was told: bank THREADS SECONDS TOLD */
 #include <fcntl.h>
 #include <garterfossil.h>
 #include <gf_mariadb.h>
@@ -66,8 +66,8 @@ static bool is_moved_between(const char *name, int amount, unsigned *seed)
     return is_paid(0, -amount, seed) && is_noted(0, "moved", name, text) && is_paid(1, amount, seed) && is_noted(1, "moved", name, text);
 }
 
-/* Mostly between the two; one of ten within one of them. One of ten fails on purpose: at once, or at xa_prepare in
- * PostgreSQL. */
+/* Mostly between the two; one of ten within one of them. One of ten fails on purpose: at once, or
+ * at xa_prepare in PostgreSQL. */
 static bool is_moved(const char *name, const char **kind, unsigned *seed)
 {
     int amount = 1 + rand_r(seed) % 50, chance = rand_r(seed) % 20;

@@ -1,6 +1,7 @@
-/* Money moves between two environments of Berkeley DB, which take part by the switch that Berkeley DB brings itself: no
- * line here or in the library knows how. `store HOME SECONDS` moves it for so long; `store HOME look` prints what both hold
- * together, which is 0, and how many transfers both have, or only one. The settings name HOME/a and HOME/b. */
+/* Money moves between two environments of Berkeley DB, which take part by the switch that Berkeley
+ * DB brings itself: no line here or in the library knows how. `store HOME SECONDS` moves it for so
+ * long; `store HOME look` prints what both hold together, which is 0, and how many transfers both
+ * have, or only one. The settings name HOME/a and HOME/b. */
 #include <db.h>
 #include <garterfossil.h>
 #include <stdbool.h>
@@ -64,7 +65,8 @@ static int get(DB *db, const char *name, long *value)
     return error == DB_NOTFOUND ? 0 : error;
 }
 
-/* Berkeley DB opens what XA is to see in the environment that was named last: so it is named once more. */
+/* Berkeley DB opens what XA is to see in the environment that was named last: so it is named once
+ * more. */
 static void open_store(int rm)
 {
     if (db_xa_switch.xa_open_entry(homes[rm], rm, 0) != 0)
@@ -99,7 +101,8 @@ static void move(unsigned *seed, long counts[3])
         sprintf(name + 2 * i, "%02x", (unsigned char)info.xid.data[i]);
     int ended = is_moved(name, 1 + rand_r(seed) % 9) && rand_r(seed) % 10 > 0 ? tx_commit() : (tx_rollback(), TX_ROLLBACK);
     counts[ended == TX_OK ? 0 : ended == TX_FAIL ? 2 : 1]++;
-    /* (TX_FAIL: the next coordinator was killed, too, before it could say what this one had decided.) */
+    /* (TX_FAIL: the next coordinator was killed, too, before it could say what this one had
+     * decided.) */
     if (ended != TX_OK && ended != TX_ROLLBACK && ended != TX_FAIL)
         stop("tx_commit", gf_error());
 }

@@ -1,4 +1,5 @@
-/* Stories over PostgreSQL and MariaDB, and how each ends: tour PG_INFO MARIADB_SOCKET [dynamic]. Says which is wrong. */
+/* Stories over PostgreSQL and MariaDB, and how each ends: tour PG_INFO MARIADB_SOCKET [dynamic].
+ * Says which is wrong. */
 #include <garterfossil.h>
 #include <gf_mariadb.h>
 #include <gf_postgresql.h>
