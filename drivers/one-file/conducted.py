@@ -4,6 +4,8 @@ It makes the calls that it is told to make, and tells how they were answered. Wh
 
 import concurrent.futures
 import contextlib
+import json
+import pathlib
 import re
 import subprocess
 import threading
@@ -21,6 +23,10 @@ class Gone(Exception):
     """The coordinator has ended."""
 
 
+class Shut(Exception):
+    """A database lists what no session over this log began: somebody has to look first, and to remove `shut` beside the log."""
+
+
 class Link:
     """A connection to a database, as a resource manager of XA."""
 
@@ -35,9 +41,8 @@ class PostgreSQL(Link):
     """To PostgreSQL. The application_name `label` is this manager's alone."""
 
     def __init__(self, dsn, label):
-        self.label, self.link = label, psycopg2.connect(dsn, application_name=label)
+        self.label, self.link = label, psycopg2.connect(dsn, application_name=label, options="-c lock_timeout=5000")
         self.link.autocommit, self.number = True, self.link.get_backend_pid()
-        self.run("SET lock_timeout = 5000")
 
     def numbers(self):
         return {pid for pid, in self.run("SELECT pid FROM pg_stat_activity WHERE application_name = %s", self.label)}
@@ -67,13 +72,11 @@ class MariaDB(Link):
     """To MariaDB. Its user is this manager's alone."""
 
     def __init__(self, words, label):
-        self.link = pymysql.connect(**words, autocommit=True)
+        self.link = pymysql.connect(**words, autocommit=True, init_command="SET innodb_lock_wait_timeout = 5")
         self.number = self.link.thread_id()
-        self.run("SET innodb_lock_wait_timeout = 5")
 
     def numbers(self):
-        mine = "SELECT id FROM information_schema.processlist WHERE user = SUBSTRING_INDEX(CURRENT_USER(), '@', 1)"
-        return {number for number, in self.run(mine)}
+        return {it for it, in self.run("SELECT id FROM information_schema.processlist WHERE user=SUBSTRING_INDEX(CURRENT_USER(), '@', 1)")}
 
     def end(self, number):
         with contextlib.suppress(pymysql.err.OperationalError):  # It may have ended by itself.
@@ -106,9 +109,9 @@ class MariaDB(Link):
 class Coordinator:
     """The coordinator's process, and one session with it."""
 
-    def __init__(self, words):
+    def __init__(self, words, shut):
         self.process = subprocess.Popen(words, stdin=subprocess.PIPE, stdout=subprocess.PIPE, text=True, start_new_session=True)
-        self.lock, self.is_gone = threading.Lock(), False
+        self.lock, self.is_gone, self.shut = threading.Lock(), False, shut
         while not self.ask().startswith("restarted "):
             pass
 
@@ -121,8 +124,8 @@ class Coordinator:
                 self.process.stdin.flush()
                 reply = self.process.stdout.readline().rstrip("\n")
         if reply.startswith("strange "):
-            raise SystemExit(f"this log is none of a database's: {reply}")
-        if reply.split(" ")[0] in ("", "stopped", "error"):
+            self.shut(reply)
+        if reply.split(" ")[0] in ("", "stopped", "error", "strange"):
             self.is_gone = True
             self.process.kill()
             self.process.wait()
@@ -138,17 +141,30 @@ class Manager:
         self.name, self.rms, self.threads, self.databases = name, range(len(databases)), range(threads + 1), databases
         self.mine, self.links, self.next, self.starting = f"7:{name.encode().hex()}", {}, {}, threading.Lock()
         self.pool, self.coordinator = concurrent.futures.ThreadPoolExecutor(threads * len(databases)), None
+        self.beside = pathlib.Path(f"{log}-databases")
         self.session()
         threading.Thread(target=self.keep, daemon=True).start()
+
+    def notes(self):
+        """What the file beside the log says."""
+        return json.loads(self.beside.read_text()) if self.beside.exists() else {"version": 1, "manager": self.name, "databases": []}
+
+    def shut(self, why):
+        """No session begins any more, in any process, until somebody has looked: a later one would take the branch for an old one."""
+        new = pathlib.Path(f"{self.beside}.new")
+        new.write_text(json.dumps(self.notes() | {"shut": why}))
+        new.replace(self.beside)
 
     def session(self):
         """The session that is up, or the next one, which first recovers what can be reached."""
         with self.starting:
             while not self.coordinator or self.coordinator.is_gone:
+                if why := self.notes().get("shut"):
+                    raise Shut(why)
                 for thread in self.threads:
                     self.drop(thread, *self.rms)
                 try:
-                    coordinator = Coordinator(self.words)
+                    coordinator = Coordinator(self.words, self.shut)
                     for rm in self.rms:
                         self.recover(coordinator, rm)
                     self.coordinator = coordinator
