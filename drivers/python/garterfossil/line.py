@@ -172,9 +172,12 @@ class Line:
             self.lose()
             raise
         if call.xid is not None:
-            answer = Answer(self._told(call, call.xid, answer.code))
+            code = self._told(call, call.xid, answer.code)
             if is_undone:
+                # Of a branch that may be prepared it is no reason that is told, but its end.
+                code = Code.OK if code.is_rollback else code
                 self.rm.note_undone(call.xid)
+            answer = Answer(code)
         self._tell(call, answer)
         return answer
 

@@ -39,7 +39,8 @@ def recover(session: Session, rm: ResourceManager) -> None:
     rm.is_recovery_due = False
     try:
         see_known(session, line)
-        see_over(session, line)
+        forgotten = see_over(session, line)
+        connection.put_off = {*connection.put_off, *forgotten}
         scan_until_done(session, line)
         pay_all(session, line)
     except Unexplained as error:
@@ -49,6 +50,17 @@ def recover(session: Session, rm: ResourceManager) -> None:
             line.lose()
         rm.is_recovery_due = True
         raise
+    if forgotten:
+        rm.is_recovery_due = True
+        begin_anew(session, line, forgotten)
+
+
+def begin_anew(session: Session, line: Line, forgotten: Set[Xid]) -> None:
+    """Ends the session, once no transaction is open, since the database has forgotten in a crash that it rolled branches back: to the next
+    session they are an earlier one's, and may stand there."""
+    with session.threads.all(time.monotonic() + GLANCE, but_first=True):
+        session.coordinator.quit()
+    raise CoordinatorGone(f"the session is ended: {line.rm.label} has forgotten the rollback of {sorted(forgotten)[0]}")
 
 
 def listed_at(session: Session, line: Line) -> List[Xid]:
@@ -69,26 +81,23 @@ def see_known(session: Session, line: Line) -> None:
         )
 
 
-def see_over(session: Session, line: Line) -> None:
-    """Sees that the database lists no branch of this session that is over. Where MariaDB has forgotten in a crash that this session rolled
-    a branch back, the session ends: to the next one the branch is an earlier one's, and may stand there. Anything else is for
-    somebody to look at."""
+def see_over(session: Session, line: Line) -> Set[Xid]:
+    """Sees that the database lists no branch that this session has ended there. It may have forgotten in a crash that it rolled one back,
+    as MariaDB does: those are what is returned, and no page is to list them. Anything else is for somebody to look at."""
+    listed = listed_at(session, line)
     # A transaction that has a branch by now, and isn't open any more behind the list, is over; what is listed once more stays.
-    over = _over(session, line, listed_at(session, line))
+    over = _over(session, line, listed)
     if over:
         over &= set(listed_at(session, line))
         over -= {call.branch for call in session.debts.at(line.rm.number)}
     if session.coordinator.is_gone:
         # What its transactions left is for the next one: nobody has ended it.
         raise CoordinatorGone("the coordinator is gone")
-    if not over:
-        return
-    odd = sorted(over - line.rm.undone)
+    undone = line.rm.undone
+    odd = sorted(over - undone)
     if odd:
         raise stop(session, line, f"{line.rm.label} lists {odd[0]} as prepared, which this session has ended there: it isn't as it was")
-    with session.threads.all(time.monotonic() + GLANCE, but_first=True):
-        session.coordinator.quit()
-    raise CoordinatorGone(f"the session is ended: {line.rm.label} has forgotten the rollback of {sorted(over)[0]}")
+    return over | {xid for xid in listed if xid in undone and incarnation_of(xid) < session.coordinator.incarnation}
 
 
 def _over(session: Session, line: Line, listed: List[Xid]) -> Set[Xid]:

@@ -187,6 +187,31 @@ class Stops(Case):
         with contextlib.suppress(CoordinatorGone, RolledBack, OutcomeUnknown):
             self.move(xa)
 
+    def test_a_rollback_of_an_earlier_sessions_branch_that_was_forgotten_is_done_again(self):
+        self.manager().close()
+        xid = Xid(7, bytes(7) + b"\1" + bytes(7) + b"\1", bytes(8))
+        self.left.prepared[xid] = ["one"]
+        with self.manager() as xa:
+            self.assertEqual(self.left.prepared, {})
+            # As MariaDB does in a crash.
+            self.left.prepared[xid] = ["one"]
+            xa._session._rms[0].is_recovery_due = True
+            self.move(xa)
+            wait_for(lambda: not self.left.prepared or self.moves_in_a_session(xa))
+        self.assertEqual(self.left.prepared, {})
+        self.assertNotIn("one", self.left.written)
+        self.manager().close()
+
+    def test_a_rollback_that_is_answered_by_its_reason(self):
+        self.manager().close()
+        self.left.prepared[Xid(7, bytes(7) + b"\1" + bytes(7) + b"\1", bytes(8))] = []
+        self.left.next["roll_back_prepared"] = Code.RBROLLBACK
+        self.left.before["roll_back_prepared"] = self.left.prepared.clear
+        with self.manager() as xa:
+            self.move(xa)
+        told = [line for line in self.requests("answer") if " xa_rollback " in line]
+        self.assertEqual([line.split(" ")[-1] for line in told[:1]], ["0"])
+
     def test_a_rollback_that_was_forgotten_is_done_again(self):
         with self.manager() as xa:
             self.right.next["prepare"] = Code.RBINTEGRITY
