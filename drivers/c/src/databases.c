@@ -135,6 +135,10 @@ static void write_all(FILE *file)
 
     fprintf(file, "{\n \"version\": %d,\n \"manager\": ", VERSION);
     write_string(file, settings.name);
+    if (kept.shut[0] != '\0') {
+        fputs(",\n \"shut\": ", file);
+        write_string(file, kept.shut);
+    }
     fprintf(file, ",\n \"incarnation\": %ld,\n \"databases\": [", kept.incarnation);
     for (int rm = 0; rm < MOST_RMS; rm++) {
         if (kept.databases[rm].identity[0] == '\0')
@@ -146,12 +150,7 @@ static void write_all(FILE *file)
         fputs("}", file);
         before = ", ";
     }
-    fputs("]", file);
-    if (kept.shut[0] != '\0') {
-        fputs(",\n \"shut\": ", file);
-        write_string(file, kept.shut);
-    }
-    fputs("\n}\n", file);
+    fputs("]\n}\n", file);
 }
 
 /* In one move, so that a crash leaves the file as it was, or as it is to be. */

@@ -13,6 +13,12 @@ bool is_next(const char **at, char it)
     return true;
 }
 
+static bool is_next_seen(const char **at, char it)
+{
+    *at += strspn(*at, " \t\r\n");
+    return **at == it;
+}
+
 /* The four digits of an escape, -1 if they aren't there. */
 static long unit_at(const char *at)
 {
@@ -117,7 +123,8 @@ bool read_object(const char **at, bool (*read)(const char *name, const char **at
     do {
         if (!read_string(at, name, sizeof name) || !is_next(at, ':') || !read(name, at, to))
             return false;
-    } while (is_next(at, ','));
+        /* (Somebody may have removed the last line, and left the comma.) */
+    } while (is_next(at, ',') && !is_next_seen(at, '}'));
     return is_next(at, '}');
 }
 

@@ -144,6 +144,15 @@ static void a_lost_log(void)
     IS(is_file("log"), false);
 }
 
+/* As somebody does by hand, a line. */
+static void remove_shut(void)
+{
+    char command[256];
+
+    snprintf(command, sizeof command, "sed -i '/^ \"shut\": /d' %s", path_of("log-databases"));
+    IS(system(command), 0);
+}
+
 /* An older one, put back while the file beside it stayed. */
 static void an_older_log(void)
 {
@@ -154,7 +163,10 @@ static void an_older_log(void)
         IS(start("older"), 2);
     write_file("log", "{\"incarnation\": 3, \"rows\": {}}");
     IS(start("older"), 2); /* until somebody says so */
-    write_file("log-databases", "{\"version\": 1, \"manager\": \"c\", \"incarnation\": 3, \"databases\": []}");
+    remove_shut();
+    IS(start(""), 0);
+    /* As the other drivers write it. */
+    write_file("log-databases", "{\n \"version\": 1,\n \"manager\": \"c\",\n \"databases\": [],\n}\n");
     IS(start(""), 0);
 }
 
