@@ -36,7 +36,10 @@ fn bytes_at(rt: &HostRuntime, path: &str) -> io::Result<Vec<u8>> {
 fn header_of(journal: &[u8]) -> &[u8]
     ensures { result.now ≡ take HEADER_LEN journal.now }
 {
-    journal.get(..HEADER_LEN).unwrap_or(journal)
+    if journal.len() <= HEADER_LEN {
+        return journal;
+    }
+    journal.split_at(HEADER_LEN).0
 }
 
 /// Whether a journal wasn't begun anew from the moment when it was read before to that when it was read after: it has the same header

@@ -51,15 +51,19 @@ fn text_about(
     let alloc = rt.alloc();
     match SqlLog::look(rt, path) {
         Ok(log) => {
-            match listed_text(alloc, explained_for, log) {
-                Ok((text, Ok(()))) => Ok(text),
-                Ok((_text, Err(fault))) => Err(looking_failure(rt, path, Failure::from(fault))),
-                Err(failure) => Err(looking_failure(rt, path, failure)),
+            let (text, closed) = match listed_text(alloc, explained_for, log) {
+                Ok(listed) => listed,
+                Err(failure) => return Err(looking_failure(rt, path, failure)),
+            };
+            match closed {
+                Ok(()) => Ok(text),
+                Err(fault) => Err(looking_failure(rt, path, Failure::from(fault))),
             }
         }
         Err(LogFault::Store) => {
+            let copy = copied_log(rt, path)?;
             // A copy is let go: whether it could be closed says nothing of the log.
-            let (text, _closed) = listed_text(alloc, explained_for, copied_log(rt, path)?)?;
+            let (text, _closed) = listed_text(alloc, explained_for, copy)?;
             // A note that can't be written changes no status.
             let _unwritten = eprintln!(rt;
                 "xatm: {path}: another process runs over it, or it can't be written: \
