@@ -5,6 +5,7 @@
 #include <stdlib.h>
 #include <string.h>
 #include <sys/socket.h>
+#include <sys/time.h>
 
 #include "clock.h"
 #include "coordinator.h"
@@ -121,19 +122,16 @@ static void deliver_all(struct coordinator *c)
         lose(c); /* no reply is so long */
 }
 
-/* What has come, waiting for it if no flag is given: EAGAIN if nothing comes within the patience. A
- * process that was stopped for so long looks once more. */
+/* What has come, waiting for it if no flag is given: EAGAIN if nothing comes within the patience,
+ * which the socket knows. A process that was stopped for so long looks once more. */
 static ssize_t receive(const struct coordinator *c, int lines, char *to, size_t room, int flags)
 {
     struct timespec until = in_seconds(c->patience);
-    struct pollfd it = {.fd = lines, .events = POLLIN};
     ssize_t count;
 
-    while ((count = recv(lines, to, room, flags | MSG_DONTWAIT)) < 0
-        && (errno == EINTR || (errno == EAGAIN && flags == 0 && !is_past(&until))))
-        if (errno == EAGAIN)
-            poll(&it, 1, milliseconds_to(&until));
-    return count;
+    while ((count = recv(lines, to, room, flags)) < 0 && errno == EINTR && !is_past(&until))
+        ;
+    return count < 0 && (errno == EAGAIN || errno == EINTR) ? recv(lines, to, room, MSG_DONTWAIT) : count;
 }
 
 /* Reads what has come, and gives the replies out. The lock is free meanwhile. */
@@ -299,9 +297,12 @@ static char *greeted(struct coordinator *c, pthread_cond_t *wake)
 char *coordinator_start(struct coordinator *c, char *const words[], pthread_cond_t *wake)
 {
     struct process started;
+    struct timeval longest = {.tv_sec = (time_t)c->patience};
 
     if (!process_start(&started, words))
         return NULL;
+    longest.tv_usec = (suseconds_t)((c->patience - (double)longest.tv_sec) * 1e6);
+    setsockopt(started.lines, SOL_SOCKET, SO_RCVTIMEO, &longest, sizeof longest);
     pthread_mutex_lock(&c->lock);
     c->process = started;
     c->out.length = c->in.length = 0;
