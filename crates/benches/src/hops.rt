@@ -8,8 +8,8 @@ use xa_line::{Issuer, Line, Taker};
 /// How often in a row an end tries in vain before it gives up.
 const TRIES: u32 = 1_000_000;
 
-/// Makes the hops one after another over a line that is open, each with the call that came back from the hop before.
-/// Says how many came back.
+/// Makes the hops one after another over a line that is open, each with the call that came back
+/// from the hop before. Says how many came back.
 pub(crate) fn hops_in_one_thread(line: &mut Line, call: Call, hops: u32) -> u32 {
     if line.issue(call).is_err() {
         return 0;
@@ -22,7 +22,8 @@ pub(crate) fn hops_in_one_thread(line: &mut Line, call: Call, hops: u32) -> u32 
     hops
 }
 
-/// Whether the call that waits is taken, and its answer comes back. Where the call goes `on`, it is issued again.
+/// Whether the call that waits is taken, and its answer comes back. If the call goes `on`, it is
+/// issued again.
 #[inline]
 fn makes_hop(line: &mut Line, on: bool) -> bool {
     let Some(taken) = line.take() else {
@@ -37,8 +38,8 @@ fn makes_hop(line: &mut Line, on: bool) -> bool {
     !on || line.issue(heard).is_ok()
 }
 
-/// Makes the hops over a line that is open, with its ends in two threads, and says how many came back. As many calls
-/// are on the way at the same time as a line has places.
+/// Makes the hops over a line that is open, with its ends in two threads, and says how many came
+/// back. As many calls are on the way at the same time as a line has places.
 pub(crate) fn hops_between_threads<R: Threads>(rt: &R, line: Line, call: Call, hops: u32) -> u32 {
     let (issuer, taker) = line.split();
     let (heard, answered) = thread::join(
@@ -55,7 +56,8 @@ pub(crate) fn hops_between_threads<R: Threads>(rt: &R, line: Line, call: Call, h
     heard.min(answered)
 }
 
-/// Issues the calls and hears their answers, and says how many were heard. A call that was heard is issued again.
+/// Issues the calls and hears their answers, and says how many were heard. A call that was heard is
+/// issued again.
 fn hear_all(issuer: &mut Issuer, call: &Call, hops: u32) -> u32 {
     let first = hops.min(LINE_LIMIT as u32);
     for _ in 0..first {
@@ -71,7 +73,7 @@ fn hear_all(issuer: &mut Issuer, call: &Call, hops: u32) -> u32 {
     hops
 }
 
-/// Whether an answer is heard at last. Where its call goes `on`, it is issued again.
+/// Whether an answer is heard at last. If its call goes `on`, it is issued again.
 #[inline]
 fn hears_one(issuer: &mut Issuer, on: bool) -> bool {
     for _ in 0..TRIES {

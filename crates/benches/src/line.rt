@@ -1,5 +1,5 @@
-//! How many hops a second a line carries. A hop is a call that is issued and taken, and its answer that is let wait and
-//! heard.
+//! How many hops a second a line carries. A hop is a call that is issued and taken, and its answer
+//! that is let wait and heard.
 
 use crate::hops::{hops_between_threads, hops_in_one_thread};
 use std::alloc::Global;
@@ -27,7 +27,8 @@ fn show_in_one_thread(rt: &HostRuntime, line: &mut Line, timed: bool) -> anyhow:
     show_hops(rt, "in one thread", made, timed, start.elapsed(rt)?)
 }
 
-/// Makes hops in one thread, and between two. Where they are timed it makes more of them, so that the figures are steady.
+/// Makes hops in one thread, and between two. If they are timed it makes more of them, so that the
+/// figures are steady.
 pub(crate) fn show<T: Threads>(rt: &HostRuntime, threads: &T, timed: bool) -> anyhow::Result<()> {
     let mut line = opened(rt.alloc())?;
     show_in_one_thread(rt, &mut line, timed)?;
@@ -36,7 +37,7 @@ pub(crate) fn show<T: Threads>(rt: &HostRuntime, threads: &T, timed: bool) -> an
     show_hops(rt, "between two threads", made, timed, start.elapsed(rt)?)
 }
 
-/// Prints how many hops were made, and how many they are a second where they are timed.
+/// Prints how many hops were made, and how many they are a second if they are timed.
 pub(crate) fn show_hops(
     rt: &HostRuntime,
     place: &str,

@@ -1,13 +1,15 @@
-//! The benchmarks, each by its name: `benches NAME [time]`. With `time` they print their figures, of which nothing is claimed.
-//! Without a name all of them run without times, and print what they counted.
+//! The benchmarks, each by its name: `benches NAME [time]`. With `time` they print their figures,
+//! of which nothing is claimed. Without a name all of them run without times, and print what they
+//! counted.
 //!
-//! - `line`: calls that go over a line and come back answered; `rings`: the same over two rings of the crate rtrb alone;
+//! - `line`: calls that go over a line and come back answered; `rings`: the same over two rings of
+//!   the crate rtrb alone;
 //! - `maps`: identifiers that the map finds on which a resource manager's branches stand;
 //! - `scan`: recovery pages of a resource manager with few branches and with many;
 //! - `steps`: steps of a system with few transactions and with many;
 //! - `workers`: jobs that worker threads commit;
-//! - `stress [RUNS]`: 1,000 jobs of mixed votes on 8 threads at 8 resource managers, 200 times or as often as it says, each
-//!   second time with a recovery that sweeps them.
+//! - `stress [RUNS]`: 1,000 jobs of mixed votes on 8 threads at 8 resource managers, 200 times or
+//!   as often as it says, each second time with a recovery that sweeps them.
 #![tactic(auto)]
 
 mod hops;
@@ -25,7 +27,7 @@ use std::sync::Wait;
 use std::thread::Threads;
 use std::time::Clock;
 
-/// How often jobs of mixed votes are run where the words don't say.
+/// How often jobs of mixed votes are run if the words don't say.
 const RUNS: u32 = 200;
 
 fn main(rt: HostRuntime) -> anyhow::Result<()> {

@@ -1,5 +1,6 @@
-//! How many identifiers a second the ordered map finds on which the manager's transactions and branches stand, among few and among many.
-//! A step of a system looks some up, so this shows how much of a step's time grows with what is in the map.
+//! How many identifiers a second the ordered map finds on which the manager's transactions and
+//! branches stand, among few and among many. A step of a system looks some up, so this shows how
+//! much of a step's time grows with what is in the map.
 
 use std::alloc::Global;
 use std::collections::BTreeMap;
@@ -9,10 +10,11 @@ use xa_base::{Branch, Gtrid, Xid};
 /// How many identifiers are looked up, again and again: those that were put in last.
 const FOUND: u32 = 100;
 
-/// How often each is looked up where it is timed.
+/// How often each is looked up if it is timed.
 const ROUNDS: u32 = 10_000;
 
-/// Prints how many identifiers are found in maps with 10, 100 and 900 others, or, where it is timed, how many they are a second.
+/// Prints how many identifiers are found in maps with 10, 100 and 900 others, or, if it is timed,
+/// how many they are a second.
 pub(crate) fn show(rt: &HostRuntime, timed: bool) -> anyhow::Result<()> {
     for beside in [10, 100, 900] {
         let map = filled(rt.alloc(), beside)?;

@@ -1,5 +1,6 @@
-//! What two rings of the crate rtrb do by themselves with the calls and the answers of a line. No line stands above them, and
-//! no clause says what they do: so the figures show how much of the time is the crate's own.
+//! What two rings of the crate rtrb do by themselves with the calls and the answers of a line. No
+//! line stands above them, and no clause says what they do: so the figures show how much of the
+//! time is the crate's own.
 
 use crate::line::{hop_count, prepare, show_hops};
 use rtrb::{Consumer, Producer, RingBuffer};

@@ -1,4 +1,5 @@
-//! How long recovery pages take at a resource manager with few branches, and at one with many of which few are in doubt.
+//! How long recovery pages take at a resource manager with few branches, and at one with many of
+//! which few are in doubt.
 
 use std::alloc::Global;
 use std::time::Instant;
@@ -15,8 +16,8 @@ const FEW: u32 = 10;
 
 const MANY: u32 = 10_000;
 
-/// Prints how many identifiers the pages list at either. Where they are timed it also prints the microseconds that they take,
-/// and how many times as long the second takes as the first.
+/// Prints how many identifiers the pages list at either. If they are timed it also prints the
+/// microseconds that they take, and how many times as long the second takes as the first.
 pub(crate) fn show(rt: &HostRuntime, timed: bool) -> anyhow::Result<()> {
     let few = measured(rt, FEW)?;
     let many = measured(rt, MANY)?;
@@ -57,7 +58,8 @@ fn measured(rt: &HostRuntime, branches: u32) -> anyhow::Result<Run> {
     })
 }
 
-/// A resource manager with so many started branches, of which each `branches / IN_DOUBT`th is prepared.
+/// A resource manager with so many started branches, of which each `branches / IN_DOUBT`th is
+/// prepared.
 fn filled(alloc: Global, branches: u32) -> Result<MemRm, Memory> {
     let mut rm = MemRm::new(alloc);
     let step = (branches / IN_DOUBT).max(1);

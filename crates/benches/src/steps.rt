@@ -1,7 +1,8 @@
 //! How many steps a second a system takes beside few transactions, and beside many.
 //!
-//! In a system of one thread and two resource managers, all in memory, 10, 100 or 900 transactions are begun and have a
-//! started branch at each resource manager. Beside them 100 more are begun, committed in two phases and done.
+//! In a system of one thread and two resource managers, all in memory, 10, 100 or 900 transactions
+//! are begun and have a started branch at each resource manager. Beside them 100 more are begun,
+//! committed in two phases and done.
 
 use anyhow::anyhow;
 use std::alloc::Global;
@@ -14,7 +15,7 @@ use xa_system::System;
 /// How many transactions are measured.
 const MEASURED: u32 = 100;
 
-/// How many systems do the same where they are timed.
+/// How many systems do the same if they are timed.
 const ROUNDS: u32 = 30;
 
 /// How many resource managers there are.
@@ -22,8 +23,9 @@ const RMS: u32 = 2;
 
 type MemSystem = System<MemRm, MemLog>;
 
-/// Prints how many events there are in the end, and how many branches are committed. Where they are timed it also prints how
-/// many steps a second the 100 took, over many such systems, which should not fall with the number of those beside them.
+/// Prints how many events there are in the end, and how many branches are committed. If they are
+/// timed it also prints how many steps a second the 100 took, over many such systems, which should
+/// not fall with the number of those beside them.
 pub(crate) fn show(rt: &HostRuntime, timed: bool) -> anyhow::Result<()> {
     let rounds = if timed { ROUNDS } else { 1 };
     for beside in [10, 100, 900] {

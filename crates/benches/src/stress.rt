@@ -60,8 +60,8 @@ fn plain(alloc: Global, jobs: &Jobs) -> Result<Vec<Outcome>, AllocError> {
     Ok(ends)
 }
 
-/// Runs jobs of mixed votes so often, and prints how they ended in all. It ends at the first run that ends with a fault or not as
-/// the votes say.
+/// Runs jobs of mixed votes so often, and prints how they ended in all. It ends at the first run
+/// that ends with a fault or not as the votes say.
 pub(crate) fn run<T: Threads + Wait + Clock + Sync>(
     rt: &HostRuntime,
     threads: &T,

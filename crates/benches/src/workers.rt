@@ -54,7 +54,7 @@ fn committed<T: Threads + Wait + Clock + Sync>(
     )
 }
 
-/// Times a run behind one that isn't timed, and prints how many jobs it committed a second.
+/// Times a run after one that isn't timed, and prints how many jobs it committed a second.
 fn measure<T: Threads + Wait + Clock + Sync>(
     rt: &HostRuntime,
     threads: &T,
@@ -72,8 +72,8 @@ fn measure<T: Threads + Wait + Clock + Sync>(
     Ok(())
 }
 
-/// Prints how many of 1,000 jobs with two yes votes are committed by 1, 2, 4 and 8 threads of control at two resource managers,
-/// or, where they are timed, how many they are a second.
+/// Prints how many of 1,000 jobs with two yes votes are committed by 1, 2, 4 and 8 threads of
+/// control at two resource managers, or, if they are timed, how many they are a second.
 pub(crate) fn show<T: Threads + Wait + Clock + Sync>(
     rt: &HostRuntime,
     threads: &T,

@@ -124,7 +124,8 @@ fn done_all<L: DecisionLog>(log: &mut L, gtrids: &[Gtrid]) -> Result<(), LogFaul
     log.done_all(gtrids)
 }
 
-/// Whether each call succeeds at an empty log of no incarnation, and those that are worked out here answer so.
+/// Whether each call succeeds at an empty log of no incarnation, and those that are worked out here
+/// answer so.
 pub(crate) fn answers_each_call<L: DecisionLog>(
     log: &mut L,
     alloc: Global,
@@ -141,7 +142,8 @@ pub(crate) fn answers_each_call<L: DecisionLog>(
     )
 }
 
-/// Leaves the decision FIRST, whose participants are listed in their order. A row that is there stays with its own.
+/// Leaves the decision FIRST, whose participants are listed in their order. A row that is there
+/// stays with its own.
 fn commits<L: DecisionLog>(log: &mut L) -> Result<bool, LogFault> {
     Ok(
         matches!(commit(log, FIRST, &[FIRST_B, FIRST_A])?, Logged::New)
@@ -199,7 +201,8 @@ fn takes_away<L: DecisionLog>(log: &mut L) -> Result<bool, LogFault> {
     Ok(done(log, FIRST)? && !done(log, FIRST)? && !contains(log, FIRST)?)
 }
 
-/// SECOND, which is named twice, is taken away, beside a transaction that isn't there. A list may be empty.
+/// SECOND, which is named twice, is taken away, beside a transaction that isn't there. A list may
+/// be empty.
 fn takes_lists_away<L: DecisionLog>(log: &mut L) -> Result<bool, LogFault> {
     if !contains(log, SECOND)? {
         return Ok(false);

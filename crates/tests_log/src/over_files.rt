@@ -1,6 +1,7 @@
-//! Logs in files in memory, which stop and which a crash leaves. What is done over a log is proved once for all logs: it names no
-//! store, and one function hands it a log in any store. That files are a store is proved anew for each call that asks for one, so
-//! that a function makes one such call.
+//! Logs in files in memory, which stop and which a crash leaves. What is done over a log is proved
+//! once for all logs: it names no store, and one function hands it a log in any store. That files
+//! are a store is proved anew for each call that asks for one, so that a function makes one such
+//! call.
 
 use crate::disks::{Stops, StopsAfter, blank, crashed, log_over, stopping};
 use sqlite::{Alter, FileStore, Files};
@@ -12,7 +13,8 @@ use xa_sql_log::SqlLog;
 
 /// A log that a crash leaves.
 pub(crate) trait Crashes: DecisionLog + Drop + Sized {
-    /// The log as a crash leaves it, opened again. It stops after so many calls of its journal, if it can.
+    /// The log as a crash leaves it, opened again. It stops after so many calls of its journal, if
+    /// it can.
     fn reopened(self, alloc: Global, calls: u64) -> Option<Self>;
 }
 
@@ -24,7 +26,8 @@ impl Crashes for MemLog {
 
 /// A store in which a crash leaves a log.
 pub(crate) trait LeavesLog: Alter + Drop + Sized {
-    /// The log in the store as a crash leaves that, opened again. It stops after so many calls of its journal.
+    /// The log in the store as a crash leaves that, opened again. It stops after so many calls of
+    /// its journal.
     fn log_after_crash(self, alloc: Global, calls: u64) -> Option<SqlLog<Self>>;
 }
 

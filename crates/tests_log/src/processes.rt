@@ -1,5 +1,6 @@
-//! Ten processes of the manager, one after another, over the same resource managers and the same log, with steps by chance.
-//! Whatever they do, each branch of each of them ends as the rows say that the log ever had.
+//! Ten processes of the manager, one after another, over the same resource managers and the same
+//! log, with steps by chance. Whatever they do, each branch of each of them ends as the rows say
+//! that the log ever had.
 
 mod chance;
 mod moves;
@@ -24,7 +25,8 @@ const PROCESSES: u32 = 10;
 /// How often a process does something.
 const MOVES: u32 = 40;
 
-/// After how many calls of its journal a log stops: once it has been opened, and a process has begun.
+/// After how many calls of its journal a log stops: once it has been opened, and a process has
+/// begun.
 fn calls_by(chance: &mut Chance) -> u64 {
     70u64.saturating_add(u64::from(chance.below(150)))
 }
@@ -73,7 +75,7 @@ impl<L: Crashes> Player<L> {
         })
     }
 
-    /// Where the log has stopped it is taken out, found again, read, and given back.
+    /// If the log has stopped it is taken out, found again, read, and given back.
     fn mend(&mut self, rt: &impl Abort, alloc: Global) -> Result<(), Fail> {
         let Some(log) = taken_log(&mut self.system) else {
             return Ok(());

@@ -1,4 +1,5 @@
-//! What a stop at each call of the one file leaves: of tables that are made or migrated, and of each call that changes a log.
+//! What a stop at each call of the one file leaves: of tables that are made or migrated, and of
+//! each call that changes a log.
 
 use crate::disks::{
     BLANK, Change, EMPTY, MIGRATED, OLD, Reached, Seen, Stops, StopsAfter, VERSION_1, blank,
@@ -11,7 +12,8 @@ use std::process::Abort;
 use std::test::Fail;
 use xa_log::LogFault;
 
-/// What a log holds before a change: the transaction (1, 1) with one participant, and a heuristic end.
+/// What a log holds before a change: the transaction (1, 1) with one participant, and a heuristic
+/// end.
 const BEFORE: Seen = Seen {
     participants: 1,
     ..MIGRATED
@@ -91,8 +93,8 @@ fn may_leave(run: Run, reached: Reached, left: Seen, next: Seen) -> bool {
         }
 }
 
-/// With a stop at each call of the one file the crash leaves what the files held, or all that the run makes. Answers whether
-/// the run met a stop.
+/// With a stop at each call of the one file the crash leaves what the files held, or all that the
+/// run makes. Answers whether the run met a stop.
 fn stop_at_each_call<D: StopsAfter>(
     rt: &impl Abort,
     alloc: Global,

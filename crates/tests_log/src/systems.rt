@@ -1,5 +1,5 @@
-//! The calls of a system, each in a function of its own with no clause: a proof that carries the clauses of several takes many
-//! times as long.
+//! The calls of a system, each in a function of its own with no clause: a proof that carries the
+//! clauses of several takes many times as long.
 
 use std::alloc::{AllocError, Global};
 use xa_base::{Reply, Step};

@@ -5,8 +5,8 @@ use std::alloc::Global;
 use std::test::Fail;
 use xa_log::LogFault;
 
-/// Whether a log refuses the files of this version in which this statement has run, as of a version that isn't known, and they stay
-/// as they were, also where they are opened again.
+/// Whether a log refuses the files of this version in which this statement has run, as of a version
+/// that isn't known, and they stay as they were, also if they are opened again.
 fn is_refused(alloc: Global, version: u8, sql: &str) -> Result<bool, LogFault> {
     let mut files = files_after(alloc, blank(alloc), VERSION_1)?;
     if version == 2 {

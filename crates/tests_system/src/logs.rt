@@ -23,8 +23,8 @@ fn refused_logs(rt: HostRuntime) -> Result<(), Fail> {
     Ok(())
 }
 
-/// No system is made over a log that fails at the start, and that is told as a fault of the log: where a system is new, and
-/// where it goes on from what another has left.
+/// No system is made over a log that fails at the start, and that is told as a fault of the log: if
+/// a system is new, and if it goes on from what another has left.
 #[test]
 fn failing_logs(rt: HostRuntime) -> Result<(), Fail> {
     let alloc = rt.alloc();
@@ -40,8 +40,8 @@ fn failing_logs(rt: HostRuntime) -> Result<(), Fail> {
     Ok(())
 }
 
-/// Where a branch was started in the incarnation that the log gives, the log has lost what it had: that is told as Newer, and
-/// neither as a fault of the log nor as want of memory.
+/// If a branch was started in the incarnation that the log gives, the log has lost what it had:
+/// that is told as Newer, and neither as a fault of the log nor as want of memory.
 #[test]
 fn newer_branches(rt: HostRuntime) -> Result<(), Fail> {
     let alloc = rt.alloc();

@@ -1,6 +1,7 @@
-//! A system with a branch, made also where a request for memory is refused, or two in a row: a step that is refused for that is made
-//! again, and a start that is refused is begun anew. `tools/try-refusals` refuses them; a test says on standard error what it met.
-//! Where memory is ample a test that meets anything fails.
+//! A system with a branch, made also if a request for memory is refused, or two in a row: a step
+//! that is refused for that is made again, and a start that is refused is begun anew.
+//! `tools/try-refusals` refuses them; a test says on standard error what it met. If memory is ample
+//! a test that meets anything fails.
 
 use crate::systems::{do_step, new_system, one_rm};
 use std::alloc::Global;
@@ -24,7 +25,7 @@ pub(crate) const BRANCH: Branch = Branch {
     rm: 0,
 };
 
-/// Tells what a test met. Only where `tools/try-refusals` refuses memory may it meet anything.
+/// Tells what a test met. Only if `tools/try-refusals` refuses memory may it meet anything.
 pub(crate) fn met(rt: &(impl Abort + Eprint + Env), what: &str) {
     let _ = rt.eprintln(what);
     assert!(rt;
@@ -51,7 +52,7 @@ pub(crate) fn start_of_branch() -> [Step; 6] {
     ]
 }
 
-/// A new system. None where memory is refused.
+/// A new system. None if memory is refused.
 fn made(alloc: Global) -> Option<System<MemRm, MemLog>> {
     let Ok(rms) = one_rm(alloc) else {
         return None;
@@ -62,7 +63,7 @@ fn made(alloc: Global) -> Option<System<MemRm, MemLog>> {
     }
 }
 
-/// Does a step, again where it is refused for want of memory.
+/// Does a step, again if it is refused for want of memory.
 fn step_at_last(
     rt: &(impl Abort + Eprint + Env),
     system: &mut System<MemRm, MemLog>,
@@ -78,7 +79,7 @@ fn step_at_last(
     do_step(system, step.copy())
 }
 
-/// A system whose resource manager has taken the branch. None where no system is made.
+/// A system whose resource manager has taken the branch. None if no system is made.
 pub(crate) fn started(
     rt: &(impl Abort + Eprint + Env),
     alloc: Global,

@@ -1,5 +1,5 @@
-//! The calls of a system, each in a function of its own with no clause: a proof that carries the clauses of several takes many
-//! times as long.
+//! The calls of a system, each in a function of its own with no clause: a proof that carries the
+//! clauses of several takes many times as long.
 
 use std::alloc::{AllocError, Global};
 use xa_base::{Refusal, Reply, Step};
@@ -32,7 +32,7 @@ pub(crate) fn next_system<L: DecisionLog + Drop>(
     System::resume(alloc, 1, rms, log)
 }
 
-/// What a system leaves. None where memory is refused.
+/// What a system leaves. None if memory is refused.
 pub(crate) fn remains_of<L: DecisionLog + Drop>(
     system: System<MemRm, L>,
 ) -> Option<Remains<MemRm, L>> {

@@ -1,4 +1,5 @@
--- The order of byte strings is that of the numbers they are. So the order of transactions and branches is that of their identifiers.
+-- The order of byte strings is that of the numbers they are. So the order of transactions and
+-- branches is that of their identifiers.
 use Rattle.std.proofs.Common.{◌≡◌, ℕ, zero, suc, ◌+◌, ◌*◌, ◌^◌, ◌<◌, ◌≤◌, ◌%◌, ◌/◌, List, [], ◌∷◌, ◌++◌, length, refl, sym, ap, ◌∙◌, subst, arith}
 use Rattle.std.specs.Int.{byte_at, bytes_high_first, from_be_bytes, to_be_bytes, w32, w64}
 use Rattle.std.specs.Cmp.{ranks, nat_cmp_is}

@@ -36,7 +36,7 @@ abbrev Each : (Call Xid → Type 0) → List (Call Xid) → Type 0
 Each Q [] = Unit {0}
 Each Q (call ∷ calls) = Q call × Each Q calls
 
--- the call has these parts but for its flags
+-- the call has these parts except for its flags
 record HasParts (k : CallKind) (x : Option Xid) (n : Option ℤ) (call : Call Xid) : Type 0 where
   kind : kind_of call ≡ k
   xid : xid_in call ≡ x

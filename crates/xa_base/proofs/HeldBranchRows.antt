@@ -1,4 +1,5 @@
--- What a resource manager holds of a branch, worked: calls by several threads, retries, breaks and crashes. Each row computes.
+-- What a resource manager holds of a branch, worked: calls by several threads, retries, breaks and
+-- crashes. Each row computes.
 use Rattle.std.proofs.Common.{◌≡◌, ℕ, true, false, List, [], ◌∷◌, map, refl}
 use Rattle.xa_base.specs.Branch.{xid_of_branch}
 use Rattle.xa_base.specs.HeldBranch.{HeldBranch, new_branch, answer_of, called, held_after, code_for, broken_by, crashed, completed_by}
@@ -41,7 +42,8 @@ retries_stay : told ((0, Start) ∷ (0, End false) ∷ (0, Commit) ∷ (0, Prepa
 unfolding told
 retries_stay = refl
 
--- the starter is the thread of the xa_start that made the branch: no refused one, no join, no other call and no earlier branch
+-- the starter is the thread of the xa_start that made the branch: no refused one, no join, no other
+-- call and no earlier branch
 starters : told ((1, Start) ∷ (2, Start) ∷ (2, Join) ∷ (2, End false) ∷ (0, Rollback) ∷ (2, Start) ∷ []) new_branch
     ≡ (Codes.Success, held Active 1 0) ∷ (Codes.DuplicateXid, held Active 1 0) ∷ (Codes.Protocol, held Active 1 0) ∷ (Codes.Success, held Idle 1 0)
     ∷ (Codes.Success, held RolledBack 1 0) ∷ (Codes.Success, held Active 2 0) ∷ []
@@ -63,7 +65,8 @@ one_changed : held_after 1 (Calls.Start named false) named new_branch ∷ held_a
 unfolding named other
 one_changed = refl
 
--- xa_open and xa_close are answered XA_OK whatever is held, and a call on a branch as the table says of that branch
+-- xa_open and xa_close are answered XA_OK whatever is held, and a call on a branch as the table
+-- says of that branch
 codes : (b : HeldBranch) → code_for (λ x. b) Calls.OpenRm ∷ code_for (λ x. b) Calls.CloseRm ∷ [] ≡ Codes.Success ∷ Codes.Success ∷ []
 codes b = refl
 
@@ -77,7 +80,8 @@ code_of_branch = refl
 breaks : map (λ thread. broken_by thread (called 1 Start new_branch)) (0 ∷ 1 ∷ 2 ∷ []) ≡ held Active 1 0 ∷ held Lost 1 0 ∷ held Active 1 0 ∷ []
 breaks = refl
 
--- whoever works on it, and also when it waits to be rolled back; a prepared or a completed one stays
+-- whoever works on it, and also when it waits to be rolled back; a prepared or a completed one
+-- stays
 later_breaks : map (broken_by 1) (called 2 (End true) (held Active 1 0) ∷ held Idle 1 0 ∷ held Prepared 1 3 ∷ held (Completed Mix) 1 0 ∷ [])
     ≡ held Lost 1 0 ∷ held Lost 1 0 ∷ held Prepared 1 3 ∷ held (Completed Mix) 1 0 ∷ []
 later_breaks = refl

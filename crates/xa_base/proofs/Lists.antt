@@ -4,7 +4,7 @@ use Rattle.std.specs.List.{AllByRecursion, list_any}
 use Rattle.std.specs.Prelude.{if◌then◌else◌, Some, slice_get}
 use mathlib.Core.Logic.{◌⊎◌.inl, ◌⊎◌.inr}
 
--- an item of xs ++ ys is one of xs at the same place, or the i-th of ys behind them
+-- an item of xs ++ ys is one of xs at the same place, or the i-th of ys after them
 pub get_append : {X : Type 0} (xs ys : List X) (k : ℕ) (x : X) → slice_get (xs ++ ys) k ≡ Some x
     → (slice_get xs k ≡ Some x) ⊎ ((i : ℕ) × (k ≡ length xs + i) × (slice_get ys i ≡ Some x))
 get_append [] ys k x e = inr (k, omega arith, e)

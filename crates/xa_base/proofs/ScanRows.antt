@@ -1,5 +1,5 @@
--- Recovery scans, worked over numbers in their order: a call is its count, and whether it starts and ends the scan. Each row
--- computes.
+-- Recovery scans, worked over numbers in their order: a call is its count, and whether it starts
+-- and ends the scan. Each row computes.
 use Rattle.std.proofs.Common.{◌≡◌, ℕ, ℤ, pos, negsuc, Bool, true, false, List, [], ◌∷◌, refl}
 use Rattle.std.specs.Ordering.{nat_cmp}
 use Rattle.std.specs.Prelude.{Option, Some, None}
@@ -26,7 +26,8 @@ three_pages : listed ((pos 2, true, false) ∷ (pos 2, false, false) ∷ (pos 2,
 unfolding listed page entries
 three_pages = refl
 
--- a negative count is refused in the middle of a scan, whatever its flags, and the scan goes on where it stood
+-- a negative count is refused in the middle of a scan, whatever its flags, and the scan goes on
+-- where it stood
 refused_in_the_middle : listed ((pos 2, true, false) ∷ (negsuc 0, false, false) ∷ (negsuc 4, true, false) ∷ (negsuc 0, false, true)
     ∷ (pos 2, false, false) ∷ []) NotOpen
     ≡ (Some (1 ∷ 2 ∷ []), Behind (Some 2)) ∷ (None, Behind (Some 2)) ∷ (None, Behind (Some 2)) ∷ (None, Behind (Some 2))

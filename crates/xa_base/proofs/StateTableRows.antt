@@ -1,5 +1,5 @@
--- The branch state table as it is printed: of each kind of call a row, with the number of the answer and the state after
--- it for S0, S1, S2, S3, S4 and S5. Each row computes.
+-- The branch state table as it is printed: of each kind of call a row, with the number of the
+-- answer and the state after it for S0, S1, S2, S3, S4 and S5. Each row computes.
 use Rattle.std.proofs.Common.{◌≡◌, ℕ, true, false, List, [], ◌∷◌, ℤ, pos, negsuc, refl}
 use Rattle.xa_base.specs.Code.{code_number}
 use Rattle.xa_base.specs.Standing.{branch_state_of}
@@ -19,7 +19,7 @@ Cell = ℤ × BranchState
 cell : Kind → Vote → (retries : ℕ) → Standing → Cell
 cell kind v n f = let code = answer kind (state_of f) v n in (code_number code, branch_state_of (moved f kind code))
 
--- a row, where a branch in S5 was ended in parts: XA_HEURMIX, 5
+-- a row, if a branch in S5 was ended in parts: XA_HEURMIX, 5
 row : Kind → Vote → (retries : ℕ) → List Cell
 row kind v n =
     cell kind v n Unstarted ∷ cell kind v n Active ∷ cell kind v n Idle ∷ cell kind v n Prepared ∷ cell kind v n RollbackOnly

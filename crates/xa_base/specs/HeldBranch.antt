@@ -11,7 +11,8 @@ use Rattle.xa_base.specs.declared.state.Standing.TheVariants.{Unstarted}
 use Rattle.xa_base.specs.declared.vote.Vote.{Vote}
 use Rattle.xa_base.specs.declared.vote.Vote.TheVariants.{Yes}
 
--- where it stands, the thread that started it last, the vote that counts, and how many commits are still put off
+-- where it stands, the thread that started it last, the vote that counts, and how many commits are
+-- still put off
 pub record HeldBranch : Type 0 where
   pub standing : Standing
   pub starter : ℕ
@@ -45,7 +46,8 @@ called thread kind b = record {
   retries = retries_after (answer_of b kind) b.retries;
 }
 
--- the branch of an identifier after a thread's call: as before, where the call names no branch or another
+-- the branch of an identifier after a thread's call: as before, if the call names no branch or
+-- another
 abbrev pub held_by : (thread : ℕ) → Option (Kind × Xid) → Xid → HeldBranch → HeldBranch
 held_by thread None x b = b
 held_by thread (Some (kind, named)) x b = if xid_eq named x then called thread kind b else b
@@ -53,7 +55,8 @@ held_by thread (Some (kind, named)) x b = if xid_eq named x then called thread k
 abbrev pub held_after : (thread : ℕ) → Call Xid → Xid → HeldBranch → HeldBranch
 held_after thread call = held_by thread (asks_of call)
 
--- the answer to a call, by the branch that it names; xa_open and xa_close name none, and answer XA_OK
+-- the answer to a call, by the branch that it names; xa_open and xa_close name none, and answer
+-- XA_OK
 abbrev pub code_by : (Xid → HeldBranch) → Option (Kind × Xid) → Code
 code_by held None = Codes.Success
 code_by held (Some (kind, named)) = answer_of (held named) kind

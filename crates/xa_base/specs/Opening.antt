@@ -1,4 +1,5 @@
--- Which calls open and close a line, and what may be called there (XA, section 3.2, Opening and Closing Resource Managers).
+-- Which calls open and close a line, and what may be called there (XA, section 3.2, Opening and
+-- Closing Resource Managers).
 use Rattle.std.specs.Prelude.{Bool, true, false, ◌&&◌, not, List}
 use Rattle.std.specs.List.{list_any}
 use Rattle.xa_base.specs.declared.call.Call.{Call}
@@ -23,6 +24,6 @@ module _ {X : Type 0} where
   abbrev pub has_closed : (issued : List (Call X)) → Bool
   has_closed calls = list_any closes calls
 
--- a call other than xa_open where no xa_open was issued
+-- a call other than xa_open if no xa_open was issued
 abbrev pub comes_unopened : {X Y : Type 0} → (issued : List (Call X)) → Call Y → Bool
 comes_unopened calls call = not (opens call) && not (has_opened calls)

@@ -9,7 +9,8 @@ use Rattle.xa_base.specs.declared.answer.Answer.{Answer}
 use Rattle.xa_base.specs.declared.answer.Answer.TheVariants.{Ret, Page}
 use Rattle.xa_base.specs.declared.code.Code.TheVariants.{Invalid}
 
--- the identifiers in doubt, each once and in order: just those whose branch is prepared or heuristically completed
+-- the identifiers in doubt, each once and in order: exactly those whose branch is prepared or
+-- heuristically completed
 pub record IsInDoubtList (held : Xid → HeldBranch) (xids : List Xid) : Type 0 where
   pub in_order : IsStrictlySortedBy xid_cmp xids
   pub listed : (x : Xid) → Contains xids x ↔ (is_in_doubt (held x).standing ≡ true)
@@ -18,7 +19,7 @@ pub record IsInDoubtList (held : Xid → HeldBranch) (xids : List Xid) : Type 0 
 abbrev pub xid_page : Scan Xid → (count : ℤ) → (start : Bool) → List Xid → Option (List Xid)
 xid_page scan count start in_doubt = page_of xid_cmp count (reads_from scan start) in_doubt
 
--- the answer: the page, or XAER_INVAL where there is none
+-- the answer: the page, or XAER_INVAL if there is none
 abbrev pub page_answer : {X : Type 0} → Option (List X) → Answer X
 page_answer (Some page) = Page page
 page_answer None = Ret Invalid

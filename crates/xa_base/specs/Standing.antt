@@ -6,7 +6,7 @@ use Rattle.xa_base.specs.declared.state.Fate.{Fate}
 use Rattle.xa_base.specs.declared.state.Standing.{Standing}
 use Rattle.xa_base.specs.declared.state.Standing.TheVariants.{Unstarted, Active, Idle, Prepared, RollbackOnly, Completed, Committed, RolledBack, Lost, ReadOnly, Forgotten}
 
--- the state of a branch that stands so: S0 where it doesn't exist
+-- the state of a branch that stands so: S0 if it doesn't exist
 abbrev pub branch_state_of : Standing → BranchState
 branch_state_of Active = S1
 branch_state_of Idle = S2
@@ -15,7 +15,7 @@ branch_state_of RollbackOnly = S4
 branch_state_of (Completed how) = S5
 branch_state_of _ = S0
 
--- the name of the state or, where the branch doesn't exist, of its last end
+-- the name of the state or, if the branch doesn't exist, of its last end
 abbrev pub fate_of : Standing → Fate
 fate_of Unstarted = Fate.Unstarted
 fate_of Active = Fate.Active

@@ -1,5 +1,5 @@
--- The branch state table: what a resource manager answers to a call on a branch, and where the branch then stands.
--- After XA, chapter 6, State Tables; the cells are this project's own.
+-- The branch state table: what a resource manager answers to a call on a branch, and where the
+-- branch then stands. After XA, chapter 6, State Tables; the cells are this project's own.
 use Rattle.std.specs.Prelude.{ℕ, zero, suc, Bool, true, false, Option, Some, None}
 use Rattle.xa_base.specs.declared.call.Call.{Call}
 use Rattle.xa_base.specs.declared.call.Call.TheVariants as Calls

@@ -5,7 +5,8 @@ use crate::{Code, Memory, Xid};
 use std::alloc::{AllocError, Global};
 use std::marker::Model;
 
-/// A page of a recovery scan: the identifiers that one xa_recover lists (XA, chapter 5, xa_recover).
+/// A page of a recovery scan: the identifiers that one xa_recover lists (XA, chapter 5,
+/// xa_recover).
 #[derive(Drop)]
 pub struct Page<X = Xid> {
     xids: Vec<X>,
@@ -100,8 +101,8 @@ pub enum Answer<X = Xid> {
 impl Answer {
     ghost use Rattle.xa_base.specs.Answer.{answer_number};
 
-    /// What the call returns in XA: the code's number, which may be negative, or how many identifiers an xa_recover lists,
-    /// which may be any `usize`.
+    /// What the call returns in XA: the code's number, which may be negative, or how many
+    /// identifiers an xa_recover lists, which may be any `usize`.
     pub fn number(&self) -> i128
         ensures { result ≡ answer_number self.now }
     {

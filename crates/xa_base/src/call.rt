@@ -18,12 +18,12 @@ pub enum Call<X = Xid> {
     OpenRm,
     /// xa_close.
     CloseRm,
-    /// xa_start, with TMJOIN where `join`.
+    /// xa_start, with TMJOIN if `join`.
     Start {
         xid: X,
         join: bool,
     },
-    /// xa_end, with TMFAIL where `fail`, else with TMSUCCESS.
+    /// xa_end, with TMFAIL if `fail`, else with TMSUCCESS.
     End {
         xid: X,
         fail: bool,
@@ -32,7 +32,7 @@ pub enum Call<X = Xid> {
     Prepare {
         xid: X,
     },
-    /// xa_commit, with TMONEPHASE where `one_phase`.
+    /// xa_commit, with TMONEPHASE if `one_phase`.
     Commit {
         xid: X,
         one_phase: bool,
@@ -45,8 +45,9 @@ pub enum Call<X = Xid> {
     Forget {
         xid: X,
     },
-    /// xa_recover of at most `count` branches, with TMSTARTRSCAN where `start_scan` and TMENDRSCAN where `end_scan`. A
-    /// negative count makes a call too, to which the resource manager answers XAER_INVAL.
+    /// xa_recover of at most `count` branches, with TMSTARTRSCAN if `start_scan` and TMENDRSCAN if
+    /// `end_scan`. A negative count makes a call too, to which the resource manager answers
+    /// XAER_INVAL.
     Recover {
         count: i64,
         start_scan: bool,
@@ -94,9 +95,9 @@ impl Call {
 
     /// The call of these parts. No memory is taken.
     ///
-    /// XAER_INVAL if this kind of call doesn't take these flags (XA, section 4.4), needs an identifier and has none, or
-    /// takes none and has one; likewise with the count. A negative count is no fault here: it makes a call, and the
-    /// resource manager answers XAER_INVAL to it.
+    /// XAER_INVAL if this kind of call doesn't take these flags (XA, section 4.4), needs an
+    /// identifier and has none, or takes none and has one; likewise with the count. A negative
+    /// count is no fault here: it makes a call, and the resource manager answers XAER_INVAL to it.
     pub fn of(
         kind: CallKind,
         xid: Option<Xid>,
@@ -222,7 +223,7 @@ impl<X> Call<X> {
 impl<X: Drop> Call<X> {
     ghost use Rattle.xa_base.specs.Call.{call_with};
 
-    /// The same, where X names the branch.
+    /// The same, if X names the branch.
     pub fn with(
         kind: CallKind,
         xid: Option<X>,

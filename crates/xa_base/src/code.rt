@@ -5,7 +5,8 @@ ghost use Rattle.xa_base.specs.declared.code.Code.{Code};
 ghost use Rattle.xa_base.specs.declared.code.How.{How};
 ghost use Rattle.xa_base.specs.declared.code.RbCode.{RbCode};
 
-/// Why a resource manager rolled a branch back: the codes from XA_RBBASE to XA_RBEND (XA, section 4.5).
+/// Why a resource manager rolled a branch back: the codes from XA_RBBASE to XA_RBEND (XA, section
+/// 4.5).
 #[derive(Clone, Copy, Debug, PartialEq, Eq)]
 pub enum RbCode {
     /// XA_RBROLLBACK, 100: for no reason that is told.
@@ -26,7 +27,8 @@ pub enum RbCode {
     Transient,
 }
 
-/// How a resource manager ended a prepared branch by itself (XA, section 2.3.3, Heuristic Branch Completion).
+/// How a resource manager ended a prepared branch by itself (XA, section 2.3.3, Heuristic Branch
+/// Completion).
 #[derive(Clone, Copy, Debug, PartialEq, Eq)]
 pub enum How {
     /// XA_HEURCOM, 7: it committed the branch.
@@ -39,10 +41,12 @@ pub enum How {
     Haz,
 }
 
-/// The return code of a call (XA, section 4.5). XA_NOMIGRATE, XAER_ASYNC and XAER_OUTSIDE aren't used here.
+/// The return code of a call (XA, section 4.5). XA_NOMIGRATE, XAER_ASYNC and XAER_OUTSIDE aren't
+/// used here.
 #[derive(Clone, Copy, Debug, PartialEq, Eq)]
 pub enum Code {
-    /// XA_RBROLLBACK to XA_RBTRANSIENT, 100 to 107: the branch is rolled back, or can only be rolled back.
+    /// XA_RBROLLBACK to XA_RBTRANSIENT, 100 to 107: the branch is rolled back, or can only be
+    /// rolled back.
     RolledBack(RbCode),
     /// XA_HEURMIX to XA_HEURHAZ, 5 to 8: the resource manager ended the branch by itself.
     Heuristic(How),
@@ -97,7 +101,7 @@ impl How {
         }
     }
 
-    /// The heuristic end whose code has a number, or none where none has it.
+    /// The heuristic end whose code has a number, or none if none has it.
     pub fn from_number(number: i32) -> Option<How>
         ensures number { result ≡ how_of_number number }
         ensures inverse { (how : How) → how_number how ≡ number → result ≡ Some how }
@@ -133,7 +137,7 @@ impl Code {
         }
     }
 
-    /// The code of a number, or none where no code of this table has it.
+    /// The code of a number, or none if no code of this table has it.
     pub fn from_number(number: i32) -> Option<Code>
         ensures inverse { (code : Code) → code_number code ≡ number → result ≡ Some code }
         ensures found { IfSome result (λ code. code_number code ≡ number) }

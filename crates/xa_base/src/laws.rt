@@ -1,4 +1,5 @@
-//! The order of this manager's identifiers, and the parts of calls. These functions do nothing: each contract is a theorem.
+//! The order of this manager's identifiers, and the parts of calls. These functions do nothing:
+//! each contract is a theorem.
 
 ghost use Rattle.std.specs.Prelude.{◌≡◌, ◌&&◌, nat_eq, Some};
 ghost use Rattle.xa_base.specs.Branch.{IsBranch, branch_cmp, branch_eq, branch_of_xid};
@@ -11,9 +12,10 @@ ghost use Rattle.xa_base.specs.declared.branch.Gtrid.{Gtrid};
 /// The branches of this manager and their identifiers are alike in number and order:
 ///
 /// - `fit`: the numbers of the branch that an identifier names fit their types;
-/// - `order`: branches are in the order of their identifiers, and so transactions are, and the branches of each;
-/// - `same_gtrid`, `same_branch`: two transactions, or two branches, of which neither comes before the other have the
-///   same numbers.
+/// - `order`: branches are in the order of their identifiers, and so transactions are, and the
+///   branches of each;
+/// - `same_gtrid`, `same_branch`: two transactions, or two branches, of which neither comes before
+///   the other have the same numbers.
 pub fn branches_in_order()
     ensures fit { (x : Xid) (b : Branch) → IsXid x → branch_of_xid x ≡ Some b → IsBranch b }
     ensures order { (b c : Branch) →

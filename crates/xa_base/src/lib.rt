@@ -1,10 +1,11 @@
-//! The vocabulary of an XA transaction manager: identifiers, calls, codes, votes, states, fates, steps and replies,
-//! XA's table of branch states, and what a resource manager holds of a branch. The functions of [`laws`] do nothing: their
-//! contracts are theorems. The model, what a list of events says, is the crate `xa_model` above this one: who needs the
-//! words alone, as a resource manager or a log, need not read it.
+//! The vocabulary of an XA transaction manager: identifiers, calls, codes, votes, states, fates,
+//! steps and replies, XA's table of branch states, and what a resource manager holds of a branch.
+//! The functions of [`laws`] do nothing: their contracts are theorems. The model, what a list of
+//! events says, is the crate `xa_model` above this one: who needs the words alone, as a resource
+//! manager or a log, need not read it.
 //!
-//! "XA" in these pages is X/Open CAE Specification C193, "Distributed Transaction Processing: The XA Specification"
-//! (1991). Steps, replies and refusals are this manager's own words.
+//! "XA" in these pages is X/Open CAE Specification C193, "Distributed Transaction Processing: The
+//! XA Specification" (1991). Steps, replies and refusals are this manager's own words.
 #![tactic(auto)]
 
 mod answer;

@@ -12,5 +12,6 @@ pub const MAX_THREADS: u32 = 8;
 /// The resource managers of a system at most.
 pub const MAX_RMS: u32 = 8;
 
-/// The largest number that a log takes for an incarnation or a sequence: its column holds signed numbers.
+/// The largest number that a log takes for an incarnation or a sequence: its column holds signed
+/// numbers.
 pub const LAST_NUMBER: u64 = i64::MAX as u64;

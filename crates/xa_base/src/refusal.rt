@@ -6,8 +6,9 @@ use std::alloc::AllocError;
 use std::error::Error;
 use std::fmt;
 
-/// Why a step is refused. Each has a number, and of two that apply the one with the lower number is answered; only
-/// [`Refusal::Limit`] comes first where the step names a thread or resource manager that the system doesn't have.
+/// Why a step is refused. Each has a number, and of two that apply the one with the lower number is
+/// answered; only [`Refusal::Limit`] comes first if the step names a thread or resource manager
+/// that the system doesn't have.
 #[derive(Clone, Copy, Debug, PartialEq, Eq)]
 pub enum Refusal {
     /// 1: the step needs the transaction manager, which is down.
@@ -18,25 +19,31 @@ pub enum Refusal {
     NotOpen,
     /// 4: xa_close was issued on the line.
     Closed,
-    /// 5: no transaction of that name was begun in this incarnation; for xa_commit and Done, nor has it a row.
+    /// 5: no transaction of that name was begun in this incarnation; for xa_commit and Done, nor
+    /// has it a row.
     UnknownTransaction,
-    /// 6: the branch belongs to another resource manager or, for calls that are its own thread's, to another thread.
+    /// 6: the branch belongs to another resource manager or, for calls that are its own thread's,
+    /// to another thread.
     WrongThread,
     /// 7: an xa_start of the branch was accepted before.
     AlreadyStarted,
     /// 8: the transaction is decided, claimed or handed over to its resource manager.
     Decided,
-    /// 9: the transaction isn't decided so, isn't claimed, has no row, or the branch isn't recorded as heuristic.
+    /// 9: the transaction isn't decided so, isn't claimed, has no row, or the branch isn't recorded
+    /// as heuristic.
     NotDecided,
     /// 10: a vote for commit is lacking or, in one phase, the transaction has another branch.
     Votes,
     /// 11: a branch isn't finished, started or settled yet, or what is to be restarted is up.
     Busy,
-    /// 12: 64 calls or answers wait on the line, or fewer places are free than calls would be issued.
+    /// 12: 64 calls or answers wait on the line, or fewer places are free than calls would be
+    /// issued.
     Full,
-    /// 13: the branch isn't at this resource manager, or not in a state in which the script could be followed.
+    /// 13: the branch isn't at this resource manager, or not in a state in which the script could
+    /// be followed.
     Script,
-    /// 14: the system has no such thread or resource manager, or 1,000 transactions or 10,000 events were made.
+    /// 14: the system has no such thread or resource manager, or 1,000 transactions or 10,000
+    /// events were made.
     Limit,
     /// 15: the decision log failed in this step. The manager is down until it is restarted.
     LogFault,

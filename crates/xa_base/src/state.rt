@@ -3,7 +3,8 @@ ghost use Rattle.std.specs.Prelude.{◌≡◌};
 
 use crate::How;
 
-/// The state of a branch at its resource manager (XA, chapter 6, State Tables: the states of transaction branches).
+/// The state of a branch at its resource manager (XA, chapter 6, State Tables: the states of
+/// transaction branches).
 #[derive(Clone, Copy, Debug, PartialEq, Eq)]
 pub enum BranchState {
     /// Non-existent.
@@ -20,7 +21,7 @@ pub enum BranchState {
     S5,
 }
 
-/// What became of a branch, in words: the name of its state or, where it is in none, its last end.
+/// What became of a branch, in words: the name of its state or, if it is in none, its last end.
 #[derive(Clone, Copy, Debug, PartialEq, Eq)]
 pub enum Fate {
     /// It never was.
@@ -35,12 +36,12 @@ pub enum Fate {
     Lost,
     /// It voted read-only, and so has no part in the outcome.
     ReadOnly,
-    /// Its resource manager ended it by itself, also where that is forgotten since.
+    /// Its resource manager ended it by itself, also if that is forgotten since.
     Heuristic(How),
 }
 
-/// Where a branch stands: in one of the states or, where it doesn't exist, at its last end. XA's state S0 doesn't tell how
-/// a branch ended, so its state and its fate are both read off this.
+/// Where a branch stands: in one of the states or, if it doesn't exist, at its last end. XA's state
+/// S0 doesn't tell how a branch ended, so its state and its fate are both read off this.
 #[derive(Clone, Copy, Debug, PartialEq, Eq)]
 pub enum Standing {
     /// It never was.

@@ -22,7 +22,8 @@ pub enum Part {
     Manager,
 }
 
-/// What can be down, and so be restarted. A line is none of these: it is new at once after its crash.
+/// What can be down, and so be restarted. A line is none of these: it is new at once after its
+/// crash.
 #[derive(Clone, Copy, PartialEq, Eq)]
 pub enum Side {
     /// A resource manager.
@@ -31,7 +32,8 @@ pub enum Side {
     Manager,
 }
 
-/// One step of the system. Threads and resource managers are numbered from 0. Branches are named by X.
+/// One step of the system. Threads and resource managers are numbered from 0. Branches are named by
+/// X.
 #[derive(Drop)]
 pub enum Step<X = Xid> {
     /// A thread begins a transaction.
@@ -100,7 +102,8 @@ pub enum Step<X = Xid> {
     Resolve {
         rm: u32,
     },
-    /// The same, and the transactions of the page that are neither decided nor claimed are rolled back.
+    /// The same, and the transactions of the page that are neither decided nor claimed are rolled
+    /// back.
     ResolveOpen {
         rm: u32,
     },

@@ -5,7 +5,8 @@ ghost use Rattle.std.specs.Cmp.Lexicographic.{slice_cmp};
 
 use std::cmp::Ordering;
 
-/// The order of two byte strings: that of the first bytes that differ, and a string comes before a longer one that it begins.
+/// The order of two byte strings: that of the first bytes that differ, and a string comes before a
+/// longer one that it begins.
 pub(crate) fn order_of_bytes(bytes: &[u8], others: &[u8]) -> Ordering
     ensures { result ≡ slice_cmp nat_cmp bytes.now others.now }
 {
@@ -25,7 +26,8 @@ pub(crate) fn order_of_bytes(bytes: &[u8], others: &[u8]) -> Ordering
     rest.cmp(&other_rest)
 }
 
-/// The order of two words of eight bytes. As numbers with their highest byte first they stand in the order of their bytes.
+/// The order of two words of eight bytes. As numbers with their highest byte first they stand in
+/// the order of their bytes.
 fn order_of_words(word: [u8; 8], other: [u8; 8]) -> Ordering
     ensures { result ≡ slice_cmp nat_cmp word other }
 {

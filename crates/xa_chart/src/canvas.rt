@@ -72,7 +72,8 @@ impl Canvas {
         Ok(self.text.push_str(bar.as_str())?)
     }
 
-    /// A text whose base line begins at a place, or ends there or has it in its middle, as its class says.
+    /// A text whose base line begins at a place, or ends there or has it in its middle, as its
+    /// class says.
     pub fn write(&mut self, lettering: Lettering, at: Point, content: &str) -> Result<(), Memory> {
         let (x, y) = (at.x, at.y);
         let class = lettering.name();

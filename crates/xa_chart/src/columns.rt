@@ -60,7 +60,8 @@ pub struct Columns {
 }
 
 impl Columns {
-    /// Those of the threads, the manager, the log and the resource managers, each with room for its name.
+    /// Those of the threads, the manager, the log and the resource managers, each with room for its
+    /// name.
     pub fn new(alloc: Global, threads: u32, rms: u32) -> Result<Columns, Memory> {
         let mut columns = Columns {
             columns: Vec::new(alloc),
@@ -96,7 +97,8 @@ impl Columns {
         self.columns.as_slice()
     }
 
-    /// The column of a lifeline. What the system doesn't have is shown at the manager's, which refuses it.
+    /// The column of a lifeline. What the system doesn't have is shown at the manager's, which
+    /// refuses it.
     fn column(&self, lifeline: Lifeline) -> Option<Column> {
         let own = self.columns.iter().find(|it| it.lifeline == lifeline);
         match own {

@@ -1,4 +1,5 @@
-//! The ways of calls and answers that don't arrive. Those of one line are a fan, of which the oldest and the newest are drawn.
+//! The ways of calls and answers that don't arrive. Those of one line are a fan, of which the
+//! oldest and the newest are drawn.
 
 use crate::arrows::ends_of;
 use crate::canvas::{Canvas, Point};
@@ -13,7 +14,8 @@ fn are_together(one: &Waiting, other: &Waiting) -> bool {
     ends_of(one) == ends_of(other) && one.thread == other.thread
 }
 
-/// Where the way of what doesn't arrive ends: a call goes less than half of it, and an answer a quarter, so that both can be seen.
+/// Where the way of what doesn't arrive ends: a call goes less than half of it, and an answer a
+/// quarter, so that both can be seen.
 fn part_way(from: usize, to: usize, is_answer: bool) -> usize {
     let eighths: usize = if is_answer { 2 } else { 3 };
     let left = from.saturating_mul(8_usize.saturating_sub(eighths));

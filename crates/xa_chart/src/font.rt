@@ -3,8 +3,8 @@
 use std::alloc::Global;
 use xa_base::Memory;
 
-/// How wide a character is, in hundredths of the size of its font. It is at least what DejaVu Sans Bold gives, the widest of the
-/// fonts that a picture asks for.
+/// How wide a character is, in hundredths of the size of its font. It is at least what DejaVu Sans
+/// Bold gives, the widest of the fonts that a picture asks for.
 fn advance(character: char) -> usize {
     match character {
         ' ' | '\'' | 'i' | 'j' | 'l' => 35,

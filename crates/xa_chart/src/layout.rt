@@ -65,7 +65,8 @@ impl Layout {
         }
     }
 
-    /// Where a label stands: above an arrow that ends or begins there, and level with the bars where there are such.
+    /// Where a label stands: above an arrow that ends or begins there, and level with the bars if
+    /// there are such.
     pub fn label_at(&self, label: &Label) -> Point {
         let y = self.timeline.y(label.number);
         let y = match (label.lifeline, label.side) {

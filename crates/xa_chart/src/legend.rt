@@ -57,7 +57,7 @@ const ITEMS: [(Sample, &str); 17] = [
     (Sample::Bar(Fill::Branch(Standing::Lost)), "lost"),
 ];
 
-/// How much room a sample takes, with what is left free behind it.
+/// How much room a sample takes, with what is left free after it.
 fn sample_width(sample: Sample) -> usize {
     match sample {
         Sample::Nothing => 0,

@@ -1,7 +1,8 @@
-//! The events of a run as a picture: a sequence diagram of the calls and answers, with the log and the branches.
+//! The events of a run as a picture: a sequence diagram of the calls and answers, with the log and
+//! the branches.
 //!
-//! "XA" in these pages is X/Open CAE Specification C193, "Distributed Transaction Processing: The XA Specification"
-//! (1991).
+//! "XA" in these pages is X/Open CAE Specification C193, "Distributed Transaction Processing: The
+//! XA Specification" (1991).
 #![tactic(auto)]
 
 mod arrows;

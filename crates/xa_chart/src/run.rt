@@ -19,7 +19,8 @@ pub struct Run<'a, 'b> {
 }
 
 impl<'a, 'b> Run<'a, 'b> {
-    /// Where a part is drawn. A step that names a part which the system doesn't have is drawn at the manager, which refuses it.
+    /// Where a part is drawn. A step that names a part which the system doesn't have is drawn at
+    /// the manager, which refuses it.
     pub fn shown(&self, party: Party) -> Party
         ensures { result ≡ shown_party self.now.threads self.now.rms party }
     {

@@ -1,4 +1,5 @@
-//! The bars beside lifelines: the branches of a resource manager, coloured by where they stand, and the rows of the log.
+//! The bars beside lifelines: the branches of a resource manager, coloured by where they stand, and
+//! the rows of the log.
 
 use crate::classes::Fill;
 use crate::columns::Lifeline;

@@ -1,4 +1,5 @@
-//! How the classes look. Each is told from the others without colours too, by its hatching or its strokes.
+//! How the classes look. Each is told from the others without colours too, by its hatching or its
+//! strokes.
 
 /// The styles, and what they refer to.
 pub const STYLE: &str = "<style>\n\

@@ -54,7 +54,8 @@ impl Timeline {
         })
     }
 
-    /// Where the event of a number lies, from 1. After the last one that is where the lifelines end.
+    /// Where the event of a number lies, from 1. After the last one that is where the lifelines
+    /// end.
     pub fn y(&self, number: usize) -> usize {
         match self.heights.get(number.saturating_sub(1)) {
             Some(y) => *y,

@@ -15,7 +15,7 @@ place_text Memory = []
 place_text Work = []
 place_text Output = []
 
--- a number, as editors take it behind a path
+-- a number, as editors take it after a path
 abbrev pub number_text : Option ℕ → List ℕ
 number_text None = []
 number_text (Some n) = codes ":" ++ decimal n
@@ -28,7 +28,8 @@ numbers_text line column = number_text line ++ number_text column
 unfoldable pub reason_text : RunFault → List ℕ → List ℕ
 reason_text fault reason = place_text fault ++ codes ": " ++ reason
 
--- what is told of a fault of the file at a path: the path, perhaps a line, where the fault lies, and then a reason
+-- what is told of a fault of the file at a path: the path, perhaps a line, where the fault lies,
+-- and then a reason
 abbrev pub located_fault_text : (path : List ℕ) → RunFault → (line column : Option ℕ) → (reason : List ℕ) → List ℕ
 located_fault_text path fault line column reason = path ++ numbers_text line column ++ codes ": " ++ reason_text fault reason
 

@@ -27,7 +27,7 @@ quoted text = (34 ∷ []) ++ flat_map escaped (chars text) ++ (34 ∷ [])
 abbrev pub array : List (List ℕ) → List ℕ
 array items = codes "[" ++ join_with_byte 44 items ++ codes "]"
 
--- what stands before the first space of a line, and what stands behind it
+-- what stands before the first space of a line, and what stands after it
 abbrev pub json_word_of : List ℕ → List ℕ
 json_word_of line = before_first (λ b. b == 32) line
 
@@ -74,14 +74,16 @@ abbrev pub first_or_null : List (List ℕ) → List ℕ
 first_or_null [] = codes "null"
 first_or_null (item ∷ items) = item
 
--- what a run prints, as JSON: its branches with their fates, and the other lines of its trace, where it has one
+-- what a run prints, as JSON: its branches with their fates, and the other lines of its trace, if
+-- it has one
 abbrev pub run_json : Bool → List ℕ → List ℕ
 run_json with_trace printed =
     if with_trace then codes "{\"events\":" ++ array (items_in Event (lines printed))
     ++ codes ",\"branches\":" ++ array (items_in Branch (lines printed)) ++ codes "}\n"
     else codes "{\"branches\":" ++ array (items_in Branch (lines printed)) ++ codes "}\n"
 
--- what a look at a log prints, as JSON: the names that it keeps, its incarnation, its decisions, and its heuristic ends
+-- what a look at a log prints, as JSON: the names that it keeps, its incarnation, its decisions,
+-- and its heuristic ends
 abbrev pub log_json : List ℕ → List ℕ
 log_json printed =
     codes "{\"name\":" ++ first_or_null (items_in Name (lines printed))

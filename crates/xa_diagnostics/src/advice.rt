@@ -1,4 +1,4 @@
-//! What to do about a fault, where it is plain what was meant.
+//! What to do about a fault, if it is plain what was meant.
 
 use crate::allowed::{call_names, words_at};
 use crate::finding::InWords;
@@ -22,7 +22,8 @@ fn has(table: Option<&Table>, key: &str) -> bool {
     }
 }
 
-/// What is said of a key that isn't one of the table's. One that the table has already isn't the one that was meant.
+/// What is said of a key that isn't one of the table's. One that the table has already isn't the
+/// one that was meant.
 fn of_key(
     alloc: Global,
     table: Option<&Table>,
@@ -168,8 +169,8 @@ fn of_name(alloc: Global, name: &str, begun: &[&str]) -> Result<Option<String>, 
     }
 }
 
-/// What is said of a fault, if it is plain what was meant. `table` is the table that has the fault, and `begun` are the names
-/// of all transactions of the file.
+/// What is said of a fault, if it is plain what was meant. `table` is the table that has the fault,
+/// and `begun` are the names of all transactions of the file.
 fn advice(
     alloc: Global,
     table: Option<&Table>,
@@ -192,7 +193,8 @@ fn advice(
     }
 }
 
-/// What is wrong, and what to do about it: that which was meant, where it is plain, and else what is allowed there.
+/// What is wrong, and what to do about it: that which was meant, if it is plain, and else what is
+/// allowed there.
 pub fn reason_text(
     alloc: Global,
     table: Option<&Table>,

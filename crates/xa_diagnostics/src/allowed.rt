@@ -47,7 +47,7 @@ pub fn call_names() -> [&'static str; 9] {
     names
 }
 
-/// The words that a key may hold, where it holds a word other than the name of a call.
+/// The words that a key may hold, if it holds a word other than the name of a call.
 pub fn words_at(key: &str) -> &'static [&'static str] {
     match key {
         "do" => ENTRIES,

@@ -9,7 +9,7 @@ use xa_files::RunFault;
 #[derive(Drop)]
 pub struct Diagnostic {
     pub fault: RunFault,
-    /// The line, from 1, where the text shows it.
+    /// The line, from 1, if the text shows it.
     pub line: Option<usize>,
     /// The column, from 1, of a text that is no TOML.
     pub column: Option<usize>,

@@ -1,4 +1,5 @@
-//! The document of a file that is read again and again: what is faulty in it is mended, so that the next fault shows.
+//! The document of a file that is read again and again: what is faulty in it is mended, so that the
+//! next fault shows.
 
 ghost use Rattle.std.specs.Prelude.{◌≡◌, IfOk};
 ghost use Rattle.xa_diagnostics.specs.CheckJson.{kind_name};
@@ -50,8 +51,8 @@ fn kind_in(document: &Table) -> FileKind
     }
 }
 
-/// What a text is read as: jobs, if it has the key `job` at its top and no `step`, and else a scenario, also where it is no
-/// document.
+/// What a text is read as: jobs, if it has the key `job` at its top and no `step`, and else a
+/// scenario, also if it is no document.
 pub fn kind_of(alloc: Global, text: &[u8]) -> Result<FileKind, Memory>
     ensures { IfOk result (λ kind. kind ≡ file_kind_of text.now) }
 {
@@ -62,7 +63,7 @@ pub fn kind_of(alloc: Global, text: &[u8]) -> Result<FileKind, Memory>
     }
 }
 
-/// The items of the array at a key, none where there is no array.
+/// The items of the array at a key, none if there is no array.
 pub fn items_at<'a>(document: &'a Table, key: &str) -> &'a [Value] {
     match value_at(document, key) {
         Some(Value::Array(items)) => items.as_slice(),
@@ -224,7 +225,7 @@ fn add_items(later: Vec<Value>, items: &mut Vec<Value>) -> Result<(), Memory> {
     Ok(())
 }
 
-/// The items behind entries that begin these names.
+/// The items after entries that begin these names.
 fn behind(alloc: Global, names: &[String], later: Vec<Value>) -> Result<Vec<Value>, Memory> {
     let mut items = Vec::new(alloc);
     add_begins(alloc, names, &mut items)?;

@@ -29,7 +29,7 @@ enum Mend {
     Moved(String, usize),
     /// The table of a number.
     Table(usize),
-    /// Nothing: there is no sense in what is behind such a fault.
+    /// Nothing: there is no sense in what is after such a fault.
     Nothing,
 }
 
@@ -112,7 +112,8 @@ impl Search<'_> {
         Ok((found, top_mend(self.alloc, self.kind, finding)?))
     }
 
-    /// The fault of the top whose key stands in the table of a number, and what is to be mended of it.
+    /// The fault of the top whose key stands in the table of a number, and what is to be mended of
+    /// it.
     fn of_moved(&self, key: &str, number: usize) -> Result<(Diagnostic, Mend), Memory> {
         let own = number.saturating_sub(self.earlier);
         let array = self.kind.array();
@@ -155,7 +156,8 @@ impl Search<'_> {
         })
     }
 
-    /// Whether a fault only follows from another: the table that begins the transaction is faulty itself.
+    /// Whether a fault only follows from another: the table that begins the transaction is faulty
+    /// itself.
     fn follows(&self, finding: &Finding<'_>) -> bool {
         match finding {
             Finding::NotBegun(name) => self.suspects.iter().any(|it| it.as_str() == *name),
@@ -171,7 +173,8 @@ impl Search<'_> {
         Ok(())
     }
 
-    /// The first fault of a document, if it has one, and what is to be mended of it. A fault that only follows is left out.
+    /// The first fault of a document, if it has one, and what is to be mended of it. A fault that
+    /// only follows is left out.
     fn first_in(&mut self, document: &Table) -> Result<Option<(Option<Diagnostic>, Mend)>, Memory> {
         match refusal_in(self.alloc, document, self.kind) {
             None => Ok(None),
@@ -195,7 +198,7 @@ impl Search<'_> {
         }
     }
 
-    /// Mends what is to be mended of a document. Tells whether there is sense in what is behind it.
+    /// Mends what is to be mended of a document. Tells whether there is sense in what is after it.
     fn mend(&self, document: &mut Table, mend: &Mend) -> Result<bool, Memory> {
         match mend {
             Mend::Key(key) => mend_key(self.alloc, document, key.as_str())?,
@@ -237,7 +240,8 @@ impl Search<'_> {
     }
 }
 
-/// What is to be mended of a fault of the top. Of jobs whose number of resource managers isn't known there is no more to tell.
+/// What is to be mended of a fault of the top. Of jobs whose number of resource managers isn't
+/// known there is no more to tell.
 fn top_mend(alloc: Global, kind: FileKind, finding: &Finding<'_>) -> Result<Mend, Memory> {
     let key = match finding {
         Finding::Missing { key, .. } => *key,
@@ -285,7 +289,7 @@ fn fault_of_syntax(alloc: Global, text: &[u8]) -> Result<Vec<Diagnostic>, Memory
     Ok(found)
 }
 
-/// Adds the faults of a document, behind earlier files that begin these names.
+/// Adds the faults of a document, after earlier files that begin these names.
 fn add_faults(
     alloc: Global,
     text: &[u8],
@@ -309,7 +313,7 @@ fn add_faults(
     search.add_all(document, found)
 }
 
-/// The faults of a document behind earlier files.
+/// The faults of a document after earlier files.
 fn faults_in(
     alloc: Global,
     text: &[u8],
@@ -323,8 +327,8 @@ fn faults_in(
     Ok(found)
 }
 
-/// All faults of a file behind earlier ones, each with its reason, in the order in which its reader meets them; not more than
-/// a hundred.
+/// All faults of a file after earlier ones, each with its reason, in the order in which its reader
+/// meets them; not more than a hundred.
 pub fn faults_of(
     alloc: Global,
     text: &[u8],

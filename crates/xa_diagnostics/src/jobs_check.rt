@@ -36,9 +36,10 @@ fn print_jobs_check<W: Write>(alloc: Global, jobs: &Jobs, out: &mut W) -> Result
     write_text(line.as_bytes(), out)
 }
 
-/// Reads a jobs file only, and prints how many threads, resource managers and jobs it has, as in `ok 2 2 4 jobs`.
+/// Reads a jobs file only, and prints how many threads, resource managers and jobs it has, as in
+/// `ok 2 2 4 jobs`.
 ///
-/// The faults are those of `run_job_file`, but for Log and Work.
+/// The faults are those of `run_job_file`, except for Log and Work.
 pub fn check_jobs<W: Write>(alloc: Global, text: &[u8], out: &mut W) -> Result<(), RunFault>
     ensures ok { OnOk result (PrintsJobsCheck text.now (W.contents out.old) (W.contents out.new)) }
     ensures fault { IfErr result (λ e. SaysOfReading e (jobs_of text.now)) }

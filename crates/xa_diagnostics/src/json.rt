@@ -78,7 +78,7 @@ pub fn lines_of(alloc: Global, text: &str) -> Result<Vec<&str>, AllocError>
     text.lines().collect(alloc)
 }
 
-/// What stands before the first space of a line, and what stands behind it.
+/// What stands before the first space of a line, and what stands after it.
 fn cut(line: &str) -> (&str, &str)
     ensures word { result.0.now ≡ json_word_of line.now }
     ensures rest { result.1.now ≡ rest_of line.now }
@@ -214,7 +214,8 @@ impl Item {
     }
 }
 
-/// What a run prints, as JSON: its branches with their fates, and the other lines of its trace, where it has one.
+/// What a run prints, as JSON: its branches with their fates, and the other lines of its trace, if
+/// it has one.
 pub fn run_json(alloc: Global, printed: &str, with_trace: bool) -> Result<String, Memory>
     ensures { IfOk result (λ text. string_bytes text ≡ run_json with_trace printed.now) }
 {
@@ -228,7 +229,8 @@ pub fn run_json(alloc: Global, printed: &str, with_trace: bool) -> Result<String
     }
 }
 
-/// What a look at a log prints, as JSON: the names that it keeps, its incarnation, its decisions, and its heuristic ends.
+/// What a look at a log prints, as JSON: the names that it keeps, its incarnation, its decisions,
+/// and its heuristic ends.
 pub fn log_json(alloc: Global, printed: &str) -> Result<String, Memory>
     ensures { IfOk result (λ text. string_bytes text ≡ log_json printed.now) }
 {

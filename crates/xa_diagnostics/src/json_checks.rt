@@ -80,8 +80,8 @@ fn found_json(
     )?)
 }
 
-/// What a check says of the file at a path, as JSON on a line of its own: whether it is well, what it is, all its faults, and
-/// what a run will refuse.
+/// What a check says of the file at a path, as JSON on a line of its own: whether it is well, what
+/// it is, all its faults, and what a run will refuse.
 pub fn check_json(
     alloc: Global,
     path: &str,

@@ -1,7 +1,8 @@
-//! What is wrong with a scenario file or a jobs file: where, at which key, and what is meant or allowed there.
+//! What is wrong with a scenario file or a jobs file: where, at which key, and what is meant or
+//! allowed there.
 //!
-//! [`report`] tells of all faults of a file that was refused, [`warnings`] of what a run will refuse of one that wasn't, and
-//! [`check_jobs`] reads a jobs file only.
+//! [`report`] tells of all faults of a file that was refused, [`warnings`] of what a run will
+//! refuse of one that wasn't, and [`check_jobs`] reads a jobs file only.
 #![tactic(auto)]
 
 mod advice;

@@ -1,4 +1,4 @@
-//! Which word was meant, where another was written.
+//! Which word was meant, if another was written.
 
 use std::alloc::Global;
 use strsim::osa_distance;
@@ -7,7 +7,8 @@ use xa_base::Memory;
 /// A longer word is near no other.
 const MOST_LETTERS: usize = 40;
 
-/// The nearest of some words to one that is none of them, if a third of its letters or fewer are wrong.
+/// The nearest of some words to one that is none of them, if a third of its letters or fewer are
+/// wrong.
 pub fn nearest<'a>(
     alloc: Global,
     word: &str,
@@ -25,7 +26,8 @@ pub fn nearest<'a>(
     Ok(best)
 }
 
-/// How many letters of a word are wrong, if another was meant. That a letter is a capital is no fault where no other is wrong.
+/// How many letters of a word are wrong, if another was meant. That a letter is a capital is no
+/// fault if no other is wrong.
 fn distance(alloc: Global, word: &str, meant: &str) -> Result<usize, Memory> {
     if word.eq_ignore_ascii_case(meant) {
         return Ok(0);

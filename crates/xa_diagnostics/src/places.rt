@@ -2,12 +2,13 @@
 
 use crate::tokens::{Token, Tokens};
 
-/// What is looked for: a key at the top of a document, or a table of an array of tables and a key in it.
+/// What is looked for: a key at the top of a document, or a table of an array of tables and a key
+/// in it.
 #[derive(Clone, Copy)]
 pub struct Wanted<'a> {
     /// The key of the array.
     pub array: &'a str,
-    /// The number of the table, from 1; 0 where the key stands at the top.
+    /// The number of the table, from 1; 0 if the key stands at the top.
     pub number: usize,
     /// The key, if there is one.
     pub key: Option<&'a str>,
@@ -128,7 +129,7 @@ impl Walk<'_> {
         self.state = State::Value;
     }
 
-    /// A token of a value, or behind a header.
+    /// A token of a value, or after a header.
     fn take_in_value(&mut self, token: &Token<'_>) {
         match token.first() {
             b'\n' => {
@@ -166,8 +167,8 @@ impl Walk<'_> {
 
 /// The line of what is looked for: that of the key, or else that of the table.
 ///
-/// A table is numbered by the text alone. So there is no line where one is looked for and the text doesn't show as many
-/// tables as the document has, for a key may be spelled in other ways.
+/// A table is numbered by the text alone. So there is no line if one is looked for and the text
+/// doesn't show as many tables as the document has, for a key may be spelled in other ways.
 pub fn line_of(text: &[u8], wanted: Wanted<'_>, tables: usize) -> Option<usize> {
     let mut walk = Walk {
         wanted,

@@ -12,13 +12,14 @@ use std::alloc::Global;
 use xa_base::Memory;
 use xa_files::RunFault;
 
-/// How many faults of a file are told, where not all are asked for.
+/// How many faults of a file are told, if not all are asked for.
 const FEW: usize = 10;
 
-/// What is said of a fault of which no reader tells a reason: the sizes of a file that are not those of the first one.
+/// What is said of a fault of which no reader tells a reason: the sizes of a file that are not
+/// those of the first one.
 const OTHER_SIZES: &str = "threads and rms have to be those of the first file";
 
-/// The place and the reason of a fault, where one of these is it.
+/// The place and the reason of a fault, if one of these is it.
 fn of_fault(
     alloc: Global,
     found: &[Diagnostic],
@@ -36,7 +37,7 @@ fn of_fault(
     }
 }
 
-/// The lines of the faults behind the first one.
+/// The lines of the faults after the first one.
 fn later_lines(
     alloc: Global,
     path: &str,
@@ -56,8 +57,9 @@ fn later_lines(
     Ok(text)
 }
 
-/// What is wrong with the file at a path, which was refused for this fault: a line for each of its faults, the first ten or all,
-/// as in `FILE:7: step 2: xa_end needs flags = ["TMSUCCESS"]`. The file may stand behind earlier ones, whose transactions it knows.
+/// What is wrong with the file at a path, which was refused for this fault: a line for each of its
+/// faults, the first ten or all, as in `FILE:7: step 2: xa_end needs flags = ["TMSUCCESS"]`. The
+/// file may stand after earlier ones, whose transactions it knows.
 pub fn report(
     alloc: Global,
     path: &str,

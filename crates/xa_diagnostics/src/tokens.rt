@@ -1,6 +1,7 @@
 //! The tokens of a document of TOML, each with its line.
 
-/// A token: a bracket, a comma, a dot, an equals sign, a line feed, a string with its quotes, or a word.
+/// A token: a bracket, a comma, a dot, an equals sign, a line feed, a string with its quotes, or a
+/// word.
 #[derive(Clone, Copy)]
 pub struct Token<'a> {
     pub text: &'a [u8],
@@ -57,7 +58,7 @@ fn front(bytes: &[u8], count: usize) -> &[u8] {
     }
 }
 
-/// What is behind so many bytes.
+/// What is after so many bytes.
 fn behind(bytes: &[u8], count: usize) -> &[u8] {
     if count <= bytes.len() {
         &bytes[count..]

@@ -23,7 +23,7 @@ pub fn place_text(alloc: Global, fault: RunFault) -> Result<String, Memory>
     }
 }
 
-/// A number, as editors take it behind a path.
+/// A number, as editors take it after a path.
 fn number_text(alloc: Global, number: Option<usize>) -> Result<String, Memory>
     ensures { IfOk result (λ text. string_bytes text ≡ number_text number) }
 {

@@ -1,4 +1,5 @@
-//! What a run will refuse of a scenario that is none the less one: threads and resource managers that aren't there.
+//! What a run will refuse of a scenario that is none the less one: threads and resource managers
+//! that aren't there.
 
 ghost use Rattle.std.specs.Prelude.{◌≡◌, ◌≤◌, ◌<◌, [], Err, IfNone, IfOk, IfSome};
 ghost use Rattle.std.specs.String.{string_bytes};
@@ -205,8 +206,8 @@ fn warnings_in(alloc: Global, path: &str, text: &[u8], document: &Table) -> Resu
     }
 }
 
-/// A line for each entry of the scenario in a file that a run will refuse whatever is done before it, at most ten. Of a file
-/// that is no scenario there is none.
+/// A line for each entry of the scenario in a file that a run will refuse whatever is done before
+/// it, at most ten. Of a file that is no scenario there is none.
 #[tactic(auto, unfolding(xa_scenario_file::specs::Scenarios::scenario_of))]
 pub fn warnings(alloc: Global, path: &str, text: &[u8]) -> Result<String, Memory>
     ensures { (e : RunFault) → scenario_of text.now ≡ Err e

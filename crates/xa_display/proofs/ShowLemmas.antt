@@ -9,7 +9,7 @@ use Rattle.xa_story.specs.Naming.{Naming, with_events}
 use Rattle.xa_story.specs.Stories.{IsSpelled, IsStory, TellEvents}
 use Rattle.xa_story.specs.declared.line.StoryLine.{StoryLine}
 
--- what follows, where a function succeeded
+-- what follows, if a function succeeded
 pub on_ok : {A E P Q : Type 0} (r : Result A E) → OnOk r P → (P → Q) → OnOk r Q
 on_ok (Ok x) p f = f p
 on_ok (Err e) p f = p

@@ -69,7 +69,8 @@ module _ {L : Type 0} (moment : L → Moment) (log : L) (text : List ℕ) where
     pub run : IsRunOfText plan origin events
     pub many : most_drawn_events < length events
 
--- a fault of a picture tells that the run is too long, or it is one of the run, and tells what that does of the text
+-- a fault of a picture tells that the run is too long, or it is one of the run, and tells what that
+-- does of the text
 abbrev pub ExplainsPicture : ChartFault → Result Plan RunFault → Type 0
 ExplainsPicture TooLong read = IsOk read
 ExplainsPicture (Run fault) read = SaysOfReading fault read

@@ -20,12 +20,12 @@ use xa_scenario::system_after;
 use xa_scenario_file::read_named_scenario;
 use xa_story::{Scene, lines_of, story_text};
 
-/// Runs a scenario file at new resource managers and over a decision log that is still empty, and prints its story: the
-/// line of each event, and then what became of each branch and why.
+/// Runs a scenario file at new resource managers and over a decision log that is still empty, and
+/// prints its story: the line of each event, and then what became of each branch and why.
 ///
-/// A file that is no scenario is refused before anything is run, by NotToml, Header or Step. Log comes if the log
-/// can't be started, Memory if a request was refused outside of a step, and Output if a write failed. Work never
-/// comes.
+/// A file that is no scenario is refused before anything is run, by NotToml, Header or Step. Log
+/// comes if the log can't be started, Memory if a request was refused outside of a step, and Output
+/// if a write failed. Work never comes.
 pub fn explain_scenario<L: DecisionLog + Drop, W: Write>(
     alloc: Global,
     text: &[u8],

@@ -49,10 +49,11 @@ impl From<Memory> for ChartFault {
     }
 }
 
-/// Runs a scenario file at new resource managers and over a decision log that is still empty, and prints it as a
-/// sequence diagram: a document of SVG.
+/// Runs a scenario file at new resource managers and over a decision log that is still empty, and
+/// prints it as a sequence diagram: a document of SVG.
 ///
-/// TooLong comes if the run has more than 200 events. The other faults are those of `explain_scenario`.
+/// TooLong comes if the run has more than 200 events. The other faults are those of
+/// `explain_scenario`.
 pub fn draw_scenario<L: DecisionLog + Drop, W: Write>(
     alloc: Global,
     text: &[u8],

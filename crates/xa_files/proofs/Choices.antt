@@ -1,4 +1,4 @@
--- What is there only where a test holds.
+-- What is there only if a test holds.
 use Rattle.std.proofs.Common.{◌≡◌, Bool, true, false, Option, Some, None, if◌then◌else◌, refl}
 
 pub choice_true : {A : Type 0} (t : Bool) (x : A) → t ≡ true → (if t then Some x else None) ≡ Some x

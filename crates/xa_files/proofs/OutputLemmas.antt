@@ -40,7 +40,7 @@ more_written start old new rest bs n so_far more = subst (λ left. IsWrittenBut 
   appends = both_written start old new so_far.written (take n rest) so_far.appends more;
 })
 
--- a flush that failed behind a text that was written whole
+-- a flush that failed after a text that was written whole
 pub begun_with_all : {A E : Type 0} (result : Result A E) (old new : Option (List ℕ)) (bs : List ℕ) → Appends old new bs
     → OnErr result (AppendsBeginning old new bs)
 begun_with_all (Ok x) old new bs appended = tt

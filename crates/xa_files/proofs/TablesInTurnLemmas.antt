@@ -27,7 +27,7 @@ state_before next zero s items = s
 state_before next (suc k) s no_items = s
 state_before next (suc k) s (item value items) = state_before next k (next s value) items
 
--- Each table is read with its number and with a state, which it changes for those behind it.
+-- Each table is read with its number and with a state, which it changes for those after it.
 module _ {A S : Type 0} (read_at : ℕ → S → Data → Result A RunFault) (next : S → Data → S) (read_from : ℕ → S → Items → Result (List A) RunFault)
     (none : (n : ℕ) (s : S) → read_from n s no_items ≡ Ok [])
     (more : (n : ℕ) (s : S) (value : Data) (items : Items) → read_from n s (item value items)
@@ -101,7 +101,7 @@ module _ {A S : Type 0} (read_at : ℕ → S → Data → Result A RunFault) (ne
         read_item n s value items list (read_at n s value) (read_from (n + 1) (next s value) items) refl
         (λ xs. read (n + 1) (next s value) items xs) (sym (more n s value items) ∙ h)
 
-    -- what a table asks for by its place, where the first is read with a state
+    -- what a table asks for by its place, if the first is read with a state
     module _ (asked_at : Items → ℕ → Data → Result A RunFault) (start : S)
         (same : (items : Items) (k : ℕ) (value : Data) → asked_at items k value ≡ read_at (1 + k) (state_before next k start items) value)
       where

@@ -11,7 +11,7 @@ use Rattle.xa_files.specs.Reading.{◌>>=◌}
 use Rattle.xa_files.specs.declared.fault.RunFault.{RunFault}
 use Rattle.xa_files.specs.declared.fault.RunFault.TheVariants.{NotToml, Header, Output}
 
--- a fault where something is missing
+-- a fault if something is missing
 pub missing : {A : Type 0} (of_table : ℕ → RunFault) (o : Option A) (e fault : RunFault) → IsTextFault of_table e → ok_or o e ≡ Err fault
     → IsTextFault of_table fault
 missing of_table None e fault known is = subst (IsTextFault of_table) (same_err e fault is) known

@@ -17,7 +17,7 @@ are_tables (item value items) = is_some (as_table value) && are_tables items
 abbrev pub tables_in : Data → Option Items
 tables_in value = as_array value >>= λ items. if are_tables items then Some items else None
 
--- the tables at a key, none where it is missing
+-- the tables at a key, none if it is missing
 unfoldable pub tables_at : List ℕ → Members → Option Items
 tables_at key document = if holds key document then get_member key document >>= tables_in else Some no_items
 

@@ -14,7 +14,7 @@ fault_text Memory = codes "xatm: memory"
 fault_text Work = codes "xatm: work"
 fault_text Output = codes "xatm: output"
 
--- the status of a fault: 1 where the file is refused, 2 where the work on it fails
+-- the status of a fault: 1 if the file is refused, 2 if the work on it fails
 abbrev pub fault_status : RunFault → ℕ
 fault_status NotToml = 1
 fault_status Header = 1

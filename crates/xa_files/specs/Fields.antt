@@ -4,7 +4,7 @@ use Rattle.std.specs.List.{list_any, list_all}
 use Rattle.std.specs.Str.{bytes_eq}
 use Rattle.toml.specs.Data.{Members, no_members, member, get_member, as_str, as_integer}
 
--- what follows, where there is a value
+-- what follows, if there is a value
 infixl 10 ◌>>=◌
 abbrev pub ◌>>=◌ : {A B : Type 0} → Option A → (A → Option B) → Option B
 o >>= f = option_and_then f o
@@ -47,7 +47,7 @@ index_at key table = number_at (2 ^ 32 - 1) key table
 abbrev pub holds : List ℕ → Members → Bool
 holds key table = is_some (get_member key table)
 
--- the number, or the default where the key is missing
+-- the number, or the default if the key is missing
 abbrev pub index_or : ℕ → List ℕ → Members → Option ℕ
 index_or default key table = if holds key table then index_at key table else Some default
 

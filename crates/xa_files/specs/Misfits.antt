@@ -13,8 +13,8 @@ document_fault_of (Step n finding) = faults.Step n
 document_fault_of (Job n finding) = faults.Job n
 document_fault_of Memory = faults.Memory
 
--- What a reader returned, seen by `view`, is what the document gives, unless memory ran out: where it refuses, the refusal is one of the
--- document's own fault.
+-- What a reader returned, seen by `view`, is what the document gives, unless memory ran out: if it
+-- refuses, the refusal is one of the document's own fault.
 abbrev pub ReadsDocument : {X Y : Type 0} → (X → Y) → Result X Misfit → Result Y RunFault → Type 0
 ReadsDocument view (Ok x) read = read ≡ Ok (view x)
 ReadsDocument view (Err misfit) read = Fails (document_fault_of misfit) read

@@ -1,4 +1,4 @@
--- The numbers that words spell, each by just one word.
+-- The numbers that words spell, each by exactly one word.
 use Rattle.std.specs.Prelude.{ℕ, ◌^◌, ℤ, pos, negsuc, Bool, ◌&&◌, nat_lt, if◌then◌else◌, List, Option, Some, None}
 use Rattle.std.specs.Fmt.{decimal, signed_decimal}
 use Rattle.std.specs.Str.{bytes_eq}

@@ -3,7 +3,7 @@ use Rattle.std.specs.Prelude.{◌≡◌, ◌⊎◌, Result, Ok, Err, IsErrAnd, I
 use Rattle.xa_files.specs.declared.fault.RunFault.{RunFault}
 use Rattle.xa_files.specs.declared.fault.RunFault.TheVariants.{Log, Memory, Work, Output}
 
--- what follows, where there is no fault
+-- what follows, if there is no fault
 infixl 10 ◌>>=◌
 abbrev pub ◌>>=◌ : {A B : Type 0} → Result A RunFault → (A → Result B RunFault) → Result B RunFault
 (Ok x) >>= f = f x
@@ -19,8 +19,8 @@ abbrev pub Gives : {X Y : Type 0} → (X → Y) → Result X RunFault → Result
 Gives view (Ok x) read = read ≡ Ok (view x)
 Gives view (Err e) read = Fails e read
 
--- What a fault tells of the reading of the text: want of memory tells nothing; a fault of the log, of the work or of the
--- output that it was read; and each other fault is the text's own.
+-- What a fault tells of the reading of the text: want of memory tells nothing; a fault of the log,
+-- of the work or of the output that it was read; and each other fault is the text's own.
 abbrev pub SaysOfReading : {Y : Type 0} → RunFault → Result Y RunFault → Type 0
 SaysOfReading Memory read = Unit {0}
 SaysOfReading Log read = IsOk read

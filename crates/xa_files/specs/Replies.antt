@@ -8,7 +8,7 @@ use Rattle.xa_base.specs.Xid.{Xid, text_of}
 use Rattle.xa_base.specs.declared.branch.Gtrid.{Gtrid}
 use Rattle.xa_base.specs.declared.refusal.Refusal.{Refusal}
 
--- identifiers, each behind a space
+-- identifiers, each after a space
 abbrev pub listed_xids : List Xid → List ℕ
 listed_xids = flat_map (λ x. codes " " ++ text_of x)
 

@@ -10,7 +10,7 @@ pub record Asks {A : Type 0} (asked_at : Items → ℕ → Data → Result A Run
   pub there : get_item k items ≡ Some value
   pub asks : asked_at items k value ≡ answer
 
--- Where the tables are read, what is read at each place is what its table asks for.
+-- If the tables are read, what is read at each place is what its table asks for.
 abbrev pub EachIsRead : {A : Type 0} → (Items → ℕ → Data → Result A RunFault) → (Items → Result (List A) RunFault) → Type 0
 EachIsRead {A} asked_at read = (items : Items) (list : List A) → read items ≡ Ok list
     → (k : ℕ) (one : A) → slice_get list k ≡ Some one → Asks asked_at items k (Ok one)

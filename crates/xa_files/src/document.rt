@@ -27,7 +27,7 @@ fn tables_in(value: &Value) -> Option<&[Value]>
     if are_tables(items) { Some(items) } else { None }
 }
 
-/// The tables at a key, of which there may be none, as where the key is missing.
+/// The tables at a key, of which there may be none, as when the key is missing.
 #[tactic(auto, unfolding(crate::specs::Documents::tables_at))]
 pub fn tables_at<'a>(document: &'a Table, key: &'static str) -> Result<&'a [Value], Finding<'a>>
     ensures { option_map (λ items. items_view items.now) (result_ok result)
@@ -56,7 +56,8 @@ pub fn size_at<'a>(
     }
 }
 
-/// The document that a text is. NotToml where it isn't UTF-8 or no document, Memory where a request was refused.
+/// The document that a text is. NotToml if it isn't UTF-8 or no document, Memory if a request was
+/// refused.
 #[tactic(auto, unfolding(crate::specs::Documents::document_of))]
 pub fn document_of(alloc: Global, text: &[u8]) -> Result<Table, RunFault>
     ensures { Gives (λ document. table_view document) result (document_of text.now) }

@@ -6,8 +6,8 @@ ghost use Rattle.xa_files.specs.declared.fault.RunFault.TheVariants.{Memory};
 use std::alloc::{AllocError, AllocFailed};
 use std::fmt;
 
-/// Why a run of a file ends early. Each displays as its text on standard error, which is written by hand here so that
-/// contracts can cite it (`fault_text`). A scenario meets neither Job nor Work.
+/// Why a run of a file ends early. Each displays as its text on standard error, which is written by
+/// hand here so that contracts can cite it (`fault_text`). A scenario meets neither Job nor Work.
 #[derive(Clone, Copy, Debug, PartialEq, Eq)]
 pub enum RunFault {
     /// The text isn't UTF-8 or no TOML document.
@@ -31,7 +31,8 @@ pub enum RunFault {
 impl RunFault {
     ghost use Rattle.xa_files.specs.Faults.{fault_status};
 
-    /// The status that a program ends with for this fault: 1 where the file is refused, 2 where the work on it fails.
+    /// The status that a program ends with for this fault: 1 if the file is refused, 2 if the work
+    /// on it fails.
     pub fn status(self) -> u8
         ensures { result ≡ fault_status self }
     {

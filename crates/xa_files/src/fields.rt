@@ -1,4 +1,5 @@
-//! What the keys of a table hold, or what is wrong with it. A table is told of as one of a kind, as "a vote".
+//! What the keys of a table hold, or what is wrong with it. A table is told of as one of a kind, as
+//! "a vote".
 
 ghost use Rattle.std.specs.Prelude.{◌≡◌, map, option_map};
 ghost use Rattle.std.specs.Result.{is_ok, result_ok};
@@ -141,7 +142,7 @@ pub fn index_at<'a>(
     number_at(table, of, key, u32::MAX)
 }
 
-/// The number at a key, or the default where the key is missing.
+/// The number at a key, or the default if the key is missing.
 pub fn index_or<'a>(
     table: &'a Table,
     of: &'static str,

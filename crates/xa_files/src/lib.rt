@@ -1,5 +1,6 @@
-//! What scenario files and jobs files have in common: the fields and words of their tables, the faults of a run, and
-//! what it writes. A listed log has the same words for fates, and a driver's session for calls and replies.
+//! What scenario files and jobs files have in common: the fields and words of their tables, the
+//! faults of a run, and what it writes. A listed log has the same words for fates, and a driver's
+//! session for calls and replies.
 #![tactic(auto)]
 
 mod document;

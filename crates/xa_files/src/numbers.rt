@@ -25,7 +25,8 @@ pub fn index_of(word: &str) -> Option<u32>
     }
 }
 
-/// The signed number of 64 bits that a word spells in decimal, without a plus sign, leading zeros or `-0`.
+/// The signed number of 64 bits that a word spells in decimal, without a plus sign, leading zeros
+/// or `-0`.
 pub fn integer_of(word: &str) -> Option<i64>
     ensures { result ≡ integer_of word.now }
 {

@@ -8,7 +8,8 @@ ghost use Rattle.xa_files.specs.declared.fault.RunFault.TheVariants.{Output};
 use crate::fault::RunFault;
 use std::io::{ErrorKind, Write};
 
-/// Writes a text whole, and flushes nothing. What was written before a write failed is left: a beginning of the text.
+/// Writes a text whole, and flushes nothing. What was written before a write failed is left: a
+/// beginning of the text.
 pub fn write_unflushed<W: Write>(text: &[u8], out: &mut W) -> Result<(), RunFault>
     ensures whole { OnOk result (Appends (W.contents out.old) (W.contents out.new) text.now) }
     ensures begun { OnErr result (AppendsBeginning (W.contents out.old)
@@ -33,7 +34,8 @@ pub fn write_unflushed<W: Write>(text: &[u8], out: &mut W) -> Result<(), RunFaul
     Err(RunFault::Output)
 }
 
-/// Writes a text whole, and flushes it. What was written before a write failed is left: a beginning of the text.
+/// Writes a text whole, and flushes it. What was written before a write failed is left: a beginning
+/// of the text.
 pub fn write_text<W: Write>(text: &[u8], out: &mut W) -> Result<(), RunFault>
     ensures whole { OnOk result (Appends (W.contents out.old) (W.contents out.new) text.now) }
     ensures begun { OnErr result (AppendsBeginning (W.contents out.old)

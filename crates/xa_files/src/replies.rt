@@ -7,7 +7,7 @@ ghost use Rattle.xa_files.specs.Replies.{begun_text, listed_xids, refused_text, 
 use std::alloc::Global;
 use xa_base::{Gtrid, Memory, Refusal, Xid};
 
-/// Adds each identifier behind a space.
+/// Adds each identifier after a space.
 pub fn push_xids(text: &mut String, alloc: Global, xids: &[Xid]) -> Result<(), Memory>
     ensures { OnOk result (string_bytes text.new ≡ string_bytes text.old ++ listed_xids xids.now) }
 {

@@ -122,7 +122,7 @@ pub told_as : {A : Type 0} (P : A → Type 0) (ran : Result A WorkFault) (told :
 told_as P (Ok done) told is fault holds = rw is holds
 told_as P (Err fault) told done is holds = rw is tt
 
--- it is so where it ends well, and where it ends by the work
+-- it is so if it ends well, and if it ends by the work
 pub where_well : {A : Type 0} (result : Result A RunFault) (P : Type 0) → (result ≢ Err Log → P) → OnOk result P
 where_well (Ok done) P known = known (λ e. cc)
 where_well (Err e) P known = tt

@@ -8,7 +8,7 @@ use Rattle.xa_files.specs.Fields.{◌>>=◌, has_only, holds}
 use Rattle.xa_files.specs.declared.fault.RunFault.{RunFault}
 use Rattle.xa_files.specs.declared.fault.RunFault.TheVariants.{Header}
 
--- whether a recovery sweeps the jobs; not where the key is missing
+-- whether a recovery sweeps the jobs; not if the key is missing
 unfoldable pub sweep_at : Members → Option Bool
 sweep_at document =
     if holds (codes "sweep") document then get_member (codes "sweep") document >>= as_bool else Some false
@@ -17,7 +17,8 @@ sweep_at document =
 abbrev pub header_keys : List (List ℕ)
 header_keys = codes "threads" ∷ codes "rms" ∷ codes "sweep" ∷ codes "job" ∷ []
 
--- the numbers of threads and of resource managers, from 1 to the most of a system, whether a recovery sweeps, and the tables of the jobs
+-- the numbers of threads and of resource managers, from 1 to the most of a system, whether a
+-- recovery sweeps, and the tables of the jobs
 unfoldable pub jobs_header_at : Members → Option (ℕ × ℕ × Bool × Items)
 jobs_header_at document = if has_only header_keys document then (do
   threads ← size_at MAX_THREADS (codes "threads") document

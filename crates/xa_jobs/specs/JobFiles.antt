@@ -20,7 +20,8 @@ use Rattle.xa_workers.specs.declared.jobs.Jobs.{Jobs}
 abbrev pub Votes : Type 0
 Votes = List (Option Vote)
 
--- how many threads and resource managers there are, whether a recovery sweeps, and the votes of each job
+-- how many threads and resource managers there are, whether a recovery sweeps, and the votes of
+-- each job
 pub record JobPlan : Type 0 where
   pub threads : ℕ
   pub rms : ℕ

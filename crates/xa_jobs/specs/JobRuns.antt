@@ -18,15 +18,15 @@ use Rattle.xa_workers.specs.declared.jobs.Jobs.{Jobs}
 abbrev pub planned_ends : JobPlan → List Outcome
 planned_ends plan = map planned_end plan.votes
 
--- Each job ended as its votes say. Only where a recovery sweeps the jobs may one that would have committed be rolled
--- back.
+-- Each job ended as its votes say. Only if a recovery sweeps the jobs may one that would have
+-- committed be rolled back.
 pub record AreEnds (plan : JobPlan) (ends : List Outcome) : Type 0 where
   pub number : length ends ≡ length plan.votes
   pub each : MayAllEnd plan.sweep (planned_ends plan) ends
   pub plain : plan.sweep ≡ false → ends ≡ planned_ends plan
 
--- What was written are the lines of ends that the jobs may have, and the log has the rows that it came with and, in the
--- incarnation that it gave, those of jobs that ended so.
+-- What was written are the lines of ends that the jobs may have, and the log has the rows that it
+-- came with and, in the incarnation that it gave, those of jobs that ended so.
 pub record RunsJobs {L : Type 0} (g : DecisionLog.Ghosts L) (jobs : Jobs) (old new : Option (List ℕ)) (first log : L)
     : Type 0 where
   pub ends : List Outcome

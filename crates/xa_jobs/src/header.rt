@@ -10,7 +10,7 @@ use toml::{Table, Value};
 use xa_base::{MAX_RMS, MAX_THREADS};
 use xa_files::{Finding, Misfit, only_keys, size_at, tables_at, value_at};
 
-/// Whether a recovery sweeps the jobs: not where the file doesn't say so.
+/// Whether a recovery sweeps the jobs: not if the file doesn't say so.
 #[tactic(auto, unfolding(crate::specs::Headers::sweep_at))]
 fn sweep_at(document: &Table) -> Result<bool, Finding<'_>>
     ensures { result_ok result ≡ sweep_at (table_view document.now) }
@@ -24,7 +24,8 @@ fn sweep_at(document: &Table) -> Result<bool, Finding<'_>>
     }
 }
 
-/// The top of a document: the threads, the resource managers, whether a recovery sweeps, and the tables of the jobs.
+/// The top of a document: the threads, the resource managers, whether a recovery sweeps, and the
+/// tables of the jobs.
 #[tactic(auto, unfolding(crate::specs::Headers::jobs_header_at))]
 fn header_at(document: &Table) -> Result<(u32, u32, bool, &[Value]), Finding<'_>>
     ensures header { option_map (λ h. (h.0, h.1, h.2, items_view h.3.now)) (result_ok result)

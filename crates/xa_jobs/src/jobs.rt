@@ -150,7 +150,8 @@ pub fn jobs_in<'a>(alloc: Global, document: &'a Table) -> Result<Jobs, Misfit<'a
 
 /// Reads a jobs file. Its jobs can be run.
 ///
-/// The fault is NotToml, Header or Job, whichever is found first in this order, or Memory where a request was refused.
+/// The fault is NotToml, Header or Job, whichever is found first in this order, or Memory if a
+/// request was refused.
 #[tactic(auto, unfolding(crate::specs::JobFiles::jobs_of))]
 pub fn read_jobs(alloc: Global, text: &[u8]) -> Result<Jobs, RunFault>
     ensures read { Gives job_plan_of result (jobs_of text.now) }

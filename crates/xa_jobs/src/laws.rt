@@ -1,4 +1,5 @@
-//! What the reading of a jobs file comes to. These functions do nothing: each contract is a theorem.
+//! What the reading of a jobs file comes to. These functions do nothing: each contract is a
+//! theorem.
 
 ghost use Rattle.std.specs.Prelude.{ℕ};
 ghost use Rattle.xa_files.specs.TablesInTurn.{EachIsRead, FaultsAreOfTexts, FirstIsFaulty};

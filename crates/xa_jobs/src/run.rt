@@ -43,7 +43,8 @@ fn run_fault_of(fault: WorkFault) -> RunFault
     }
 }
 
-/// What a run came to, with its fault as the file tells it. A proof that names `Outcomes` takes several times as long.
+/// What a run came to, with its fault as the file tells it. A proof that names `Outcomes` takes
+/// several times as long.
 fn told<T: Drop>(ran: Result<T, WorkFault>) -> Result<T, RunFault>
     ensures done { IfOk ran (λ done. result ≡ Ok done) }
     ensures fault { IfErr ran (λ fault. result ≡ Err (run_fault_of fault)) }
@@ -93,18 +94,24 @@ fn run_and_print<R: Threads + Wait + Clock + Sync, L: DecisionLog + Drop, W: Wri
     Ok(done.log)
 }
 
-/// Runs the jobs of a file over a log by [`run_jobs`], prints a line for each job, in order, once all have ended, and
-/// gives the log back.
+/// Runs the jobs of a file over a log by [`run_jobs`], prints a line for each job, in order, once
+/// all have ended, and gives the log back.
 ///
-/// The log that is given back has what it came with, and a row for each job whose line says that it committed and of
-/// which a branch voted yes, with the branches that did as its participants. It has nothing else, and its incarnation is
-/// one more. That holds of a log that was in order, and as far as it has been honest.
+/// The log that is given back has what it came with, and a row for each job whose line says that it
+/// committed and of which a branch voted yes, with the branches that did as its participants. It
+/// has nothing else, and its incarnation is one more. That holds of a log that was in order, and as
+/// far as it has been honest.
 ///
-/// A file that is no jobs file is refused before anything is run, by NotToml, Header or Job. Of a run, Memory comes
-/// where a request for memory or for a thread was refused, Log where the log failed or can't begin a run, Work where
-/// the workers stood still or don't agree, over a log that could begin it; nothing is written then. Output comes where
-/// a write failed: what was written before it is left, and is a beginning of what is printed otherwise. After a fault
-/// the log is dropped, and nothing is said of it.
+/// A file that is no jobs file is refused before anything is run. The faults:
+///
+/// - NotToml, Header, Job: the file is no jobs file.
+/// - Memory: a request for memory or for a thread was refused in the run.
+/// - Log: the log failed, or can't begin a run.
+/// - Work: over a log that could begin it, the workers stood still or don't agree.
+/// - Output: a write failed. What was written before it is left, and is a beginning of what is
+///   printed otherwise; after the other faults nothing is written.
+///
+/// After a fault the log is dropped, and nothing is said of it.
 pub fn run_job_file<R: Threads + Wait + Clock + Sync, L: DecisionLog + Drop, W: Write>(
     rt: &R,
     alloc: Global,
@@ -117,7 +124,8 @@ pub fn run_job_file<R: Threads + Wait + Clock + Sync, L: DecisionLog + Drop, W: 
     ensures fault { IfErr result (λ e. SaysOfReading e (jobs_of text.now)) }
     ensures refused { (e : RunFault) → jobs_of text.now ≡ Err e →
         IsErrAnd result (λ found. (found ≡ e) ⊎ (found ≡ Memory)) }
-    // A log over which no run can begin is told as Log, unless the file is refused or can't be read for want of memory.
+    // A log over which no run can begin is told as Log, unless the file is refused or can't be read
+    // for want of memory.
     ensures can_begin { OnOk result (CanBegin L.DecisionLog log) }
     ensures work { result ≡ Err Work → CanBegin L.DecisionLog log }
     // A file that is no jobs file writes nothing.

@@ -1,5 +1,5 @@
--- How a flow over a ring steps. In the last two, r and k are what came out and what waits, s is what went in, and
--- n is how much had come out when the flow began.
+-- How a flow over a ring steps. In the last two, r and k are what came out and what waits, s is
+-- what went in, and n is how much had come out when the flow began.
 use Rattle.std.proofs.Common.{◌≡◌, ◌≤◌, ℕ, List, [], ◌∷◌, ◌++◌, length, drop, append_assoc}
 use Rattle.std.proofs.lemmas.List.{append_cancel_left, drop-append-le}
 use Rattle.xa_line.specs.Traffic.{Flow, all_of, with_one_more, PassesOn}

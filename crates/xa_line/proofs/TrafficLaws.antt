@@ -1,4 +1,5 @@
--- What waits on a line is what waits in a history where the two stand alike, and how a line goes on to stand so.
+-- What waits on a line is what waits in a history if the two stand alike, and how a line goes on to
+-- stand so.
 use Rattle.std.proofs.Common.{◌≡◌, refl, sym, ap, ◌∙◌, arith, ℕ, List, [], ◌∷◌, ◌++◌, length, length-append, map, true, false, Option, Some}
 use Rattle.std.proofs.lemmas.List.{map-append, length-map}
 use Rattle.std.proofs.lemmas.Option.{slice_get-map}
@@ -23,14 +24,14 @@ module _ {A B : Type 0} (f : A → Option B) where
   pub same_length : (xs : List A) (us : List B) → map f xs ≡ map Some us → length xs ≡ length us
   same_length xs us e = sym (length-map xs f) ∙ ap length e ∙ length-map us Some
 
-  -- the first of ys, behind xs
+  -- the first of ys, after xs
   seen_behind : (xs ys : List A) (us : List B) (n : ℕ) → map f (xs ++ ys) ≡ map Some us → n ≡ length xs
       → option_map f (slice_get ys 0) ≡ option_map Some (slice_get us n)
   seen_behind xs ys us n e len =
       ap (option_map f) (sym (get_behind xs ys)) ∙ sym (slice_get-map f (xs ++ ys) (length xs))
       ∙ ap (slice_get (map f (xs ++ ys))) (sym len) ∙ ap (λ zs. slice_get zs n) e ∙ slice_get-map Some us n
 
-  -- one list behind another
+  -- one list after another
   seen_more : (xs ys : List A) (us vs : List B) → map f xs ≡ map Some us → map f ys ≡ map Some vs → map f (xs ++ ys) ≡ map Some (us ++ vs)
   seen_more xs ys us vs e d = map-append f xs ys ∙ ap (λ zs. zs ++ map f ys) e ∙ ap (λ zs. map Some us ++ zs) d ∙ sym (map-append Some us vs)
 

@@ -35,22 +35,24 @@ AreAnsweredAs pairs in_history = map known_answered pairs ≡ map Some in_histor
 abbrev pub GrowsBy : {A B : Type 0} → (A → Option B) → (old new : List A) → List B → Type 0
 GrowsBy {A} name old new in_history = (items : List A) × (new ≡ old ++ items) × (map name items ≡ map Some in_history)
 
--- the calls, the answers and the answers heard of a line grow by what a happening adds to them, and each call taken is answered
+-- the calls, the answers and the answers heard of a line grow by what a happening adds to them, and
+-- each call taken is answered
 pub record HasGrown (tr : Trace) (e : Happening) (l : Line) (old new : Traffic) : Type 0 where
   pub calls : GrowsBy known (calls_issued old) (calls_issued new) (facts.new_calls tr e l)
   pub answers : GrowsBy known_answered (answered old) (answered new) (facts.new_taken e l)
   pub hearings : GrowsBy known_answered (answers_heard old) (answers_heard new) (facts.new_heard e l)
   pub each_answered : calls_taken new ≡ map (λ p. p.0) (answered new)
 
--- the traffic of a line is what a history says of it since it last broke, and each call that was taken was answered
+-- the traffic of a line is what a history says of it since it last broke, and each call that was
+-- taken was answered
 pub record LineStands (tr : Trace) (l : Line) (t : Traffic) : Type 0 where
   pub all_issued : AreKnownAs (calls_issued t) (facts.issued tr l)
   pub all_answered : AreAnsweredAs (answered t) (facts.taken tr l)
   pub all_heard : AreAnsweredAs (answers_heard t) (facts.heard tr l)
   pub each_answered : calls_taken t ≡ map (λ p. p.0) (answered t)
 
--- What the table of refusals sees of lines. Each resource manager is up, since the lines don't know better; and a recovery and a branch are
--- nothing to them.
+-- What the table of refusals sees of lines. Each resource manager is up, since the lines don't know
+-- better; and a recovery and a branch are nothing to them.
 abbrev pub lines_in : Grid → LineView
 lines_in g = record {
   rm_up = λ r. true;

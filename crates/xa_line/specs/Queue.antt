@@ -1,5 +1,5 @@
--- What the two ends of a queue show. An end remembers itself as it was when the queue was new or renewed, and what
--- a ring says counts from there.
+-- What the two ends of a queue show. An end remembers itself as it was when the queue was new or
+-- renewed, and what a ring says counts from there.
 use Rattle.std.specs.Prelude.{◌≡◌, ℕ, ◌<◌, List, ◌++◌, length, drop}
 use Rattle.rtrb.specs.Ring.{sent, known_free, producer_capacity, received, known_items, IsPair, SameProducer, SameConsumer}
 use Rattle.xa_line.specs.Traffic.{places}
@@ -41,7 +41,7 @@ module _ {T : Type 0} where
     pub ends : AreEnds e x
     pub all_seen : received x.consumer ++ seen x ≡ sent e.producer
 
-  -- and a free place was seen, where there is one
+  -- and a free place was seen, if there is one
   pub record IsReady (e : Inlet T) (x : Outlet T) : Type 0 where
     pub sees : SeesAll e x
     pub room : length (seen x) < places → 0 < free e

@@ -1,5 +1,5 @@
--- The traffic of a line since it was new or renewed: the calls to the resource manager, and the answers back.
--- Which calls a line takes is the model's rule, over what the line itself has seen.
+-- The traffic of a line since it was new or renewed: the calls to the resource manager, and the
+-- answers back. Which calls a line takes is the model's rule, over what the line itself has seen.
 use Rattle.xa_base.specs.declared.limits.TheConstants.{LINE_LIMIT}
 use Rattle.std.specs.Prelude.{ℕ, ◌+◌, Bool, not, Option, Some, None, List, [], ◌∷◌, ◌++◌, length, nat_le, nat_lt, ◌≡◌, if◌then◌else◌}
 use Rattle.std.specs.Option.{option_or}

@@ -6,7 +6,8 @@ use crate::outlet::Outlet;
 use rtrb::Producer;
 use std::snapshot::Snapshot;
 
-/// The end of a queue that items go into. `start` remembers it as it was when the queue was new or renewed.
+/// The end of a queue that items go into. `start` remembers it as it was when the queue was new or
+/// renewed.
 #[derive(Drop)]
 pub struct Inlet<T> {
     pub(crate) producer: Producer<T>,
@@ -21,7 +22,7 @@ impl<T> Inlet<T> {
     ghost use Rattle.xa_line.specs.Queue.{AreEnds, IsReady, SameInlet, SameOutlet, SeesAll, free, pushed, seen};
     ghost use Rattle.xa_line.specs.Traffic.{places};
 
-    /// Puts an item in, or gives it back where no free place was seen.
+    /// Puts an item in, or gives it back if no free place was seen.
     #[inline]
     pub fn push(&mut self, item: T) -> Result<(), T>
         ensures same { SameInlet self.old self.new }
@@ -38,7 +39,7 @@ impl<T> Inlet<T> {
         Ok(())
     }
 
-    /// Whether no free place was seen, after a look at the other end where none was known.
+    /// Whether no free place was seen, after a look at the other end if none was known.
     pub fn is_full(&mut self) -> bool
         ensures same { SameInlet self.old self.new }
         ensures pushed { pushed self.new ≡ pushed self.old }
@@ -48,7 +49,7 @@ impl<T> Inlet<T> {
         self.producer.is_full()
     }
 
-    /// Puts an item in, where a free place was seen.
+    /// Puts an item in, if a free place was seen.
     #[inline]
     pub fn put(&mut self, item: T)
         requires { 0 < free self.old }
@@ -76,7 +77,7 @@ impl<T> Inlet<T> {
         consumer.slots_beside(producer);
     }
 
-    /// Sees a free place where there is one. That takes both ends in one thread.
+    /// Sees a free place if there is one. That takes both ends in one thread.
     pub fn find_room(&mut self, outlet: &mut Outlet<T>)
         requires { SeesAll self.old outlet.old }
         ensures inlet { SameInlet self.old self.new ×

@@ -7,8 +7,8 @@ use crate::latch::Latch;
 use crate::outlet::Outlet;
 use xa_base::{Answer, Call, Refusal};
 
-/// The end of a line that the thread of control has, in a thread of its own: it issues calls and hears their
-/// answers. No call waits for the other end, locks or takes memory.
+/// The end of a line that the thread of control has, in a thread of its own: it issues calls and
+/// hears their answers. No call waits for the other end, locks or takes memory.
 #[derive(Drop)]
 pub struct Issuer {
     pub(crate) calls: Inlet<Call>,
@@ -25,9 +25,9 @@ impl Issuer {
     ghost use Rattle.xa_line.specs.Ends.{SameIssuer, free_calls_of, heard_by, issued_by, seen_answers_of};
     ghost use Rattle.xa_line.specs.Traffic.{barred};
 
-    /// Lets a call wait, or says why it is refused, as [`Line::issue`](crate::Line::issue) does. Here `Full` says
-    /// that no free place was seen: the other end may have taken a call meanwhile, so the same call may be
-    /// accepted later.
+    /// Lets a call wait, or says why it is refused, as [`Line::issue`](crate::Line::issue) does.
+    /// Here `Full` says that no free place was seen: the other end may have taken a call meanwhile,
+    /// so the same call may be accepted later.
     #[inline(always)]
     pub fn issue(&mut self, call: Call) -> Result<(), Refusal>
         ensures same { SameIssuer self.old self.new }
@@ -43,7 +43,7 @@ impl Issuer {
         // The answers stay as they are.
         ensures heard { heard_by self.new ≡ heard_by self.old }
         ensures seen { seen_answers_of self.new ≡ seen_answers_of self.old }
-        // Where a place was seen, the call is accepted.
+        // If a place was seen, the call is accepted.
         ensures succeeds { barred (issued_by self.old) call ≡ None →
             0 < free_calls_of self.old → IsOk result }
     {
@@ -56,7 +56,8 @@ impl Issuer {
         Ok(())
     }
 
-    /// Hears the oldest waiting answer, with its call. None says that no answer was seen: one may come later.
+    /// Hears the oldest waiting answer, with its call. None says that no answer was seen: one may
+    /// come later.
     #[inline]
     pub fn hear(&mut self) -> Option<(Call, Answer)>
         ensures same { SameIssuer self.old self.new }
@@ -69,7 +70,7 @@ impl Issuer {
         // The calls stay as they are.
         ensures issued { issued_by self.new ≡ issued_by self.old }
         ensures free { free_calls_of self.new ≡ free_calls_of self.old }
-        // Where an answer was seen, one is heard.
+        // If an answer was seen, one is heard.
         ensures succeeds { 0 < length (seen_answers_of self.old) → IsSome result }
     {
         let answers = &mut self.answers.consumer;

@@ -14,10 +14,10 @@ ghost use Rattle.xa_base.specs.declared.step.Step.TheVariants.{Issue};
 ghost use Rattle.xa_line.specs.Histories.{AreKnownAs, HasGrown, LineStands, known, known_answered};
 ghost use Rattle.xa_line.specs.Traffic.{Traffic, calls_issued, is_full, no_traffic};
 
-/// A line refuses a call exactly where a history does:
+/// A line refuses a call exactly if a history does:
 ///
-/// - `not_open`, `on_closed`: if the calls issued on the line are those of the history, both refuse a call as not open,
-///   or as closed, alike;
+/// - `not_open`, `on_closed`: if the calls issued on the line are those of the history, both refuse
+///   a call as not open, or as closed, alike;
 /// - `full`: if as many calls wait, both are full alike.
 pub fn lines_as_in_histories()
     ensures not_open { (tr : Trace) (t r : ℕ) (c : Call Xid) (l : Traffic) →
@@ -31,15 +31,18 @@ pub fn lines_as_in_histories()
         is_full l ≡ applies tr (step_of (Issue t r c)) Full }
 {}
 
-/// What waits on a line is what waits in a history, as long as the two stand alike (`LineStands`): they have the same
-/// calls issued, the same answers and the same answers heard, and each call that was taken was answered:
+/// What waits on a line is what waits in a history, as long as the two stand alike (`LineStands`):
+/// they have the same calls issued, the same answers and the same answers heard, and each call that
+/// was taken was answered:
 ///
-/// - `front`, `front_answer`: the call that `Line::front` shows is the history's next one, and the answer that
-///   `Line::front_answer` shows is its next answer, with its call; if one has none, so has the other;
+/// - `front`, `front_answer`: the call that `Line::front` shows is the history's next one, and the
+///   answer that `Line::front_answer` shows is its next answer, with its call; if one has none, so
+///   has the other;
 /// - `calls`, `answers`: as many wait;
-/// - `new`, `renewed`: a new line stands as at the start of a history, and as after each happening that breaks it;
-/// - `goes_on`: a line that isn't broken still stands so after a happening, if the line's calls, answers and answers
-///   heard grow by what the happening adds to them (`HasGrown`).
+/// - `new`, `renewed`: a new line stands as at the start of a history, and as after each happening
+///   that breaks it;
+/// - `goes_on`: a line that isn't broken still stands so after a happening, if the line's calls,
+///   answers and answers heard grow by what the happening adds to them (`HasGrown`).
 pub fn traffic_as_in_histories()
     // What waits, while the two stand alike.
     ensures front { (tr : Trace) (l : Line) (t : Traffic) → LineStands tr l t →

@@ -7,8 +7,8 @@ use std::alloc::Global;
 use std::marker::Model;
 use xa_base::{Answer, Call, LINE_LIMIT, Memory, Refusal};
 
-/// The line of one thread of control to one resource manager: at most 64 calls that wait, and at most 64 answers.
-/// Calls come out in the order in which they went in, and so do answers.
+/// The line of one thread of control to one resource manager: at most 64 calls that wait, and at
+/// most 64 answers. Calls come out in the order in which they went in, and so do answers.
 ///
 /// All the memory that it needs is taken by [`Line::new`].
 #[derive(Drop)]
@@ -53,12 +53,14 @@ impl Line {
         })
     }
 
-    /// Lets a call wait. An accepted xa_open opens the line, and is accepted again; an accepted xa_close ends it (XA,
-    /// section 3.2, Opening and Closing Resource Managers).
+    /// Lets a call wait. An accepted xa_open opens the line, and is accepted again; an accepted
+    /// xa_close ends it (XA, section 3.2, Opening and Closing Resource Managers).
     ///
-    /// Of the reasons to refuse a call the first that applies is answered, and nothing changes then:
+    /// Of the reasons to refuse a call the first that applies is answered, and nothing changes
+    /// then:
     ///
-    /// - [`Refusal::NotOpen`]: no xa_open was issued since the line was new or renewed, and the call isn't one;
+    /// - [`Refusal::NotOpen`]: no xa_open was issued since the line was new or renewed, and the
+    ///   call isn't one;
     /// - [`Refusal::Closed`]: xa_close was issued;
     /// - [`Refusal::Full`]: 64 calls wait.
     #[inline(always)]
@@ -78,8 +80,8 @@ impl Line {
         Ok(())
     }
 
-    /// Says why a call may not follow those that were issued, however few of them wait: the first reason that applies,
-    /// as [`Line::issue`] does.
+    /// Says why a call may not follow those that were issued, however few of them wait: the first
+    /// reason that applies, as [`Line::issue`] does.
     pub fn check(&self, call: &Call) -> Result<(), Refusal>
         ensures { result_err result ≡ barred (calls_issued self.now) call.now }
     {
@@ -121,7 +123,7 @@ impl Line {
         }
     }
 
-    /// Takes the oldest waiting call; None where none waits.
+    /// Takes the oldest waiting call; None if none waits.
     #[inline]
     pub fn take(&mut self) -> Option<Call>
         ensures some { IfSome result (λ call. PassesOn self.old.calls call self.new.calls) }
@@ -133,7 +135,7 @@ impl Line {
         self.calls.pop()
     }
 
-    /// Lets an answer wait with its call, or gives both back where 64 answers wait.
+    /// Lets an answer wait with its call, or gives both back if 64 answers wait.
     #[inline]
     pub fn answer(&mut self, call: Call, answer: Answer) -> Result<(), (Call, Answer)>
         ensures full { IsErr result ↔ (length self.old.answers.waiting ≡ places) }
@@ -151,7 +153,7 @@ impl Line {
         Ok(())
     }
 
-    /// Hears the oldest waiting answer, with its call; None where none waits.
+    /// Hears the oldest waiting answer, with its call; None if none waits.
     #[inline]
     pub fn hear(&mut self) -> Option<(Call, Answer)>
         ensures some { IfSome result (λ pair. PassesOn self.old.answers pair self.new.answers) }
@@ -163,7 +165,8 @@ impl Line {
         self.answers.pop()
     }
 
-    /// Makes the line as new: not open, with nothing that waits. The calls and answers that wait are lost.
+    /// Makes the line as new: not open, with nothing that waits. The calls and answers that wait
+    /// are lost.
     pub fn renew(&mut self)
         ensures { self.new ≡ no_traffic }
     {
@@ -207,7 +210,8 @@ impl Line {
         LINE_LIMIT - self.calls.len()
     }
 
-    /// Whether this many calls more are too many to wait: with those that wait they would be over 64.
+    /// Whether this many calls more are too many to wait: with those that wait they would be over
+    /// 64.
     pub fn is_full_for(&self, count: usize) -> bool
         ensures { result ≡ nat_lt places (length self.now.calls.waiting + count) }
     {
@@ -254,9 +258,11 @@ impl Line {
         (issuer, taker)
     }
 
-    /// Puts the two ends of a line together again, in one thread. What waits between them stays in the line.
+    /// Puts the two ends of a line together again, in one thread. What waits between them stays in
+    /// the line.
     ///
-    /// That they are the ends of one line has to be proved: rings can't be asked at run time whose ends they are.
+    /// That they are the ends of one line has to be proved: rings can't be asked at run time whose
+    /// ends they are.
     pub fn meet(issuer: Issuer, taker: Taker) -> Line
         requires { AreEndsOfOne issuer taker }
         ensures issued { calls_issued result ≡ issued_by issuer }

@@ -30,8 +30,8 @@ impl Lines {
     ghost use Rattle.xa_line.specs.Grid.{HasLine, IsWhole, RenewsRm, grid_has_line, line_at, new_grid, place};
     ghost use Rattle.xa_line.specs.Lending.{LendsLine};
 
-    /// The lines of so many threads to so many resource managers, all of them new. Takes all the memory that they
-    /// ever need.
+    /// The lines of so many threads to so many resource managers, all of them new. Takes all the
+    /// memory that they ever need.
     pub fn new(alloc: Global, threads: u32, rms: u32) -> Result<Lines, Memory>
         ensures { IfOk result (λ lines. lines ≡ new_grid threads rms) }
     {

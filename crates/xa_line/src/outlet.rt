@@ -6,7 +6,8 @@ use crate::inlet::Inlet;
 use rtrb::Consumer;
 use std::snapshot::Snapshot;
 
-/// The end of a queue that items come out of. `start` remembers it as it was when the queue was new or renewed.
+/// The end of a queue that items come out of. `start` remembers it as it was when the queue was new
+/// or renewed.
 #[derive(Drop)]
 pub struct Outlet<T> {
     pub(crate) consumer: Consumer<T>,

@@ -8,8 +8,8 @@ use std::marker::Model;
 use std::snapshot::Snapshot;
 use xa_base::{LINE_LIMIT, Memory};
 
-/// A queue of at most 64 items. One thread holds both ends, the outlet has seen all that went in, and the inlet a free
-/// place, where there is one.
+/// A queue of at most 64 items. One thread holds both ends, the outlet has seen all that went in,
+/// and the inlet a free place, if there is one.
 #[derive(Drop)]
 pub struct Queue<T> {
     inlet: Inlet<T>,
@@ -71,8 +71,8 @@ impl<T: Drop> Queue<T> {
         Some(self.outlet.consumer.peek_known())
     }
 
-    /// Lets an item wait, last. Both ends then look at each other, here and in `pop`, so that a look at the queue needs no
-    /// `&mut`.
+    /// Lets an item wait, last. Both ends then look at each other, here and in `pop`, so that a
+    /// look at the queue needs no `&mut`.
     #[inline]
     pub fn push(&mut self, item: T)
         requires { length self.old.waiting < places }

@@ -4,8 +4,8 @@ use crate::inlet::Inlet;
 use crate::outlet::Outlet;
 use xa_base::{Answer, Call};
 
-/// The end of a line that the resource manager has, in a thread of its own: it takes calls and answers them. No
-/// call waits for the other end, locks or takes memory.
+/// The end of a line that the resource manager has, in a thread of its own: it takes calls and
+/// answers them. No call waits for the other end, locks or takes memory.
 #[derive(Drop)]
 pub struct Taker {
     pub(crate) calls: Outlet<Call>,
@@ -31,7 +31,7 @@ impl Taker {
         // The answers stay as they are.
         ensures answered { answered_by self.new ≡ answered_by self.old }
         ensures free { free_answers_of self.new ≡ free_answers_of self.old }
-        // Where a call was seen, one is taken.
+        // If a call was seen, one is taken.
         ensures succeeds { 0 < length (seen_calls_of self.old) → IsSome result }
     {
         let calls = &mut self.calls.consumer;
@@ -41,8 +41,8 @@ impl Taker {
         Some(calls.pop_known())
     }
 
-    /// Lets an answer wait, or gives it back with its call where no free place was seen. The same answer may be
-    /// accepted later.
+    /// Lets an answer wait, or gives it back with its call if no free place was seen. The same
+    /// answer may be accepted later.
     #[inline]
     pub fn answer(&mut self, call: Call, answer: Answer) -> Result<(), (Call, Answer)>
         ensures same { SameTaker self.old self.new }
@@ -56,7 +56,7 @@ impl Taker {
         // The calls stay as they are.
         ensures taken { taken_by self.new ≡ taken_by self.old }
         ensures seen { seen_calls_of self.new ≡ seen_calls_of self.old }
-        // Where a place was seen, the answer is accepted.
+        // If a place was seen, the answer is accepted.
         ensures succeeds { 0 < free_answers_of self.old → IsOk result }
     {
         self.answers.push((call, answer))

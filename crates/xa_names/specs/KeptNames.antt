@@ -2,11 +2,12 @@
 use Rattle.std.specs.Borrow.{Bor}
 use Rattle.std.specs.Prelude.{◌≡◌, ◌≢◌, ℕ, Bool, nat_lt, List, length, slice_get, Some}
 
--- the name of a manager, which is empty where it has none, and behind it those of its resource managers, from number 0
+-- the name of a manager, which is empty if it has none, and after it those of its resource
+-- managers, from number 0
 abbrev pub Names : Type 0
 Names = List (Bor (List ℕ))
 
--- where both have a name, it is the same
+-- if both have a name, it is the same
 abbrev pub AgreeInNames : Names → Names → Type 0
 AgreeInNames kept given = (i : ℕ) (a b : Bor (List ℕ)) → slice_get kept i ≡ Some a → slice_get given i ≡ Some b → a.now ≡ b.now
 

@@ -40,12 +40,14 @@ is_bare x = is_bare_of x.format x.gtrid x.bqual
 abbrev pub has_name : List ℕ → Xid → Bool
 has_name name x = starts_with nat_eq x.gtrid name && is_bare (without_name name x)
 
--- The identifier that stands for this one at a manager of this name. Identifiers that a manager without a name gives out, and those that
--- one of this name gives out, stand for each other; any other stands for itself.
+-- The identifier that stands for this one at a manager of this name. Identifiers that a manager
+-- without a name gives out, and those that one of this name gives out, stand for each other; any
+-- other stands for itself.
 abbrev pub renamed : List ℕ → Xid → Xid
 renamed name x = if is_bare x then with_name name x else if has_name name x then without_name name x else x
 
--- it has the shape of those that a manager of this name gives out: the name stands in front of one that a manager without a name would
+-- it has the shape of those that a manager of this name gives out: the name stands in front of one
+-- that a manager without a name would
 pub record IsUnder (name : List ℕ) (x : Xid) : Type 0 where
   pub bare : Xid
   pub shape : is_bare bare ≡ true

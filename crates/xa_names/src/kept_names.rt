@@ -1,5 +1,6 @@
-//! The names that a log keeps, beside those that it is opened with: each list begins with the manager's, which is empty where
-//! it has none, and goes on with those of its resource managers, from number 0.
+//! The names that a log keeps, beside those that it is opened with: each list begins with the
+//! manager's, which is empty if it has none, and goes on with those of its resource managers, from
+//! number 0.
 
 ghost use Rattle.std.specs.Prelude.{◌≡◌, ◌+◌, ◌≢◌, ℕ, Err, IfNone, IfSome, OnOk, false, true};
 ghost use Rattle.xa_names.specs.KeptNames.{AgreeInNames, DifferAt, has_rms};
@@ -31,8 +32,9 @@ fn first_difference(kept: &[&str], given: &[&str]) -> Option<usize>
     None
 }
 
-/// Refuses a log that keeps other names than those given. One of the two lists may go on where the other has ended: resource
-/// managers may be left out at the end, and added there; but a log of which either has none at all is refused.
+/// Refuses a log that keeps other names than those given. One of the two lists may go on where the
+/// other has ended: resource managers may be left out at the end, and added there; but a log of
+/// which either has none at all is refused.
 pub fn check_names(kept: &[&str], given: &[&str]) -> Result<(), NameFault>
     ensures agree { OnOk result (AgreeInNames kept.now given.now) }
     ensures both { OnOk result (has_rms kept.now ≡ has_rms given.now) }

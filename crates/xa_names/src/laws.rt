@@ -24,7 +24,8 @@ pub fn names_part_identifiers()
     ensures foreign { OthersAreForeign }
 {}
 
-/// Without a name each identifier stands for itself (`xids`), and each line is meant as it is (`lines`).
+/// Without a name each identifier stands for itself (`xids`), and each line is meant as it is
+/// (`lines`).
 pub fn without_a_name_nothing_changes()
     ensures xids { StaysWithoutName }
     ensures lines { LinesStay }
@@ -32,8 +33,8 @@ pub fn without_a_name_nothing_changes()
     words_have_one_spelling();
 }
 
-/// What a coordinator of a name writes of a call on a branch, where it was issued or waits, is the call on the identifier that
-/// stands for the branch's own.
+/// What a coordinator of a name writes of a call on a branch, where it was issued or waits, is the
+/// call on the identifier that stands for the branch's own.
 pub fn calls_are_written_renamed()
     ensures { WrittenCalls }
 {

@@ -1,8 +1,9 @@
-//! The name of a manager, in the identifiers of its branches: several managers may share databases, each with a log of its
-//! own, if their names differ. The functions of [`laws`] do nothing: their contracts are theorems.
+//! The name of a manager, in the identifiers of its branches: several managers may share databases,
+//! each with a log of its own, if their names differ. The functions of [`laws`] do nothing: their
+//! contracts are theorems.
 //!
-//! "XA" in these pages is X/Open CAE Specification C193, "Distributed Transaction Processing: The XA Specification"
-//! (1991).
+//! "XA" in these pages is X/Open CAE Specification C193, "Distributed Transaction Processing: The
+//! XA Specification" (1991).
 #![tactic(auto)]
 
 mod kept_names;

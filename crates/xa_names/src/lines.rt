@@ -26,7 +26,7 @@ fn xid_named(word: &str) -> Option<Xid>
     Xid::parse(word).ok()
 }
 
-/// A word; where it spells an identifier, that of the one that stands for it.
+/// A word; if it spells an identifier, that of the one that stands for it.
 fn word_renamed(alloc: Global, name: &ManagerName, word: &str) -> Result<String, Memory>
     ensures { IfOk result (λ text. string_bytes text ≡ word_renamed name.now word.now) }
 {
@@ -49,8 +49,8 @@ fn words_renamed(alloc: Global, name: &ManagerName, words: &[&str]) -> Result<Ve
     Ok(texts)
 }
 
-/// A line, without its line feed, as a manager of this name means it: each word that spells an identifier is that of the
-/// one that stands for it.
+/// A line, without its line feed, as a manager of this name means it: each word that spells an
+/// identifier is that of the one that stands for it.
 pub fn line_renamed(alloc: Global, name: &ManagerName, line: &str) -> Result<String, Memory>
     ensures { IfOk result (λ text. string_bytes text ≡ line_renamed name.now line.now) }
 {

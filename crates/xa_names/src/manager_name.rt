@@ -12,12 +12,14 @@ use xa_base::{OWN_FORMAT, Xid};
 /// The most bytes that a name has.
 pub(crate) const NAME_LEN: usize = 16;
 
-/// The bytes of a transaction in an identifier of this manager, and those of a thread and a resource manager.
+/// The bytes of a transaction in an identifier of this manager, and those of a thread and a
+/// resource manager.
 const OWN_GTRID_LEN: usize = 16;
 
 const OWN_BQUAL_LEN: usize = 8;
 
-/// The name of a manager: 1 to 16 letters, digits, `_` and `-`. A manager may have none, and its name is then empty.
+/// The name of a manager: 1 to 16 letters, digits, `_` and `-`. A manager may have none, and its
+/// name is then empty.
 ///
 /// The identifiers of its branches have the name's bytes in front of those of the transaction.
 #[derive(PartialEq, Eq, Drop)]
@@ -76,7 +78,8 @@ impl ManagerName {
         Some(ManagerName { bytes })
     }
 
-    /// Whether a text, however long, has only what may stand in a name: letters, digits, `_` and `-`.
+    /// Whether a text, however long, has only what may stand in a name: letters, digits, `_` and
+    /// `-`.
     pub fn has_letters(text: &str) -> bool
         ensures { result ≡ list_all is_manager_name_byte text.now }
     {
@@ -102,9 +105,10 @@ impl ManagerName {
         Xid::new(xid.format(), gtrid.as_slice(), xid.bqual()).unwrap()
     }
 
-    /// The identifier that stands for this one at a manager of this name: what a manager without a name would call its
-    /// branch, has the name in front; what has the name in front is what a manager without one would call its branch; and
-    /// any other identifier stands for itself. No memory is taken.
+    /// The identifier that stands for this one at a manager of this name: what a manager without a
+    /// name would call its branch, has the name in front; what has the name in front is what a
+    /// manager without one would call its branch; and any other identifier stands for itself. No
+    /// memory is taken.
     pub fn renamed(&self, xid: &Xid) -> Xid
         ensures { result ≡ renamed self.now xid.now }
     {

@@ -1,4 +1,5 @@
--- What words name, in turn: what was named so far, together with what is named by the words that are left.
+-- What words name, in turn: what was named so far, together with what is named by the words that
+-- are left.
 use Rattle.std.proofs.Common.{◌≡◌, ◌∙◌, ℕ, ◌+◌, ◌<◌, ◌≤◌, List, [], ◌∷◌, ◌++◌, map, length, get_or, drop, Option, Some, None, option_map, refl, sym, ap, append_assoc, append-nil, drop_of_length-le, drop-cons, add-one}
 use Rattle.std.specs.Borrow.{Bor}
 use Rattle.std.specs.Prelude.{option_and_then}

@@ -68,7 +68,7 @@ pub last_word : (word : List ℕ) → NoSpace word → words_of word ≡ word �
 unfolding words_of
 last_word word h = slice_split_none (λ c. c == 32) word h
 
--- a text behind a space, and with another behind it
+-- a text after a space, and with another after it
 pub two_words : (name t : List ℕ) → NoSpace name → NoSpace t → words_of (name ++ codes " " ++ t ++ []) ≡ name ∷ t ∷ []
 two_words name t hn ht =
     let pieces : name ++ codes " " ++ t ++ [] ≡ name ++ (32 ∷ t) = append-nil (name ++ codes " " ++ t) ∙ append_assoc name (codes " ") t in

@@ -43,7 +43,7 @@ recover_answer (number ∷ words) = elim (index_of number) [
   | None ↦ bare_answer kinds.Recover (number ∷ words)
 ]
 
--- the answer to a call of a kind, by the words behind its name
+-- the answer to a call of a kind, by the words after its name
 abbrev pub answer_behind : CallKind → (thread rm : ℕ) → List Word → Option Answered
 answer_behind kinds.OpenRm thread rm words = bare_answer kinds.OpenRm words
 answer_behind kinds.CloseRm thread rm words = bare_answer kinds.CloseRm words

@@ -47,7 +47,7 @@ recover_call (number ∷ words) = do
   flags ← flags_in words
   call_with kinds.Recover None flags (Some count)
 
--- the call of a kind, by the words behind its name
+-- the call of a kind, by the words after its name
 abbrev pub call_behind : CallKind → (thread rm : ℕ) → List Word → Option (Call Xid)
 call_behind kinds.OpenRm thread rm words = bare_call kinds.OpenRm words
 call_behind kinds.CloseRm thread rm words = bare_call kinds.CloseRm words

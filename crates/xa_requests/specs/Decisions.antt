@@ -19,7 +19,8 @@ abbrev pub some_gtrids : List Word → Option (List Gtrid)
 some_gtrids [] = None
 some_gtrids (g ∷ words) = gtrids_named (g ∷ words)
 
--- decide G [G ..] commit, decide G [G ..] rollback: the last word says how the transactions that the others name end
+-- decide G [G ..] commit, decide G [G ..] rollback: the last word says how the transactions that
+-- the others name end
 unfoldable pub decide_request : List Word → Option Request
 decide_request words = do
   gtrids ← some_gtrids (take (length words - 1) words)

@@ -19,6 +19,7 @@ HasXids (requests.Issue thread rm call) = IfSome (xid_in call) IsXid
 HasXids (requests.Answer thread rm name answer) = IfSome name.xid IsXid × ListsXids answer
 HasXids request = Unit
 
--- Each identifier in what a line asks for is one: its parts have the lengths and the numbers that XA allows.
+-- Each identifier in what a line asks for is one: its parts have the lengths and the numbers that
+-- XA allows.
 abbrev pub RequestsHaveXids : Type 0
 RequestsHaveXids = (line : List ℕ) (request : Request) → request_of line ≡ Some request → HasXids request

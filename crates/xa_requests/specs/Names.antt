@@ -19,7 +19,8 @@ gtrid_of_bytes bytes = option_map (λ pair. let g : Gtrid = record { incarnation
 unfoldable pub gtrid_named : Word → Option Gtrid
 gtrid_named word = if length word == 32 && is_hex word then gtrid_of_bytes (bytes_of word) else None
 
--- an identifier of these texts: its format in decimal, and the bytes of each part in lower case hexadecimal
+-- an identifier of these texts: its format in decimal, and the bytes of each part in lower case
+-- hexadecimal
 unfoldable pub xid_of_texts : List (List ℕ) → Option Xid
 xid_of_texts (format ∷ gtrid ∷ bqual ∷ []) = do
   number ← signed_of (2 ^ 31) format
@@ -30,14 +31,15 @@ xid_of_texts _ = None
 unfoldable pub xid_named : Word → Option Xid
 xid_named word = xid_of_texts (slice_split (λ c. c == 58) word)
 
--- a branch by its identifier, or by its transaction: then it is that of the line's thread at its resource manager
+-- a branch by its identifier, or by its transaction: then it is that of the line's thread at its
+-- resource manager
 unfoldable pub branch_named : (thread rm : ℕ) → Word → Option Xid
 branch_named thread rm word = elim (gtrid_named word) [
   | Some gtrid ↦ Some (xid_of_branch (record { gtrid = gtrid; thread = thread; rm = rm }))
   | None ↦ xid_named word
 ]
 
--- what each word names, where each names something
+-- what each word names, if each names something
 unfoldable pub each_named : {A : Type 0} → (Word → Option A) → List Word → Option (List A)
 each_named named [] = Some []
 each_named named (word ∷ words) = do

@@ -13,7 +13,7 @@ use Rattle.xa_requests.specs.declared.request.Request.TheVariants as requests
 abbrev pub issue_line : (thread rm : ℕ) → Call Xid → List ℕ
 issue_line thread rm call = codes "issue " ++ decimal thread ++ codes " " ++ decimal rm ++ codes " " ++ call_text call
 
--- A call that is written behind `issue` is read as that call.
+-- A call that is written after `issue` is read as that call.
 abbrev pub CallsAreReadBack : Type 0
 CallsAreReadBack = (thread rm : ℕ) (call : Call Xid) → thread < 2 ^ 32 → rm < 2 ^ 32
     → IfSome (xid_in call) IsXid → IfSome (count_in call) (FitsSigned w64)

@@ -12,7 +12,7 @@ use Rattle.xa_requests.specs.declared.request.Request.TheVariants as requests
 use Rattle.xa_requests.specs.declared.verbs.Verb.{Verb}
 use Rattle.xa_requests.specs.declared.verbs.Verb.TheVariants as verbs
 
--- a request of a kind, by the words behind the first
+-- a request of a kind, by the words after the first
 abbrev pub request_with : Verb → List Word → Option Request
 request_with verbs.Begin words = begin_request words
 request_with verbs.Issue words = issue_request words
@@ -35,6 +35,6 @@ unfoldable pub request_in : List Word → Option Request
 request_in [] = None
 request_in (word ∷ words) = verb_named word >>= λ verb. request_with verb words
 
--- what a line asks for; none, where it is no request
+-- what a line asks for; none, if it is no request
 abbrev pub request_of : List ℕ → Option Request
 request_of line = request_in (words_of line)

@@ -72,7 +72,7 @@ fn recover_answer(alloc: Global, words: &[&str]) -> Result<Option<(CallName, Ans
     }
 }
 
-/// The answer to a call of a kind, by the words behind its name.
+/// The answer to a call of a kind, by the words after its name.
 fn answer_behind(
     alloc: Global,
     kind: CallKind,

@@ -65,7 +65,7 @@ fn recover_call(words: &[&str]) -> Option<Call>
     Call::of(CallKind::Recover, None, flags, Some(count)).ok()
 }
 
-/// The call of a kind, by the words behind its name.
+/// The call of a kind, by the words after its name.
 fn call_behind(kind: CallKind, thread: u32, rm: u32, words: &[&str]) -> Option<Call>
     ensures { result ≡ call_behind kind thread rm (map (λ word. word.now) words.now) }
 {

@@ -31,7 +31,7 @@ fn some_gtrids(alloc: Global, words: &[&str]) -> Result<Option<Gtrids>, AllocErr
     gtrids_named(alloc, words)
 }
 
-/// What `decide` asks for: one transaction or more, and behind them how they end.
+/// What `decide` asks for: one transaction or more, and after them how they end.
 #[tactic(auto, unfolding(crate::specs::Decisions::decide_request))]
 pub(crate) fn decide_request(alloc: Global, words: &[&str]) -> Result<Option<Request>, AllocError>
     ensures { IfOk result (λ request. request

@@ -1,16 +1,17 @@
-//! Laws on what is read and what is written. These functions do nothing: each contract is a theorem.
+//! Laws on what is read and what is written. These functions do nothing: each contract is a
+//! theorem.
 
 ghost use Rattle.xa_requests.specs.Identifiers.{RequestsHaveXids};
 ghost use Rattle.xa_requests.specs.ReadBack.{CallsAreReadBack};
 ghost use Rattle.xa_requests.specs.Spellings.{CodesHaveOneSpelling, IndexesHaveOneSpelling, IntegersHaveOneSpelling, KindsHaveOneSpelling, TransactionsHaveOneSpelling, XidsHaveOneSpelling};
 
-/// A call that is written as in a reply, behind `issue` and a line, is read as that call.
+/// A call that is written as in a reply, after `issue` and a line, is read as that call.
 pub fn calls_are_read_back()
     ensures { CallsAreReadBack }
 {}
 
-/// Each identifier in what a line asks for is one: its parts have the lengths and the numbers that XA allows (section 4.2). So is
-/// that of a branch which the line names by its transaction.
+/// Each identifier in what a line asks for is one: its parts have the lengths and the numbers that
+/// XA allows (section 4.2). So is that of a branch which the line names by its transaction.
 pub fn requests_have_xids()
     ensures { RequestsHaveXids }
 {}

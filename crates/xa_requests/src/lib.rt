@@ -1,8 +1,9 @@
-//! The lines between a driver of real databases and the coordinator: what each line of the driver asks for, and the line
-//! that it is replied. The functions of [`laws`] do nothing: their contracts are theorems on the two.
+//! The lines between a driver of real databases and the coordinator: what each line of the driver
+//! asks for, and the line that it is replied. The functions of [`laws`] do nothing: their contracts
+//! are theorems on the two.
 //!
-//! "XA" in these pages is X/Open CAE Specification C193, "Distributed Transaction Processing: The XA Specification"
-//! (1991).
+//! "XA" in these pages is X/Open CAE Specification C193, "Distributed Transaction Processing: The
+//! XA Specification" (1991).
 #![tactic(auto)]
 
 mod answers;

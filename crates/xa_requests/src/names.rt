@@ -69,8 +69,8 @@ fn xid_named(word: &str) -> Option<Xid>
     Xid::parse(word).ok()
 }
 
-/// The identifier that a word spells; or, where it names a transaction, that of its branch of the thread at the resource
-/// manager.
+/// The identifier that a word spells; or, if it names a transaction, that of its branch of the
+/// thread at the resource manager.
 #[tactic(auto, unfolding(crate::specs::Names::branch_named))]
 pub(crate) fn branch_named(thread: u32, rm: u32, word: &str) -> Option<Xid>
     ensures { result ≡ branch_named thread rm word.now }

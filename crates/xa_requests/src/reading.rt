@@ -18,7 +18,7 @@ use crate::words::words_of;
 use std::alloc::{AllocError, Global};
 use xa_base::Memory;
 
-/// What a request of a kind asks for, by the words behind the first.
+/// What a request of a kind asks for, by the words after the first.
 fn request_with(alloc: Global, verb: Verb, words: &[&str]) -> Result<Option<Request>, AllocError>
     ensures { IfOk result (λ request. request
         ≡ request_with verb (map (λ word. word.now) words.now)) }
@@ -56,10 +56,11 @@ fn request_in(alloc: Global, words: &[&str]) -> Result<Option<Request>, AllocErr
     }
 }
 
-/// What a line of the driver, without its line feed, asks for; none, where it is no request.
+/// What a line of the driver, without its line feed, asks for; none, if it is no request.
 ///
-/// A line is words with one space between any two. Each request has one spelling, but that a transaction may stand for
-/// its branch of the line's thread and resource manager, and TMNOFLAGS where no flag has to stand.
+/// A line is words with one space between any two. Each request has one spelling, but that a
+/// transaction may stand for its branch of the line's thread and resource manager, and TMNOFLAGS if
+/// no flag has to stand.
 pub fn read_request(alloc: Global, line: &str) -> Result<Option<Request>, Memory>
     ensures { IfOk result (λ request. request ≡ request_of line.now) }
 {

@@ -36,15 +36,16 @@ impl Gtrids {
     }
 }
 
-/// The call that an answer is to: its kind and, if it is a call on a branch, the branch's identifier.
+/// The call that an answer is to: its kind and, if it is a call on a branch, the branch's
+/// identifier.
 #[derive(Debug, PartialEq, Eq, Drop)]
 pub struct CallName {
     pub kind: CallKind,
     pub xid: Option<Xid>,
 }
 
-/// What a line of the driver asks for. Threads and resource managers are numbered from 0, and any number may stand
-/// there, also where there is no such thread or resource manager.
+/// What a line of the driver asks for. Threads and resource managers are numbered from 0, and any
+/// number may stand there, also if there is no such thread or resource manager.
 #[derive(Drop)]
 pub enum Request {
     /// `begin`: a transaction of a thread begins.

@@ -2,7 +2,7 @@
 
 use xa_base::{Call, CallKind, Gtrid, Refusal, Xid};
 
-/// Why a request isn't done, where no rule of the protocol refuses it.
+/// Why a request isn't done, if no rule of the protocol refuses it.
 #[derive(Clone, Copy, Debug, PartialEq, Eq)]
 pub enum RequestFault {
     /// The line is none of the requests.
@@ -11,7 +11,8 @@ pub enum RequestFault {
     NothingWaits,
     /// An answer to another call than the one that waits first.
     OtherCall,
-    /// The branch state table has no such answer to the call, or a page lists more than was asked for.
+    /// The branch state table has no such answer to the call, or a page lists more than was asked
+    /// for.
     NoSuchAnswer,
     /// No state of the branch explains the answer.
     NoSuchState,

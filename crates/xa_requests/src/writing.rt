@@ -16,7 +16,8 @@ fn flag_if(is_set: bool, flag: &'static str) -> &'static str
     if is_set { flag } else { "" }
 }
 
-/// A call on a branch: its name, the branch's identifier, and the flag if it has one, behind a space.
+/// A call on a branch: its name, the branch's identifier, and the flag if it has one, after a
+/// space.
 #[tactic(auto, using(xa_files::proofs::Pieces::four_pieces))]
 fn branch_text(alloc: Global, kind: CallKind, xid: &Xid, flag: &str) -> Result<String, Memory>
     ensures { IfOk result (λ text. string_bytes text ≡ branch_text kind xid.now flag.now) }
@@ -26,7 +27,7 @@ fn branch_text(alloc: Global, kind: CallKind, xid: &Xid, flag: &str) -> Result<S
     Ok(format!(in alloc; "{name} {xid}{flag}")?)
 }
 
-/// The flags of an xa_recover, each behind a space.
+/// The flags of an xa_recover, each after a space.
 fn scan_text(start_scan: bool, end_scan: bool) -> &'static str
     ensures { result.now ≡ scan_text start_scan end_scan }
 {

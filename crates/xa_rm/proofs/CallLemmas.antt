@@ -135,7 +135,7 @@ unchanged_there held f x e y =
 
 -- ** the flags of xa_recover
 
--- where none of four calls is chosen, none of four others is
+-- if none of four calls is chosen, none of four others is
 none_chosen : {X : Type 0} (a b c d : Bool) (p q r s t u v w : X)
     → (if a then Some p else if b then Some q else if c then Some r else if d then Some s else None) ≡ None
     → (if a then Some t else if b then Some u else if c then Some v else if d then Some w else None) ≡ None

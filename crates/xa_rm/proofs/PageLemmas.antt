@@ -56,7 +56,7 @@ module _ {X : Type 0} {cmp : X → X → Ordering} (o : IsTotalOrder cmp) where
   dropped_head : (a b : X) (xs : List X) → is_lt (cmp a b) ≡ false → filter (λ x. is_lt (cmp a x)) (b ∷ xs) ≡ filter (λ x. is_lt (cmp a x)) xs
   dropped_head a b xs e = ap (λ t. cond t (b ∷ filter (λ y. is_lt (cmp a y)) xs) (filter (λ y. is_lt (cmp a y)) xs)) e
 
-  -- behind the last of the first elements stand the others
+  -- after the last of the first elements stand the others
   behind_first : (a : X) (xs : List X) → IsStrictlySortedBy cmp (a ∷ xs) → (n : ℕ)
       → filter (λ x. is_lt (cmp (last_in a (take n xs)) x)) (a ∷ xs) ≡ drop n xs
   unfolding IsStrictlySortedBy last_in
@@ -94,12 +94,12 @@ module _ {X : Type 0} {cmp : X → X → Ordering} (o : IsTotalOrder cmp) where
         | false ↦ λ e. all_kept p xs
       ] refl
 
-  -- a list in order stays so behind a place
+  -- a list in order stays so after a place
   sorted_behind : (place : Option X) (xs : List X) → IsStrictlySortedBy cmp xs → IsStrictlySortedBy cmp (behind cmp place xs)
   sorted_behind None xs s = s
   sorted_behind (Some p) xs s = IsStrictlySortedBy-filter cmp (λ x. is_lt (cmp p x)) xs s
 
-  -- behind an element that stands behind the place
+  -- after an element that stands after the place
   further : (place : Option X) (xs : List X) (a : X) (zs : List X) → behind cmp place xs ≡ a ∷ zs → (n : ℕ)
       → behind cmp (Some (last_in a (take n zs))) (behind cmp place xs) ≡ behind cmp (Some (last_in a (take n zs))) xs
   further None xs a zs e n = refl
@@ -123,7 +123,7 @@ module _ {X : Type 0} {cmp : X → X → Ordering} (o : IsTotalOrder cmp) where
   taken_dropped (suc n) [] = refl
   taken_dropped (suc n) (x ∷ xs) = ap (λ ys. x ∷ ys) (taken_dropped n xs)
 
-  -- a page, and what is behind it, is what was behind its start
+  -- a page, and what is after it, is what was after its start
   pub page_and_rest : (place : Option X) (xs : List X) → IsStrictlySortedBy cmp xs → (n : ℕ)
       → take n (behind cmp place xs) ++ behind cmp (last_of place (take n (behind cmp place xs))) xs ≡ behind cmp place xs
   page_and_rest place xs s n =

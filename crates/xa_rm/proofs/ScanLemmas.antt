@@ -18,7 +18,7 @@ and-true : (b : Bool) → (b && true) ≡ b
 and-true true = refl
 and-true false = refl
 
--- the range from a cursor on is what stands behind it
+-- the range from a cursor on is what stands after it
 pub keys_behind : (cursor : Cursor) (index : BTreeSet Xid)
     → keys_between xid_cmp (bound_of cursor) Unbounded index ≡ behind xid_cmp (place_of cursor) index.keys
 keys_behind Cursors.Start index = kept_whole index.keys

@@ -84,7 +84,7 @@ held_after_put table new_table x h put y =
     ∙ (elim (xid_eq x y) as (λ t. branch_or_new (cond t (Some h) (hashed.get xid_eq table y)) ≡ (if t then held_branch h else held_at table y))
     [ true ↦ refl | false ↦ refl ])
 
--- the index stays where a new branch is put, or none was, that isn't in doubt
+-- the index stays if a new branch is put, or none was, that isn't in doubt
 pub index_after_new :
     {S T E : Type 0} (table new_table : HashMap Xid TableEntry S) (index : BTreeSet Xid) (x : Xid) (h : TableEntry) (r : Result T E) → IsIndex table index
     → hashed.get xid_eq table x ≡ None → is_in_doubt h.standing ≡ false → OnOk r (hashed.Updates xid_eq table new_table x (Some h))
@@ -231,7 +231,7 @@ unstarted_at x z of (e ∷ es) none =
       | false ↦ λ at. unstarted_at x z of es neither.1
     ] refl
 
--- where there is no such entry, no branch of the format ever was
+-- if there is no such entry, no branch of the format ever was
 pub format_not_held : {S : Type 0} (table : HashMap Xid TableEntry S) (z : ℤ) → list_any (is_of_format z) table.entries ≡ false
     → HoldsNoFormat (held_at table) z
 format_not_held table z none = record { unstarted = λ x of. unstarted_at x z of table.entries none }

@@ -1,4 +1,5 @@
--- What calls, scripts and scans do at a resource manager: to the branch of each identifier, and to the scan of each thread.
+-- What calls, scripts and scans do at a resource manager: to the branch of each identifier, and to
+-- the scan of each thread.
 use Rattle.std.specs.Prelude.{◌≡◌, ◌≢◌, ◌==◌, ◌-◌, ◌^◌, ◌&&◌, ℕ, ℤ, Bool, true, false, not, nat_eq, nat_le, nat_lt, if◌then◌else◌, List, Option, Some, None}
 use Rattle.std.specs.Option.{option_map_or}
 use Rattle.xa_base.specs.Branch.{branch_of_xid, xid_of_branch}
@@ -31,7 +32,7 @@ abbrev pub scan_after_own : Call Xid → (in_doubt : List Xid) → Scan Xid → 
 scan_after_own (Recover count start end) in_doubt scan = scan_after scan start end (xid_page scan count start in_doubt)
 scan_after_own call in_doubt scan = scan
 
--- the scan of thread t after a call of `thread`: as before, where that is another
+-- the scan of thread t after a call of `thread`: as before, if that is another
 abbrev pub scan_after_call : (thread : ℕ) → Call Xid → (in_doubt : List Xid) → (t : ℕ) → Scan Xid → Scan Xid
 scan_after_call thread call in_doubt t scan = if t == thread then scan_after_own call in_doubt scan else scan
 
@@ -41,15 +42,17 @@ is_of_line OpenRm = true
 is_of_line CloseRm = true
 is_of_line _ = false
 
--- the xa_recover with these flags; none, where they are other than TMSTARTRSCAN, TMENDRSCAN and both together
+-- the xa_recover with these flags; none, if they are other than TMSTARTRSCAN, TMENDRSCAN and both
+-- together
 abbrev pub recover_of : (count : ℤ) → (flags : ℕ) → Option (Call Xid)
 recover_of count flags = call_with Kind.Recover None flags (Some count)
 
--- the answer to a thread's xa_recover with these flags, and XAER_INVAL where there is none
+-- the answer to a thread's xa_recover with these flags, and XAER_INVAL if there is none
 abbrev pub answer_to_recover : Look → (thread : ℕ) → (count : ℤ) → (flags : ℕ) → Answer Xid
 answer_to_recover look thread count flags = option_map_or (answer_to look thread) (recover_of count flags) (Ret Invalid)
 
--- the scan of thread t after an xa_recover of `thread` with these flags: as before, where there is none
+-- the scan of thread t after an xa_recover of `thread` with these flags: as before, if there is
+-- none
 abbrev pub scan_after_recover : (thread : ℕ) → (count : ℤ) → (flags : ℕ) → (in_doubt : List Xid) → (t : ℕ) → Scan Xid → Scan Xid
 scan_after_recover thread count flags in_doubt t scan =
     option_map_or (λ call. scan_after_call thread call in_doubt t scan) (recover_of count flags) scan
@@ -91,7 +94,7 @@ pub record Crashes (old new : Look) : Type 0 where
 
 -- ** scripts
 
--- the branch of x after the named branch changed so: as before, where that is another
+-- the branch of x after the named branch changed so: as before, if that is another
 abbrev pub changed_at : (named : Xid) → (HeldBranch → HeldBranch) → (x : Xid) → HeldBranch → HeldBranch
 changed_at named change x b = if xid_eq named x then change b else b
 
@@ -122,7 +125,8 @@ pub record HoldsNoFormat (held : Xid → HeldBranch) (z : ℤ) : Type 0 where
 
 -- ** what earlier processes left
 
--- the branch is of this resource manager and of an earlier incarnation than this one, and a row of a log can hold its numbers
+-- the branch is of this resource manager and of an earlier incarnation than this one, and a row of
+-- a log can hold its numbers
 abbrev pub is_past : (rm incarnation : ℕ) → Branch → Bool
 is_past r i b = nat_eq b.rm r && (nat_lt b.gtrid.incarnation i && nat_le b.gtrid.sequence (2 ^ 63 - 1))
 

@@ -9,12 +9,12 @@ use Rattle.xa_base.specs.Xid.{Xid}
 use Rattle.xa_rm.specs.declared.scans.Cursor.{Cursor}
 use Rattle.xa_rm.specs.declared.scans.Cursor.TheVariants as Cursors
 
--- the identifier behind which a cursor stands: none at the start
+-- the identifier after which a cursor stands: none at the start
 abbrev pub place_of : Cursor → Option Xid
 place_of Cursors.Start = None
 place_of (Cursors.Behind x) = Some x
 
--- the bound of what stands behind a cursor
+-- the bound of what stands after a cursor
 abbrev pub bound_of : Cursor → Bound Xid
 bound_of Cursors.Start = Unbounded
 bound_of (Cursors.Behind x) = Excluded x

@@ -18,8 +18,9 @@ use std::collections::{BTreeSet, HashMap};
 use std::ops::Bound;
 use xa_base::{Call, Code, LAST_NUMBER, Memory, Xid};
 
-/// Whether an identifier names a branch of this manager that is of another resource manager, or of no earlier
-/// incarnation, or whose numbers no row of a log can hold. It is then the identifier of that branch.
+/// Whether an identifier names a branch of this manager that is of another resource manager, or of
+/// no earlier incarnation, or whose numbers no row of a log can hold. It is then the identifier of
+/// that branch.
 fn names_newer(xid: &Xid, rm: u32, incarnation: u64) -> bool
     ensures { result ≡ names_newer rm incarnation xid.now }
 {
@@ -35,7 +36,8 @@ fn names_newer(xid: &Xid, rm: u32, incarnation: u64) -> bool
     }
 }
 
-/// Answers a call that names this branch of the table. The index lists the branch from then on just where it is in doubt.
+/// Answers a call that names this branch of the table. Afterwards the index lists the branch
+/// exactly if it is in doubt.
 fn apply_held(
     held: &mut TableEntry,
     index: &mut BTreeSet<Xid>,
@@ -63,7 +65,7 @@ fn apply_held(
     Ok(code)
 }
 
-/// Has the index list a branch where it is in doubt, and not where it isn't, as it did before.
+/// Keeps the index in step with one branch: it is listed exactly while it is in doubt.
 fn list_in_doubt(
     index: &mut BTreeSet<Xid>,
     xid: &Xid,
@@ -87,7 +89,8 @@ fn list_in_doubt(
     Ok(())
 }
 
-/// The branches that were ever named, with an index of those in doubt: the prepared and the heuristically completed.
+/// The branches that were ever named, with an index of those in doubt: the prepared and the
+/// heuristically completed.
 #[derive(Drop)]
 pub(crate) struct Branches {
     table: HashMap<Key, TableEntry>,
@@ -132,7 +135,8 @@ impl Branches {
 
     /// Puts this in the place of what is held of a branch.
     ///
-    /// A branch that isn't in the table can't go in doubt at once. So at most one of the table and the index grows.
+    /// A branch that isn't in the table can't go in doubt at once. So at most one of the table and
+    /// the index grows.
     pub(crate) fn set(&mut self, xid: &Xid, held: TableEntry) -> Result<(), Memory>
         requires { is_in_doubt held.standing ≡ true → IsSome (get xid_eq self.old.table xid.now) }
         ensures ok { OnOk result ((x : Xid) → held_at self.new.table x ≡
@@ -170,7 +174,8 @@ impl Branches {
         }
     }
 
-    /// Answers a call that names a branch which isn't in the table. None goes in doubt by its first call.
+    /// Answers a call that names a branch which isn't in the table. None goes in doubt by its first
+    /// call.
     fn apply_new(&mut self, xid: &Xid, thread: u32, call: &Call) -> Result<Code, Memory>
         requires named { xid_in call.now ≡ Some xid.now }
         requires absent { get xid_eq self.old.table xid.now ≡ None }
@@ -222,8 +227,8 @@ impl Branches {
         self.table.iter().any(|(key, held)| key.xid().format() == format && held.was_started())
     }
 
-    /// Whether a branch of this manager was ever started that is of another resource manager than this number or of no
-    /// earlier incarnation, or whose numbers no row of a log can hold.
+    /// Whether a branch of this manager was ever started that is of another resource manager than
+    /// this number or of no earlier incarnation, or whose numbers no row of a log can hold.
     pub(crate) fn holds_newer(&self, rm: u32, incarnation: u64) -> bool
         ensures newer { result ≡ true → HoldsNewer (held_at self.now.table) rm incarnation }
         ensures past { result ≡ false → HoldsPast (held_at self.now.table) rm incarnation }
@@ -240,7 +245,7 @@ impl Branches {
         self.index.len()
     }
 
-    /// The first `count` identifiers in doubt behind the cursor.
+    /// The first `count` identifiers in doubt after the cursor.
     pub(crate) fn page(
         &self,
         alloc: Global,

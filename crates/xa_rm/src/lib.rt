@@ -1,7 +1,8 @@
 //! Resource managers: what each answers to the calls of XA, and what it has in doubt.
 //!
-//! "XA" in these pages is X/Open CAE Specification C193, "Distributed Transaction Processing: The XA Specification"
-//! (1991). A resource manager of this crate keeps branches and scripted votes alone, and no rows.
+//! "XA" in these pages is X/Open CAE Specification C193, "Distributed Transaction Processing: The
+//! XA Specification" (1991). A resource manager of this crate keeps branches and scripted votes
+//! alone, and no rows.
 #![tactic(auto)]
 
 mod branches;

@@ -41,7 +41,8 @@ impl MemRm {
         }
     }
 
-    /// Answers an xa_recover. The page is made before the scan moves, so that want of memory moves none.
+    /// Answers an xa_recover. The page is made before the scan moves, so that want of memory moves
+    /// none.
     fn list(
         &mut self,
         thread: u32,

@@ -3,9 +3,11 @@
 use crate::RmFault;
 use xa_base::{Answer, BranchState, Call, Fate, How, Memory, Vote, Xid};
 
-/// A resource manager: the branches of transactions that it holds, and the recovery scans that threads have open there.
+/// A resource manager: the branches of transactions that it holds, and the recovery scans that
+/// threads have open there.
 ///
-/// Each call names the one branch that it changes; all others stay as they are. After a fault nothing has changed.
+/// Each call names the one branch that it changes; all others stay as they are. After a fault
+/// nothing has changed.
 pub trait ResourceManager {
     ghost use Rattle.std.specs.Prelude.{◌≡◌, ◌↔◌, length, true, false, IfOk, IfErr, IsOk, OnOk, OnErr, IsErrOf};
     ghost use Rattle.xa_base.specs.HeldBranch.{completed_by};
@@ -18,14 +20,15 @@ pub trait ResourceManager {
     ghost use Rattle.xa_rm.specs.ResourceManager.{answer_to, answer_to_recover, is_of_line, retrying, voting};
     ghost use Rattle.xa_rm.specs.ResourceManager.{HoldsFormat, HoldsNewer, HoldsNoFormat, HoldsPast};
 
-    /// What a contract sees of it: the branch of each identifier, where each thread's recovery scan stands, and the
-    /// identifiers in doubt, in order.
+    /// What a contract sees of it: the branch of each identifier, where each thread's recovery scan
+    /// stands, and the identifiers in doubt, in order.
     ghost look: { Self → Look };
 
-    /// Answers a thread's call (XA, chapter 5), by the branch state table. A branch that is started remembers the
-    /// thread. xa_recover is answered as `recover` answers it.
+    /// Answers a thread's call (XA, chapter 5), by the branch state table. A branch that is started
+    /// remembers the thread. xa_recover is answered as `recover` answers it.
     ///
-    /// xa_open, xa_close and any call answered XAER_INVAL or XAER_NOTA take no memory, and so never fail.
+    /// xa_open, xa_close and any call answered XAER_INVAL or XAER_NOTA take no memory, and so never
+    /// fail.
     fn apply(&mut self, thread: u32, call: &Call) -> Result<Answer, Memory>
         // The answer, and what the call changes: the branch that it names, and the thread's scan.
         ensures ok { IfOk result (λ answer.
@@ -37,12 +40,13 @@ pub trait ResourceManager {
         ensures not_found { answer_to (look self.old) thread call.now ≡ Ret NotAnXid →
             IsOk result };
 
-    /// Lists up to `count` identifiers in doubt that stand behind the thread's recovery scan, in order and of any
-    /// format, and moves the scan behind the last of them (XA, chapter 5, xa_recover).
+    /// Lists up to `count` identifiers in doubt that stand after the thread's recovery scan, in
+    /// order and of any format, and moves the scan after the last of them (XA, chapter 5,
+    /// xa_recover).
     ///
-    /// `flags` are TMSTARTRSCAN, which puts the scan at the start, and TMENDRSCAN, which ends it after the call. The
-    /// answer is XAER_INVAL, and nothing changes, at any other flag, at a negative count, and where no scan is open
-    /// and none is started.
+    /// `flags` are TMSTARTRSCAN, which puts the scan at the start, and TMENDRSCAN, which ends it
+    /// after the call. The answer is XAER_INVAL, and nothing changes, at any other flag, at a
+    /// negative count, and if no scan is open and none is started.
     fn recover(&mut self, thread: u32, count: i64, flags: u32) -> Result<Answer, Memory>
         ensures ok { IfOk result (λ answer.
             Recovers thread count flags answer (look self.old) (look self.new)) }
@@ -51,17 +55,19 @@ pub trait ResourceManager {
         ensures invalid { answer_to_recover (look self.old) thread count flags ≡ Ret Invalid →
             IsOk result };
 
-    /// Sets how the branch votes when it is next prepared or committed in one phase. The last vote set counts, and
-    /// without one it is yes. The vote stays with the identifier: a crash doesn't change it, nor does the branch's end.
+    /// Sets how the branch votes when it is next prepared or committed in one phase. The last vote
+    /// set counts, and without one it is yes. The vote stays with the identifier: a crash doesn't
+    /// change it, nor does the branch's end.
     ///
-    /// `RmFault::Script` where the branch is prepared or heuristically completed, and so has voted.
+    /// `RmFault::Script` if the branch is prepared or heuristically completed, and so has voted.
     fn vote(&mut self, xid: &Xid, vote: Vote) -> Result<(), RmFault>
         ensures script { IsErrOf result RmFault.Script
             ↔ (is_in_doubt ((look self.old).held xid.now).standing ≡ true) }
         ensures ok { OnOk result (Sets xid.now (voting vote) (look self.old) (look self.new)) }
         ensures err { OnErr result (Keeps (look self.old) (look self.new)) };
 
-    /// Sets how many times xa_commit of the branch, while it is prepared, answers XA_RETRY. A crash changes none of it.
+    /// Sets how many times xa_commit of the branch, while it is prepared, answers XA_RETRY. A crash
+    /// changes none of it.
     ///
     /// The fault is never `RmFault::Script`.
     fn retry(&mut self, xid: &Xid, times: u32) -> Result<(), RmFault>
@@ -69,9 +75,10 @@ pub trait ResourceManager {
         ensures ok { OnOk result (Sets xid.now (retrying times) (look self.old) (look self.new)) }
         ensures err { OnErr result (Keeps (look self.old) (look self.new)) };
 
-    /// Ends a prepared branch without being told to (XA, section 2.3.3, Heuristic Branch Completion).
+    /// Ends a prepared branch without being told to (XA, section 2.3.3, Heuristic Branch
+    /// Completion).
     ///
-    /// `RmFault::Script` where the branch isn't prepared.
+    /// `RmFault::Script` if the branch isn't prepared.
     fn heuristic(&mut self, xid: &Xid, how: How) -> Result<(), RmFault>
         ensures script { IsErrOf result RmFault.Script
             ↔ (is_prepared ((look self.old).held xid.now).standing ≡ false) }
@@ -79,16 +86,16 @@ pub trait ResourceManager {
             (Sets xid.now (completed_by how) (look self.old) (look self.new)) }
         ensures err { OnErr result (Keeps (look self.old) (look self.new)) };
 
-    /// A line of the thread broke: each branch that the thread started is lost, if it isn't prepared or completed, and
-    /// the thread's recovery scan is closed. No memory is taken.
+    /// A line of the thread broke: each branch that the thread started is lost, if it isn't
+    /// prepared or completed, and the thread's recovery scan is closed. No memory is taken.
     fn break_line(&mut self, thread: u32)
         ensures { Breaks thread (look self.old) (look self.new) };
 
-    /// The lines of all threads broke. Each branch that isn't prepared or completed is lost, and all recovery scans are
-    /// closed. No memory is taken.
+    /// The lines of all threads broke. Each branch that isn't prepared or completed is lost, and
+    /// all recovery scans are closed. No memory is taken.
     ///
-    /// The resource manager itself has crashed or, with all its lines, the transaction manager has. A failure of its log
-    /// brings the transaction manager down too.
+    /// The resource manager itself has crashed or, with all its lines, the transaction manager has.
+    /// A failure of its log brings the transaction manager down too.
     fn crash(&mut self)
         ensures { Crashes (look self.old) (look self.new) };
 
@@ -105,8 +112,8 @@ pub trait ResourceManager {
         ensures held { result ≡ true → HoldsFormat (look self.now).held format }
         ensures clear { result ≡ false → HoldsNoFormat (look self.now).held format };
 
-    /// Whether a branch of this manager was ever started that is of another resource manager than this number or of no
-    /// earlier incarnation, or whose numbers no row of a log can hold.
+    /// Whether a branch of this manager was ever started that is of another resource manager than
+    /// this number or of no earlier incarnation, or whose numbers no row of a log can hold.
     fn holds_newer(&self, rm: u32, incarnation: u64) -> bool
         ensures newer { result ≡ true → HoldsNewer (look self.now).held rm incarnation }
         ensures past { result ≡ false → HoldsPast (look self.now).held rm incarnation };

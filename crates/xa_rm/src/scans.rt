@@ -11,7 +11,7 @@ use xa_base::{Memory, Xid};
 pub(crate) enum Cursor {
     /// Before all identifiers.
     Start,
-    /// Behind the one that it listed last.
+    /// After the one that it listed last.
     Behind(Xid),
 }
 
@@ -36,7 +36,7 @@ impl Cursor {
         }
     }
 
-    /// Where a range of identifiers behind the cursor begins.
+    /// Where a range of identifiers after the cursor begins.
     pub(crate) fn bound(&self) -> Bound<&Xid>
         ensures { bound_map (λ x. x.now) result ≡ bound_of self.now }
     {
@@ -46,7 +46,8 @@ impl Cursor {
         }
     }
 
-    /// The cursor after a page that it listed: behind the last identifier of the page, if it lists any.
+    /// The cursor after a page that it listed: after the last identifier of the page, if it lists
+    /// any.
     pub(crate) fn after(self, page: &[Xid]) -> Cursor
         ensures { place_of result ≡ last_of (place_of self) page.now }
     {
@@ -70,8 +71,8 @@ impl Scans {
         }
     }
 
-    /// From where a thread's call reads: from the start if it asks for that, else from where its scan stands, if one is
-    /// open.
+    /// From where a thread's call reads: from the start if it asks for that, else from where its
+    /// scan stands, if one is open.
     pub(crate) fn reads_from(&self, thread: u32, start_scan: bool) -> Option<Cursor>
         ensures { option_map place_of result
             ≡ reads_from (scan_at self.now.cursors thread) start_scan }

@@ -82,7 +82,8 @@ impl TableEntry {
         }
     }
 
-    /// The answer in a state in which the call can't be made: XAER_NOTA where there is no branch, else XAER_PROTO.
+    /// The answer in a state in which the call can't be made: XAER_NOTA if there is no branch, else
+    /// XAER_PROTO.
     fn misplaced(&self) -> Code
         ensures { result ≡ answer_of (held_branch self.now) Kind.Join }
     {

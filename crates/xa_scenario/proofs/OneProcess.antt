@@ -38,7 +38,7 @@ module _ {L : Type 0} (moment : L → Moment) (log : L) where
   some_plan _ _ _ _ (First plan p first) = omega arith
   some_plan _ _ _ _ (Next plans past before traces plan p are next) = omega (arith, length-append plans (plan ∷ []))
 
-  -- where some are processes and another is left, there are two
+  -- if some are processes and another is left, there are two
   two_plans : (first : List Plan) (next : Plan) (later : List Plan) (plan : Plan) (whole : Trace) (last : Process L) (traces : List ℕ)
       → AreProcesses moment log first whole last traces → first ++ next ∷ later ≡ plan ∷ [] → ⊥
   two_plans first next later plan whole last traces run are =
@@ -111,7 +111,7 @@ module _ {L : Type 0} (moment : L → Moment) (log : L) (plan : Plan) where
 
 -- ** why it ends early
 
--- its log is to blame, since no other process goes on behind it
+-- its log is to blame, since no other process goes on after it
 pub blamed : {R L : Type 0} (see : Observes R L) (log : L) (logs : DecisionLog.Ghosts L) (plan : Plan) → LogStops see log logs (plan ∷ [])
     → IsToBlame logs log
 blamed see log logs plan (inl it) = it

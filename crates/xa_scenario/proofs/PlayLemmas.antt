@@ -11,7 +11,8 @@ use Rattle.xa_base.specs.declared.step.Step.TheVariants as steps
 use Rattle.xa_scenario_file.specs.declared.entry.Entry.{Entry}
 use Rattle.xa_scenario.specs.Plays.{AreAnswered, IsAnswered, IsDrain, IsPlay, MakesEvents, PerformsSteps, events_after, begins_one, gtrid_answered, gtrid_begun, gtrids_begun, moves, trace_after}
 
--- From this trace on, events that P asks for at the end make the whole one that P asks for from the start.
+-- From this trace on, events that P asks for at the end make the whole one that P asks for from the
+-- start.
 abbrev pub GoesOn : (List Event → Type 0) → List Event → List Event → Type 0
 GoesOn P start trace = (others : List Event) → P others → AreAnswered trace others → PerformsSteps P start (trace_after trace others)
 
@@ -67,7 +68,8 @@ drain_names_none thread rm (a ∷ b ∷ rest) h =
     let others = names_none_after thread rm (moves a.reply || moves b.reply) rest (drain_names_none thread rm rest) h.2 in
     rw (h.0, h.1) others
 
--- From this trace on, a play of these entries makes, with the events before it, a play of all entries from the start.
+-- From this trace on, a play of these entries makes, with the events before it, a play of all
+-- entries from the start.
 abbrev pub PlaysOn : (first : List Gtrid) → (all : List Entry) → (start : List Event) → (gtrids : List Gtrid) → List Entry → (trace : List Event) → Type 0
 PlaysOn first all start gtrids entries trace = (others : List Event) → IsPlay gtrids entries others → AreAnswered trace others
     → PerformsSteps (λ steps. IsPlay first all steps × (gtrids ++ gtrids_begun others ≡ first ++ gtrids_begun steps)) start (trace_after trace others)

@@ -35,7 +35,8 @@ begins_behind old mid new xs ys first second = (
 )
 
 module _ {R L : Type 0} (see : Observes R L) (log : L) (with_trace : Bool) (all : List Plan) where
-  -- processes of these plans, the first of all, have printed all their traces but that of the last one
+  -- processes of these plans, the first of all, have printed all their traces but that of the last
+  -- one
   pub record HavePrinted (p : Played R L) (plans : List Plan) (old now : Option (List ℕ)) : Type 0 where
     pub before : List ℕ
     pub piece : List ℕ
@@ -108,7 +109,7 @@ module _ {R L : Type 0} (see : Observes R L) (log : L) (with_trace : Bool) (all 
         written = all_written written;
       }
 
-  -- its text with the fates behind it
+  -- its text with the fates after it
   module _ (p : Played R L) (old now new : Option (List ℕ)) (printed : HavePrinted p all old now)
       (whole : List ℕ) (ends : AddsFates (origin_in see.look p.system) p.system.events p.names.items (string_bytes p.text) whole) where
     ends_so : shown with_trace printed.before ++ whole

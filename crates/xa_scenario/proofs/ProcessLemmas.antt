@@ -31,7 +31,7 @@ use Rattle.xa_rm.specs.Look.{Look}
 -- ** the whole history
 
 module _ {L : Type 0} (moment : L → Moment) (log : L) where
-  -- it is right, where the logs are in order and honest
+  -- it is right, if the logs are in order and honest
   pub all_right : (plans : List Plan) (whole : Trace) (last : Process L) (traces : List ℕ) → AreProcesses moment log plans whole last traces
       → (moment log).is_in_order → (left : L) → last.log ≡ Some left → (moment left).is_honest → AllRight whole
   all_right _ _ _ _ (First plan p is) order left at h = of_processes_right _ (Begins p.origin p.events is.right is.is.allowed)

@@ -19,7 +19,7 @@ use Rattle.xa_tm.specs.declared.slot.Slot.{Slot}
 use Rattle.xa_rm.specs.Look.{Look}
 
 module _ {R : Type 0} (look : R → Look) where
-  -- where each resource manager is new, so is what is found at a place
+  -- if each resource manager is new, so is what is found at a place
   new_found : (rms : List R) → All (IsNewRm look) rms → (r : ℕ) (found : Option R) → slice_get rms r ≡ found → IfSome found (IsNewRm look)
   new_found rms each r None is = tt
   new_found rms each r (Some rm) is = subst (IsNewRm look) (get_or_from_slice_get rms r rm rm is) (each r rm (slice_get_within rms r rm is))

@@ -17,8 +17,8 @@ pub record HasStarted {R L : Type 0} (see : Observes R L) (log : L) (s : SystemV
   pub handed : s.handed ≡ log
   pub near : Honestly (see.moment log) (see.place s.log) (MayRestart see s)
 
--- A system has started over what another one left: over its log, and, where that was in order as it was handed in and is
--- honest, behind its history.
+-- A system has started over what another one left: over its log, and, if that was in order as it
+-- was handed in and is honest, after its history.
 pub record HasGoneOn {R L : Type 0} (see : Observes R L) (old new : SystemView R L) : Type 0 where
   pub found : L
   pub left : log_held old.log ≡ Some found
@@ -27,14 +27,14 @@ pub record HasGoneOn {R L : Type 0} (see : Observes R L) (old new : SystemView R
   pub resumes : (see.moment old.handed).is_in_order → MayRestart see old → (see.place new.log).is_honest
       → Resumes (trace_in see.look old) (origin_in see.look new)
 
--- It is the log that was handed in. What it rests on was honest before, where it is so after; and then a restart may follow
--- after, where it might before.
+-- It is the log that was handed in. What it rests on was honest before, if it is so after; and then
+-- a restart may follow after, if it might before.
 pub record KeepsLog {R L : Type 0} (see : Observes R L) (old new : SystemView R L) : Type 0 where
   pub handed : new.handed ≡ old.handed
   pub honest : (see.place new.log).is_honest → (see.place old.log).is_honest
   pub near : Honestly (see.moment old.handed) (see.place new.log) (MayRestart see old → MayRestart see new)
 
--- No system can go on from what this one leaves: it holds no log, or its log is to blame, or a branch at its resource managers
--- is newer than that.
+-- No system can go on from what this one leaves: it holds no log, or its log is to blame, or a
+-- branch at its resource managers is newer than that.
 abbrev pub CannotGoOn : {R L : Type 0} → (R → Look) → DecisionLog.Ghosts L → SystemView R L → Type 0
 CannotGoOn look logs s = MatchOption (log_held s.log) (Unit {0}) (λ log. IsToBlame logs log ⊎ FindsNewer look logs s.rms log)

@@ -54,7 +54,7 @@ pub record PerformsSteps (P : List Event → Type 0) (old new : List Event) : Ty
 abbrev pub no_gtrid : Gtrid
 no_gtrid = record { incarnation = 0; sequence = 0 }
 
--- the transaction that a begin is answered with; none, where it is refused
+-- the transaction that a begin is answered with; none, if it is refused
 abbrev pub gtrid_answered : Reply Xid → Gtrid
 gtrid_answered (replies.Begun gtrid) = gtrid
 gtrid_answered _ = no_gtrid

@@ -1,5 +1,5 @@
--- Processes of the manager, one for each of several scenario files: what they do over the same resource managers and the
--- same log, and what is printed of them.
+-- Processes of the manager, one for each of several scenario files: what they do over the same
+-- resource managers and the same log, and what is printed of them.
 use Rattle.std.specs.Prelude.{◌≡◌, ◌<◌, ◌↔◌, ◌⊎◌, ℕ, ◌+◌, Bool, true, List, [], ◌∷◌, ◌++◌, length, codes, All, Contains, Option, None, Some}
 use Rattle.std.specs.Fmt.{decimal}
 use Rattle.std.specs.Io.KnownBytes.{Appends, Keeps}
@@ -33,8 +33,8 @@ use Rattle.xa_tm.specs.Slots.{log_held}
 
 -- ** one process
 
--- what became of a process: where it started, its events, what the names of all files so far stand for, the branches whose
--- xa_start was accepted before it, and the log that it leaves
+-- what became of a process: where it started, its events, what the names of all files so far stand
+-- for, the branches whose xa_start was accepted before it, and the log that it leaves
 pub record Process (L : Type 0) : Type 0 where
   pub origin : Origin
   pub events : List Event
@@ -42,18 +42,20 @@ pub record Process (L : Type 0) : Type 0 where
   pub names : List Xid
   pub log : Option L
 
--- the branches whose xa_start was accepted in a history, each once and in the order of their identifiers
+-- the branches whose xa_start was accepted in a history, each once and in the order of their
+-- identifiers
 pub record AreStarted (tr : Trace) (own : List Xid) : Type 0 where
   pub in_order : IsStrictlySortedBy xid_cmp own
   pub listed : (x : Xid) → Contains own x ↔ ((b : Branch) × (started tr b ≡ true) × (x ≡ xid_of_branch b))
 
--- these are behind those of the earlier processes
+-- these are after those of the earlier processes
 pub record AddsStarted (tr : Trace) (old new : List Xid) : Type 0 where
   pub own : List Xid
   pub started : AreStarted tr own
   pub adds : new ≡ old ++ own
 
--- the entries were played in turn: each name stands for what its begin was answered, here or in an earlier process
+-- the entries were played in turn: each name stands for what its begin was answered, here or in an
+-- earlier process
 abbrev pub Plays : Plan → (old new : List Gtrid) → (before after : List Event) → Type 0
 Plays plan old new before after =
     PerformsSteps (λ steps. IsPlay old plan.entries steps × (new ≡ old ++ gtrids_begun steps)) before after
@@ -63,8 +65,8 @@ abbrev pub heading : Option ℕ → List ℕ
 heading None = []
 heading (Some number) = codes "process " ++ decimal number ++ codes "\n"
 
--- what became of the branch of an identifier, if it is one of the process's threads and resource managers: as its resource
--- manager has it in the end
+-- what became of the branch of an identifier, if it is one of the process's threads and resource
+-- managers: as its resource manager has it in the end
 abbrev pub IsFateOf : Origin → List Event → Xid × Fate → Type 0
 IsFateOf o events line = (b : Branch) → IsBranch b → b.thread < o.threads → b.rm < o.rms → line.0 ≡ xid_of_branch b
     → line.1 ≡ fate (history o events) b
@@ -74,7 +76,8 @@ pub record AreFates (o : Origin) (events : List Event) (names : List Xid) (fates
   pub listed : keys_of fates ≡ names
   pub each : All (IsFateOf o events) fates
 
--- The text goes on with what became of these branches in the end, and then with the report of the process.
+-- The text goes on with what became of these branches in the end, and then with the report of the
+-- process.
 pub record AddsFates (o : Origin) (events : List Event) (names : List Xid) (text whole : List ℕ) : Type 0 where
   pub earlier : List (Xid × Fate)
   pub own : List (Xid × Fate)
@@ -82,8 +85,8 @@ pub record AddsFates (o : Origin) (events : List Event) (names : List Xid) (text
   pub report : IsReportOf o events own
   pub spelled : whole ≡ text ++ fate_lines earlier ++ fate_lines own
 
--- The entries were played at a system that had just started, and it is where its history leaves it, of which the headline
--- holds.
+-- The entries were played at a system that had just started, and it is where its history leaves it,
+-- of which the headline holds.
 pub record HasPlayed {R L : Type 0} (see : Observes R L) (plan : Plan) (old_gtrids gtrids : List Gtrid) (old new : SystemView R L) : Type 0 where
   pub played : Plays plan old_gtrids gtrids old.events new.events
   pub start : origin_in see.look new ≡ origin_in see.look old
@@ -94,8 +97,9 @@ pub record HasPlayed {R L : Type 0} (see : Observes R L) (plan : Plan) (old_gtri
       → HeadlineSince (resumed past (origin_in see.look new)) new.events
 
 module _ {L : Type 0} (moment : L → Moment) where
-  -- A process plays a plan over this log. Its system is as large as the plan says. What its log rests on was honest as it
-  -- started where that is so of the log that it leaves, which is in order where this one is.
+  -- A process plays a plan over this log. Its system is as large as the plan says. What its log
+  -- rests on was honest as it started if that is so of the log that it leaves, which is in order if
+  -- this one is.
   pub record IsProcess (log : L) (gtrids : List Gtrid) (plan : Plan) (p : Process L) : Type 0 where
     pub over : StartsOverLog moment log p.origin
     pub threads : p.origin.threads ≡ plan.threads
@@ -113,9 +117,10 @@ module _ {L : Type 0} (moment : L → Moment) where
     pub right : RightOrigin p.origin
     pub headline : Headline p.origin p.events
 
-  -- One behind another, where the first of all has started over this log. It starts over the log that the one before it has
-  -- left; and where the first log was in order, and what the logs rest on was honest until this start, it resumes the whole
-  -- history of the earlier ones, so that the headline holds of what it does after that.
+  -- One after another, if the first of all has started over this log. It starts over the log that
+  -- the one before it has left; and if the first log was in order, and what the logs rest on was
+  -- honest until this start, it resumes the whole history of the earlier ones, so that the headline
+  -- holds of what it does after that.
   pub record IsNext (log : L) (past : Trace) (before : Process L) (plan : Plan) (p : Process L) : Type 0 where
     pub found : L
     pub left : before.log ≡ Some found
@@ -126,8 +131,8 @@ module _ {L : Type 0} (moment : L → Moment) where
 
   -- ** processes in turn
 
-  -- The processes of these plans over a log, up to this last one: their whole history, each having resumed what was left
-  -- before it, and the text of their traces.
+  -- The processes of these plans over a log, up to this last one: their whole history, each having
+  -- resumed what was left before it, and the text of their traces.
   pub data AreProcesses (log : L) : List Plan → (whole : Trace) → (last : Process L) → (traces : List ℕ) → Type 0 where
     First :
         (plan : Plan) (p : Process L) → IsFirst log plan p
@@ -140,8 +145,8 @@ module _ {L : Type 0} (moment : L → Moment) where
 
   -- ** what is printed
 
-  -- the text of processes of these plans, up to this last one: their traces, where they are asked for, and then what became
-  -- of the branches of all, as the last one has them in the end
+  -- the text of processes of these plans, up to this last one: their traces, if they are asked for,
+  -- and then what became of the branches of all, as the last one has them in the end
   pub record AreTold (log : L) (plans : List Plan) (with_trace : Bool) (last : Process L) (text : List ℕ) : Type 0 where
     pub whole : Trace
     pub traces : List ℕ
@@ -163,7 +168,8 @@ module _ {L : Type 0} (moment : L → Moment) where
     pub told : AreTold log plans with_trace last text
     pub begins : AppendsBeginning old new text
 
-  -- The first of the plans, but not all, were processes, and these are their traces, where they are asked for.
+  -- The first of the plans, but not all, were processes, and these are their traces, if they are
+  -- asked for.
   pub record AreTraces (log : L) (plans : List Plan) (with_trace : Bool) (traces : List ℕ) : Type 0 where
     pub first : List Plan
     pub next : Plan
@@ -175,7 +181,7 @@ module _ {L : Type 0} (moment : L → Moment) where
     pub run : AreProcesses log first whole last text
     pub spelled : traces ≡ shown with_trace text
 
-  -- Nothing was written, or just the traces of the first of them.
+  -- Nothing was written, or exactly the traces of the first of them.
   abbrev pub StopsBetween : (log : L) → List Plan → (with_trace : Bool) → (old new : Option (List ℕ)) → Type 0
   StopsBetween log plans with_trace old new =
       Keeps old new ⊎ ((traces : List ℕ) × AreTraces log plans with_trace traces × Appends old new traces)
@@ -206,7 +212,8 @@ module _ {R L : Type 0} (see : Observes R L) (log : L) where
     pub order : (see.moment log).is_in_order → (see.moment p.system.handed).is_in_order
     pub near : Honestly (see.moment log) (see.place p.system.log) (MayRestart see p.system)
 
-  -- Some of these plans were played, but not all, and none can go on from the last process of those.
+  -- Some of these plans were played, but not all, and none can go on from the last process of
+  -- those.
   pub record StopsBehind (logs : DecisionLog.Ghosts L) (plans : List Plan) : Type 0 where
     pub first : List Plan
     pub next : Plan
@@ -217,6 +224,7 @@ module _ {R L : Type 0} (see : Observes R L) (log : L) where
     pub last : IsLast first process traces
     pub stops : CannotGoOn see.look logs process.system
 
-  -- the log keeps the processes of these plans from being played: it is to blame at the first, or none can go on behind some
+  -- the log keeps the processes of these plans from being played: it is to blame at the first, or
+  -- none can go on after some
   abbrev pub LogStops : DecisionLog.Ghosts L → List Plan → Type 0
   LogStops logs plans = IsToBlame logs log ⊎ StopsBehind logs plans

@@ -40,33 +40,36 @@ pub record IsStartOf (plan : Plan) (o : Origin) : Type 0 where
   pub in_doubt : (r : ℕ) → o.in_doubt r ≡ []
   pub scans : (r : ℕ) → o.scans r ≡ NotOpen
 
--- It starts over this log: with just the rows and the record that the log held, in its next incarnation. That is so where
--- the log was in order, and what it rests on was honest until the start, which left it as `left`.
+-- It starts over this log: with exactly the rows and the record that the log held, in its next
+-- incarnation. That is so if the log was in order, and what it rests on was honest until the start,
+-- which left it as `left`.
 pub record StartsOverLog {L : Type 0} (moment : L → Moment) (log : L) (o : Origin) : Type 0 where
   pub left : L
   pub honest : (moment left).is_honest → (moment log).is_honest
   pub held : Honestly (moment log) (moment left) (IsSomeAnd (moment log).content (StartsOver o))
 
--- The events are those of the scenario's entries in turn, as far as there is room for them; each is answered as the
--- history before it demands, and so they are all that the headline says.
+-- The events are those of the scenario's entries in turn, as far as there is room for them; each is
+-- answered as the history before it demands, and so they are all that the headline says.
 pub record IsRunOf (plan : Plan) (o : Origin) (events : List Event) : Type 0 where
   pub start : IsStartOf plan o
   pub played : PerformsSteps (IsPlay [] plan.entries) [] events
   pub allowed : AreAllowed o events
   pub headline : Headline o events
 
--- the branches with an accepted xa_start, each once and in the order of their identifiers, with their fates
+-- the branches with an accepted xa_start, each once and in the order of their identifiers, with
+-- their fates
 pub record IsReportOf (o : Origin) (events : List Event) (fates : List (Xid × Fate)) : Type 0 where
   pub in_order : IsStrictlySortedBy xid_cmp (keys_of fates)
   pub listed : (x : Xid) (f : Fate) → Contains fates (x, f) ↔ IsReported (history o events) x f
 
 -- ** what is printed
 
--- a text, where it is asked for
+-- a text, if it is asked for
 abbrev pub shown : (with_trace : Bool) → List ℕ → List ℕ
 shown with_trace text = if with_trace then text else []
 
--- the text of a run of the scenario from this start: its trace, where that is asked for, and then its report
+-- the text of a run of the scenario from this start: its trace, if that is asked for, and then its
+-- report
 pub record IsTextOf (plan : Plan) (with_trace : Bool) (o : Origin) (text : List ℕ) : Type 0 where
   pub events : List Event
   pub fates : List (Xid × Fate)

@@ -1,4 +1,5 @@
-//! The system that a run of a scenario leaves, for those who tell of it in other ways than `run_scenario`.
+//! The system that a run of a scenario leaves, for those who tell of it in other ways than
+//! `run_scenario`.
 
 ghost use Rattle.std.specs.Prelude.{◌≡◌, Err, IfErr, IfOk};
 ghost use Rattle.xa_files.specs.declared.fault.RunFault.TheVariants.{Log};
@@ -16,10 +17,10 @@ use xa_rm::{MemRm, ResourceManager};
 use xa_scenario_file::Scenario;
 use xa_system::System;
 
-/// The system after a run of a scenario at new resource managers and over a decision log: its trace and its report are
-/// what `run_scenario` prints of that run.
+/// The system after a run of a scenario at new resource managers and over a decision log: its trace
+/// and its report are what `run_scenario` prints of that run.
 ///
-/// Log comes where the log can't be started, and Memory where a request was refused outside of a step.
+/// Log comes if the log can't be started, and Memory if a request was refused outside of a step.
 pub fn system_after<L: DecisionLog + Drop>(
     alloc: Global,
     scenario: &Scenario,

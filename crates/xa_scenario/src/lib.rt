@@ -1,7 +1,8 @@
-//! Scenario files that are run: what a run does, and what is printed of it. `xa_scenario_file` reads them, and its names stand here too.
+//! Scenario files that are run: what a run does, and what is printed of it. `xa_scenario_file`
+//! reads them, and its names stand here too.
 //!
-//! "XA" in these pages is X/Open CAE Specification C193, "Distributed Transaction Processing: The XA Specification"
-//! (1991).
+//! "XA" in these pages is X/Open CAE Specification C193, "Distributed Transaction Processing: The
+//! XA Specification" (1991).
 #![tactic(auto)]
 
 mod after_run;

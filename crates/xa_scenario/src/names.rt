@@ -13,7 +13,7 @@ const NO_GTRID: Gtrid = Gtrid {
     sequence: 0,
 };
 
-/// The transaction that a begin is answered with; none, where it is refused.
+/// The transaction that a begin is answered with; none, if it is refused.
 pub fn gtrid_in(reply: Reply) -> Gtrid
     ensures { result ≡ gtrid_answered reply }
 {

@@ -109,7 +109,8 @@ fn play_entry<R: ResourceManager + Drop, L: DecisionLog + Drop>(
     }
 }
 
-/// Plays the entries in turn, where these transactions were begun before, and adds those that they begin.
+/// Plays the entries in turn, if these transactions were begun before, and adds those that they
+/// begin.
 pub fn play<R: ResourceManager + Drop, L: DecisionLog + Drop>(
     system: &mut System<R, L>,
     gtrids: &mut Vec<Gtrid>,

@@ -28,7 +28,7 @@ use xa_rm::{MemRm, ResourceManager};
 use xa_scenario_file::Scenario;
 use xa_system::{ResumeFault, System};
 
-/// A trace behind the heading of the process of a number.
+/// A trace after the heading of the process of a number.
 #[tactic(auto, using(xa_files::proofs::Pieces::four_pieces))]
 fn headed(alloc: Global, number: usize, events: &[Event]) -> Result<String, RunFault>
     ensures text { IfOk result (λ text. string_bytes text
@@ -39,7 +39,7 @@ fn headed(alloc: Global, number: usize, events: &[Event]) -> Result<String, RunF
     Ok(format!(in alloc; "process {number}\n{lines}")?)
 }
 
-/// The trace of a process, where it is asked for, behind its number, if it is not the first.
+/// The trace of a process, if it is asked for, after its number, if it is not the first.
 fn trace_text(
     alloc: Global,
     number: Option<usize>,
@@ -103,14 +103,15 @@ fn fates_of<R: ResourceManager + Drop, L: DecisionLog + Drop>(
     Ok(fates)
 }
 
-/// The log that an earlier process has left. Where it has lost it, none can go on.
+/// The log that an earlier process has left. If it has lost it, none can go on.
 fn log_left<L: Drop>(log: Option<L>) -> Result<L, RunFault>
     ensures { result ≡ ok_or log Log }
 {
     log.ok_or(RunFault::Log)
 }
 
-/// The fault of a run in which no process can go on over what is left: as many resource managers as there were.
+/// The fault of a run in which no process can go on over what is left: as many resource managers as
+/// there were.
 fn resume_fault(fault: ResumeFault) -> RunFault
     requires { fault ≢ ResumeFault.Limit }
     ensures log { (result ≡ Log) ↔ ((fault ≡ ResumeFault.Log) ⊎ (fault ≡ ResumeFault.Newer)) }
@@ -151,8 +152,9 @@ fn next_system<R: ResourceManager + Drop, L: DecisionLog + Drop>(
     }
 }
 
-/// A process that has played its scenario: its system, what the names of all files so far stand for, the branches
-/// whose xa_start was accepted in earlier processes, and the text of its trace, which isn't written yet.
+/// A process that has played its scenario: its system, what the names of all files so far stand
+/// for, the branches whose xa_start was accepted in earlier processes, and the text of its trace,
+/// which isn't written yet.
 #[derive(Drop)]
 pub struct Process<R: ResourceManager + Drop, L: DecisionLog + Drop> {
     pub system: System<R, L>,
@@ -176,7 +178,8 @@ fn play_process<R: ResourceManager + Drop, L: DecisionLog + Drop>(
     Ok(())
 }
 
-/// Plays a scenario at a system that has just started, and gives the text of the trace, as `trace_text` does.
+/// Plays a scenario at a system that has just started, and gives the text of the trace, as
+/// `trace_text` does.
 fn text_of_play<R: ResourceManager + Drop, L: DecisionLog + Drop>(
     alloc: Global,
     system: &mut System<R, L>,
@@ -287,7 +290,8 @@ fn add_fates<R: ResourceManager + Drop, L: DecisionLog + Drop>(
     Ok(())
 }
 
-/// The text of the trace of the last process, with what became of the branches of all, and the log that it leaves.
+/// The text of the trace of the last process, with what became of the branches of all, and the log
+/// that it leaves.
 fn last_text<R: ResourceManager + Drop, L: DecisionLog + Drop>(
     alloc: Global,
     last: Process<R, L>,
@@ -307,16 +311,19 @@ fn last_text<R: ResourceManager + Drop, L: DecisionLog + Drop>(
     Ok((text, remains.log))
 }
 
-/// Runs scenarios, each as a process of the manager: the first at new resource managers and over a decision log, and
-/// each later one over the resource managers and the log that the one before it has left. It prints their traces, where
-/// they are asked for, each but the first behind a line with its number; and then a line for each branch whose xa_start
-/// was accepted, those of the first process first and each process's in the order of their identifiers. It gives back
-/// the log that the last process left, if that held one. No scenario prints nothing, and leaves the log as it is.
+/// Runs scenarios, each as a process of the manager: the first at new resource managers and over a
+/// decision log, and each later one over the resource managers and the log that the one before it
+/// has left. It prints their traces, if they are asked for, each but the first after a line with
+/// its number; and then a line for each branch whose xa_start was accepted, those of the first
+/// process first and each process's in the order of their identifiers. It gives back the log that
+/// the last process left, if that held one. No scenario prints nothing, and leaves the log as it
+/// is.
 ///
-/// Log comes where a process can't be started over its log; that is so too where a resource manager holds a branch that
-/// is newer than the log, which has lost what it had. Memory comes where a request was refused outside of a step. Either
-/// leaves the traces of the processes before it. Output comes where a write failed: what was written before it is a
-/// beginning of what is printed otherwise. After a fault the log is dropped.
+/// Log comes if a process can't be started over its log; that is so too if a resource manager holds
+/// a branch that is newer than the log, which has lost what it had. Memory comes if a request was
+/// refused outside of a step. Either leaves the traces of the processes before it. Output comes if
+/// a write failed: what was written before it is a beginning of what is printed otherwise. After a
+/// fault the log is dropped.
 pub fn run_scenarios<L: DecisionLog + Drop, W: Write>(
     alloc: Global,
     scenarios: &[Scenario],

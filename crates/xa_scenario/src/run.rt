@@ -19,14 +19,15 @@ use xa_files::{RunFault, write_text};
 use xa_log::DecisionLog;
 use xa_scenario_file::{Scenario, read_scenario};
 
-/// Runs a scenario file at new resource managers and over a decision log, whatever that holds: the run starts from its
-/// rows and its records, in its next incarnation. It prints a line for each event, where the trace is asked for, and then
-/// a line for each branch whose xa_start was accepted, in the order of their identifiers.
+/// Runs a scenario file at new resource managers and over a decision log, whatever that holds: the
+/// run starts from its rows and its records, in its next incarnation. It prints a line for each
+/// event, if the trace is asked for, and then a line for each branch whose xa_start was accepted,
+/// in the order of their identifiers.
 ///
-/// A file that is no scenario is refused before anything is run, by NotToml, Header or Step. Log comes where the log
-/// can't be started. Memory comes where a request was refused outside of a step; nothing is written then. Output comes
-/// where a write failed: what was written before it is left, and is a beginning of what is printed otherwise. Work
-/// never comes.
+/// A file that is no scenario is refused before anything is run, by NotToml, Header or Step. Log
+/// comes if the log can't be started. Memory comes if a request was refused outside of a step;
+/// nothing is written then. Output comes if a write failed: what was written before it is left, and
+/// is a beginning of what is printed otherwise. Work never comes.
 pub fn run_scenario<L: DecisionLog + Drop, W: Write>(
     alloc: Global,
     text: &[u8],
@@ -84,9 +85,10 @@ fn print_check<W: Write>(alloc: Global, scenario: &Scenario, out: &mut W) -> Res
     write_text(line.as_bytes(), out)
 }
 
-/// Reads a scenario file only, and prints how many threads, resource managers and entries it has, as in `ok 1 1 5`.
+/// Reads a scenario file only, and prints how many threads, resource managers and entries it has,
+/// as in `ok 1 1 5`.
 ///
-/// The faults are those of `run_scenario`, but for Log.
+/// The faults are those of `run_scenario`, except for Log.
 pub fn check_scenario<W: Write>(alloc: Global, text: &[u8], out: &mut W) -> Result<(), RunFault>
     ensures ok { OnOk result (PrintsCheck text.now (W.contents out.old) (W.contents out.new)) }
     ensures fault { IfErr result (λ e. SaysOfReading e (scenario_of text.now)) }

@@ -29,8 +29,8 @@ pub fn rms_of(alloc: Global, count: u32) -> Result<Vec<MemRm>, RunFault>
     Ok(rms)
 }
 
-/// The fault of a run whose system couldn't be started. A scenario is as large as a system can be, and no branch ever was
-/// at its resource managers.
+/// The fault of a run whose system couldn't be started. A scenario is as large as a system can be,
+/// and no branch ever was at its resource managers.
 fn start_fault(fault: NewFault) -> RunFault
     requires limit { fault ≢ NewFault.Limit }
     requires clear { fault ≢ NewFault.NotClear }

@@ -78,7 +78,7 @@ files_end front place earlier all so_far = sym so_far ∙ ap Ok (append-nil fron
 
 -- ** their sizes
 
--- they are of this size, where one was read
+-- they are of this size, if one was read
 abbrev pub AreOfSize : Option (ℕ × ℕ) → List Plan → Type 0
 AreOfSize None plans = plans ≡ []
 AreOfSize (Some size) plans =

@@ -1,5 +1,5 @@
--- The transactions and branches that a table of a scenario file names. The names of the `begin` tables before it are
--- `begun`.
+-- The transactions and branches that a table of a scenario file names. The names of the `begin`
+-- tables before it are `begun`.
 use Rattle.std.specs.Prelude.{ℕ, if◌then◌else◌, List, [], ◌∷◌, codes, Option, Some, None, option_map, position}
 use Rattle.std.specs.Str.{bytes_eq}
 use Rattle.toml.specs.Data.{Members}
@@ -10,7 +10,7 @@ use Rattle.xa_scenario_file.specs.declared.entry.BranchEntry.{BranchEntry}
 abbrev pub BegunNames : Type 0
 BegunNames = List (List ℕ)
 
--- what the table asks for, where it has no other keys than `do` and these
+-- what the table asks for, if it has no other keys than `do` and these
 abbrev pub only : {A : Type 0} → List (List ℕ) → Members → Option A → Option A
 only keys table entry = if has_only (codes "do" ∷ keys) table then entry else None
 
@@ -18,18 +18,18 @@ only keys table entry = if has_only (codes "do" ∷ keys) table then entry else 
 abbrev pub begin_at : BegunNames → Members → Option ℕ
 begin_at begun table = name_at (codes "tx") table >>= λ name. position (bytes_eq name) begun
 
--- the same, where the table has no other key
+-- the same, if the table has no other key
 unfoldable pub only_begin : BegunNames → Members → Option ℕ
 only_begin begun table = only (codes "tx" ∷ []) table (begin_at begun table)
 
--- a branch of such a transaction; its thread is the default, where the table names none
+-- a branch of such a transaction; its thread is the default, if the table names none
 unfoldable pub branch_at : BegunNames → ℕ → Members → Option BranchEntry
 branch_at begun default table = do
   begin ← begin_at begun table
   thread ← index_or default (codes "of") table
   Some (record { begin = begin; thread = thread })
 
--- the same, where `tx` may be missing, and `of` with it
+-- the same, if `tx` may be missing, and `of` with it
 unfoldable pub branch_if_named : BegunNames → ℕ → Members → Option (Option BranchEntry)
 branch_if_named begun default table =
     if holds (codes "tx") table then option_map Some (branch_at begun default table)

@@ -11,7 +11,7 @@ use Rattle.xa_scenario_file.specs.declared.entry.BranchEntry.{BranchEntry}
 use Rattle.xa_scenario_file.specs.declared.entry.Entry.{Entry}
 use Rattle.xa_scenario_file.specs.declared.entry.Entry.TheVariants as entries
 
--- the count, where the table gives one
+-- the count, if the table gives one
 unfoldable pub count_at : Members → Option (Option ℤ)
 count_at table = if holds (codes "count") table then option_map Some (integer_at (codes "count") table) else Some None
 
@@ -19,7 +19,8 @@ count_at table = if holds (codes "count") table then option_map Some (integer_at
 abbrev pub call_keys : List (List ℕ)
 call_keys = codes "thread" ∷ codes "rm" ∷ codes "xa" ∷ codes "tx" ∷ codes "of" ∷ codes "flags" ∷ codes "count" ∷ []
 
--- a call of these parts, with its line; a branch's thread is the call's own, where the table names none
+-- a call of these parts, with its line; a branch's thread is the call's own, if the table names
+-- none
 unfoldable pub call_at : BegunNames → Members → Option (ℕ × ℕ × Call BranchEntry)
 call_at begun table = only call_keys table (do
   thread ← index_at (codes "thread") table

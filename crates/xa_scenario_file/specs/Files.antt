@@ -14,7 +14,8 @@ use Rattle.xa_scenario_file.specs.declared.files.FileFault.{FileFault}
 
 -- ** one file
 
--- what is before a file: how large the system is, where an earlier file said so, and the names begun so far
+-- what is before a file: how large the system is, if an earlier file said so, and the names begun
+-- so far
 pub record Earlier : Type 0 where
   pub size : Option (ℕ × ℕ)
   pub names : BegunNames
@@ -47,7 +48,8 @@ names_of text = do
   header ← header_of document
   Ok (names_with [] header.2)
 
--- the scenario that a text is behind all that, and what is then before the next one; or the first fault
+-- the scenario that a text is after all that, and what is then before the next one; or the first
+-- fault
 unfoldable pub file_after : Earlier → List ℕ → Result (Plan × Earlier) RunFault
 file_after earlier text = do
   document ← document_of text
@@ -65,12 +67,13 @@ abbrev pub with_plan : Plan → Result (List Plan) FileFault → Result (List Pl
 with_plan plan (Ok plans) = Ok (plan ∷ plans)
 with_plan plan (Err fault) = Err fault
 
--- the file of a place, and those that are read behind it
+-- the file of a place, and those that are read after it
 abbrev pub file_then : ℕ → Result (Plan × Earlier) RunFault → (Earlier → Result (List Plan) FileFault) → Result (List Plan) FileFault
 file_then place (Ok read) later = with_plan read.0 (later read.1)
 file_then place (Err fault) later = Err (record { file = place; fault = fault })
 
--- the scenarios that texts are in turn, or the first fault with the place of its text; the first of them has this place
+-- the scenarios that texts are in turn, or the first fault with the place of its text; the first of
+-- them has this place
 unfoldable pub files_from : ℕ → Earlier → List (List ℕ) → Result (List Plan) FileFault
 files_from place earlier [] = Ok []
 files_from place earlier (text ∷ texts) = file_then place (file_after earlier text) (λ next. files_from (place + 1) next texts)

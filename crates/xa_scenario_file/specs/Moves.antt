@@ -13,7 +13,7 @@ line_in_table table = do
   rm ← index_at (codes "rm") table
   Some (thread, rm)
 
--- the same, where the table has no other keys
+-- the same, if the table has no other keys
 unfoldable pub only_line : Members → Option (ℕ × ℕ)
 only_line table = only (codes "thread" ∷ codes "rm" ∷ []) table (line_in_table table)
 

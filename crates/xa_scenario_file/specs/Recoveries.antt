@@ -7,7 +7,8 @@ use Rattle.xa_scenario_file.specs.Flags.{flags_at}
 use Rattle.xa_scenario_file.specs.declared.entry.Entry.{Entry}
 use Rattle.xa_scenario_file.specs.declared.entry.Entry.TheVariants as entries
 
--- whether a scan begins, and whether it ends, by these flags of an xa_recover: TMENDRSCAN and TMSTARTRSCAN
+-- whether a scan begins, and whether it ends, by these flags of an xa_recover: TMENDRSCAN and
+-- TMSTARTRSCAN
 abbrev pub scan_of_flags : ℕ → Option (Bool × Bool)
 scan_of_flags flags =
     if flags == 0 then Some (false, false)
@@ -23,7 +24,7 @@ recover_row table = only (codes "rm" ∷ codes "count" ∷ codes "flags" ∷ [])
   scan ← flags_at table >>= scan_of_flags
   Some (entries.Recover rm count scan.0 scan.1))
 
--- the resource manager, where the table has no other key
+-- the resource manager, if the table has no other key
 unfoldable pub only_rm : Members → Option ℕ
 only_rm table = only (codes "rm" ∷ []) table (index_at (codes "rm") table)
 

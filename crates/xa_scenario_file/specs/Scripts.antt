@@ -1,5 +1,5 @@
--- The tables that tell a resource manager what to do with a branch. The branch's thread is 0, where the table names
--- none.
+-- The tables that tell a resource manager what to do with a branch. The branch's thread is 0, if
+-- the table names none.
 use Rattle.std.specs.Prelude.{[], ◌∷◌, codes, Option, Some}
 use Rattle.toml.specs.Data.{Members}
 use Rattle.xa_files.specs.Fields.{◌>>=◌, index_at, number_at, text_at}

@@ -1,4 +1,5 @@
--- Each table of the steps by itself: what it asks for, after the names that the tables before it begin.
+-- Each table of the steps by itself: what it asks for, after the names that the tables before it
+-- begin.
 use Rattle.std.specs.Prelude.{ℕ, zero, suc, ◌+◌, [], ◌∷◌, ◌++◌, Some, None, Result}
 use Rattle.toml.specs.Data.{Data, Items, no_items, item}
 use Rattle.xa_scenario_file.specs.Branches.{BegunNames}

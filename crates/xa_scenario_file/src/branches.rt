@@ -60,7 +60,7 @@ pub fn branch_at<'a>(
     Ok(BranchEntry { begin, thread })
 }
 
-/// The same, where the table may name none.
+/// The same, if the table may name none.
 #[tactic(auto, unfolding(crate::specs::Branches::branch_if_named))]
 pub fn branch_if_named<'a>(
     table: &'a Table,

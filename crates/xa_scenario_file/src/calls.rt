@@ -78,7 +78,8 @@ fn call_of<'a>(
     }
 }
 
-/// The call of a table that has no other keys, with the thread and the resource manager of its line.
+/// The call of a table that has no other keys, with the thread and the resource manager of its
+/// line.
 #[tactic(auto, unfolding(crate::specs::Calls::call_at))]
 fn call_at<'a>(
     table: &'a Table,

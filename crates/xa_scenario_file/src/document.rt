@@ -115,7 +115,7 @@ fn lent<'a>(alloc: Global, names: &'a [String]) -> Result<Vec<&'a str>, AllocErr
     Ok(texts)
 }
 
-/// What the tables ask for in turn, where these names were begun before.
+/// What the tables ask for in turn, if these names were begun before.
 pub fn entries_of<'a>(
     alloc: Global,
     names: &[String],
@@ -165,7 +165,8 @@ pub fn scenario_in<'a>(alloc: Global, document: &'a Table) -> Result<Scenario, M
 
 /// Reads a scenario file.
 ///
-/// The fault is NotToml, Header or Step, whichever is found first in this order, or Memory where a request was refused.
+/// The fault is NotToml, Header or Step, whichever is found first in this order, or Memory if a
+/// request was refused.
 #[tactic(auto, unfolding(crate::specs::Scenarios::scenario_of))]
 pub fn read_scenario(alloc: Global, text: &[u8]) -> Result<Scenario, RunFault>
     ensures read { Gives plan_of result (scenario_of text.now) }

@@ -37,9 +37,9 @@ pub enum Ending {
     Abandon,
 }
 
-/// One table of a scenario file. Threads and resource managers are numbered from 0, and any number may stand there,
-/// also where the system has no such thread or resource manager. A transaction is named by its `begin` entry, as in
-/// [`BranchEntry`].
+/// One table of a scenario file. Threads and resource managers are numbered from 0, and any number
+/// may stand there, also if the system has no such thread or resource manager. A transaction is
+/// named by its `begin` entry, as in [`BranchEntry`].
 #[derive(Drop)]
 pub enum Entry {
     /// A thread begins a transaction.
@@ -52,8 +52,8 @@ pub enum Entry {
         rm: u32,
         call: Call<BranchEntry>,
     },
-    /// A thread issues a call, the resource manager takes the oldest call that waits, and the manager hears the oldest
-    /// answer.
+    /// A thread issues a call, the resource manager takes the oldest call that waits, and the
+    /// manager hears the oldest answer.
     Call {
         thread: u32,
         rm: u32,
@@ -69,7 +69,8 @@ pub enum Entry {
         thread: u32,
         rm: u32,
     },
-    /// Both, again and again, up to and with the first time that nothing is taken and nothing is heard.
+    /// Both, again and again, up to and with the first time that nothing is taken and nothing is
+    /// heard.
     Drain {
         thread: u32,
         rm: u32,
@@ -100,7 +101,8 @@ pub enum Entry {
     Crash(Part),
     /// What is down is started again.
     Restart(Side),
-    /// As `Resolve`, and the transactions of the page that are neither decided nor claimed are rolled back.
+    /// As `Resolve`, and the transactions of the page that are neither decided nor claimed are
+    /// rolled back.
     ResolveOpen {
         rm: u32,
     },

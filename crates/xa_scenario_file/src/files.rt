@@ -22,7 +22,7 @@ pub struct FileFault {
 /// What is before a file.
 #[derive(Drop)]
 struct Before {
-    /// How many threads and resource managers there are, where an earlier file said so.
+    /// How many threads and resource managers there are, if an earlier file said so.
     size: Option<(u32, u32)>,
     /// The names begun so far.
     names: Vec<String>,
@@ -38,7 +38,7 @@ fn is_alike(size: Option<(u32, u32)>, threads: u32, rms: u32) -> bool
     }
 }
 
-/// Reads a file behind others.
+/// Reads a file after others.
 #[tactic(auto, unfolding(crate::specs::Files::file_after))]
 fn read_after(alloc: Global, before: &mut Before, text: &[u8]) -> Result<Scenario, RunFault>
     ensures read { IfOk result (λ scenario. file_after (earlier_of before.old) text.now
@@ -65,7 +65,7 @@ fn read_after(alloc: Global, before: &mut Before, text: &[u8]) -> Result<Scenari
     })
 }
 
-/// Reads a file behind others, and adds it to them.
+/// Reads a file after others, and adds it to them.
 fn add_scenario(
     alloc: Global,
     before: &mut Before,
@@ -84,11 +84,12 @@ fn add_scenario(
     Ok(())
 }
 
-/// Reads scenario files, each for a process of one system. A transaction that a file begins is known by its name in
-/// the later files, which begin no such name anew; and all have the first file's threads and resource managers.
+/// Reads scenario files, each for a process of one system. A transaction that a file begins is
+/// known by its name in the later files, which begin no such name anew; and all have the first
+/// file's threads and resource managers.
 ///
-/// The fault is that of the first faulty file, with its place: NotToml, Header, also where its sizes are not those of the
-/// first file, or Step; or Memory where a request was refused.
+/// The fault is that of the first faulty file, with its place: NotToml, Header, also if its sizes
+/// are not those of the first file, or Step; or Memory if a request was refused.
 pub fn read_scenarios(alloc: Global, texts: &[Vec<u8>]) -> Result<Vec<Scenario>, FileFault>
     ensures read { IfOk result (λ scenarios. scenarios_of (map (λ text. text.items) texts.now)
         ≡ Ok (map plan_of scenarios.items)) }

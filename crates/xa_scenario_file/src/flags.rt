@@ -58,7 +58,7 @@ fn flags_of(items: &[Value]) -> Result<u32, Finding<'_>>
     Ok(flags)
 }
 
-/// The flags that the table names; none, where it has no such key.
+/// The flags that the table names; none, if it has no such key.
 #[tactic(auto, unfolding(crate::specs::Flags::flags_at))]
 pub fn flags_at(table: &Table) -> Result<u32, Finding<'_>>
     ensures { result_ok result ≡ flags_at (table_view table.now) }

@@ -1,8 +1,9 @@
-//! Scenario files: what they ask of the resource managers of distributed transactions, and how they are read. `xa_scenario` runs what is read here.
-//! The functions of [`laws`] do nothing: their contracts are theorems on what is read.
+//! Scenario files: what they ask of the resource managers of distributed transactions, and how they
+//! are read. `xa_scenario` runs what is read here. The functions of [`laws`] do nothing: their
+//! contracts are theorems on what is read.
 //!
-//! "XA" in these pages is X/Open CAE Specification C193, "Distributed Transaction Processing: The XA Specification"
-//! (1991).
+//! "XA" in these pages is X/Open CAE Specification C193, "Distributed Transaction Processing: The
+//! XA Specification" (1991).
 #![tactic(auto)]
 
 mod begins;

@@ -29,7 +29,7 @@ put_off_kept k b n = refl
 end_kept : (k : Book) (b : Branch) (how : How) → k ≡ after k (CompletedAlone b how)
 end_kept k b how = refl
 
--- a session that stood before it stands behind it
+-- a session that stood before it stands after it
 pub alone_stands : {L : Type 0} (s : Session L) (tr now : Trace) → Alone tr now → StandsIn tr s → StandsIn now s
 alone_stands s tr _ NoMore stands = stands
 alone_stands s tr _ (Votes now b v a) stands =

@@ -1,4 +1,4 @@
--- What is left of a session where the log may have been asked.
+-- What is left of a session if the log may have been asked.
 use Rattle.std.proofs.Common.{◌≡◌, ◌≢◌, ℕ, ◌+◌, ◌⊎◌, inl, inr, true, false, List, length, Option, Some, None, refl, sym, ap, ◌∙◌, subst}
 use Rattle.std.specs.Prelude.{Result, Ok, Err, OnOk, IfErr}
 use Rattle.xa_base.specs.declared.refusal.Refusal.{Refusal}
@@ -111,7 +111,7 @@ module _ {L : Type 0} (old new : Session L) (m : Manager L) (counted : ℕ) wher
       kept_stays q done (λ b. ap (λ n. states_of n b) monitor)
       (refused_or why _ _ (λ n is. ap book_in (refused n is).1) (λ none. book_kept asked f q (err none) not)) (log not) not)
 
-  -- and its book is as its manager left it, where no rule refuses
+  -- and its book is as its manager left it, if no rule refuses
   pub concluded_err : (why session_why : Option Refusal) (asked : Doubt) (f : Fault) (reply result : Result (Unit {0}) Refusal) → session_why ≡ why
       → Concludes reply → result ≡ reply → (why ≡ None → IfErr reply (FailsBy asked f (book_in old.manager) (book_in m)))
       → session_why ≡ None → IfErr result (FailsBy asked f (book_in old.manager) (book_in new.manager))

@@ -66,7 +66,7 @@ module _ (tr : Trace) (k : Book) (stands : BookStands tr k) where
 
 -- ** a start
 
--- its rows and records are old, where its book's are
+-- its rows and records are old, if its book's are
 pub old_log : (o : Origin) → IsOld (book_of (From o)) → HasOnlyOlderRows o
 old_log o old = record {
   rows_old = λ g lists. old.rows g (has_row_is (From o) g ∙ lists);

@@ -1,5 +1,5 @@
--- A start over the log of a session whose log failed as a heuristic end was to be recorded finds what the session left behind the answer, or
--- before it.
+-- A start over the log of a session whose log failed as a heuristic end was to be recorded finds
+-- what the session left after the answer, or before it.
 use Rattle.std.proofs.Common.{◌≡◌, ◌⊎◌, inl, inr, ℕ, Bool, true, false, Option, Some, None, refl, sym, ap, ◌∙◌, subst, length}
 use Rattle.std.specs.Prelude.{if◌then◌else◌, slice_get}
 use Rattle.std.specs.Option.{option_map}
@@ -91,7 +91,7 @@ record_is (Calls.Commit b one_phase) (Ret (Codes.Heuristic how)) = inr (record {
 record_is (Calls.Rollback b) (Ret (Codes.Heuristic how)) = inr (record { branch = b; how = how }, refl)
 record_is _ _ = inl refl
 
--- what the book says behind the answer, a content with its record has
+-- what the book says after the answer, a content with its record has
 heard_holds : (k : Book) (l : Line) (c : Call) (a : Answer) (d : Content) → HoldsBook k d
     → HoldsBook (after k (Heard l c a)) (changed_by (doubt_of (record_of c a)) d)
 heard_holds k l c a d holds = by (record_is c a)
@@ -114,7 +114,7 @@ module _ (k : Book) (l : Line) (c : Call) (a : Answer) (up : k.up ≡ true) (con
   abbrev failed : Book
   failed = book_after k (doubt_of (record_of c a)) (Failed (InHear l))
 
-  -- so a log has what the book says behind the answer, or what it said before it
+  -- so a log has what the book says after the answer, or what it said before it
   pub either_has : Has failed content → Has (after k (Heard l c a)) content ⊎ Has k content
   either_has has = by has.holds
     where
@@ -138,7 +138,7 @@ module _ (k : Book) (l : Line) (c : Call) (a : Answer) (up : k.up ≡ true) (con
 -- ** what a start finds
 
 module _ {L : Type 0} (o : Origin) (seen : Seen) (s : Session L) (l : Line) (c : Call) (a : Answer) (keeps : KeepsTrack o seen s) where
-  -- the book behind the answer is that of each right history of it
+  -- the book after the answer is that of each right history of it
   heard_book : (tr : Trace) → IsHistory o (Answered seen l c a) tr → IsRun tr → BookStands tr (after (book_in s.manager) (Heard l c a))
   heard_book _ (Hears _ tr now _ _ _ history alone) run =
       let stands = alone_stands s tr now alone (keeps.1 tr history (alone_ran tr now alone run.0.0)) in

@@ -63,7 +63,7 @@ each_chosen P p (g ∷ gs) h = by (p g) refl (each_chosen P p gs h.2)
     by true e rest = ((h.0, e), named_filter p gs g h.1, rest)
     by false e rest = rest
 
--- a decision that is right behind another was right before it, and is of another transaction
+-- a decision that is right after another was right before it, and is of another transaction
 live_back : (b x c r h : Bool) → (b && not ((x || c) || (r || h))) ≡ true → (x ≡ false) × ((b && not (c || (r || h))) ≡ true)
 live_back true false c r h e = (refl, e)
 live_back true true c r h e = absurd (cc)
@@ -213,7 +213,7 @@ participants_stay h g (x ∷ rows) apart = by (gtrid_eq x.gtrid h) refl (partici
     by true p rest = rest ∙ sym (ap (λ u. if u then x.participants else participants_in rows g) (ap (λ y. gtrid_eq y g) (gtrid_eq-true x.gtrid h p) ∙ apart))
     by false p rest = ap (λ xs. if gtrid_eq x.gtrid g then x.participants else xs) rest
 
--- what is right behind another is right before it, and is of another transaction
+-- what is right after another is right before it, and is of another transaction
 done_back : (tr : Trace) (h g : Gtrid) → RightDone (Then tr (Done h)) g → RightDone tr g × (gtrid_eq g h ≡ false)
 done_back tr h g r = (record { is_up = r.is_up; has = has; is_settled = by r.is_settled }, gtrid_away h g apart)
   where

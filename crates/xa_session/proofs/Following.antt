@@ -82,7 +82,7 @@ stands_in tr s k grid book lines stands =
       lines = there.lines;
     }
 
--- where a happening of the manager alone, or of a resource manager by itself, leads
+-- if a happening of the manager alone, or of a resource manager by itself, leads
 pub own_goes : (tr : Trace) (e : Happening) (k : Book) (grid : Grid) → StandsWith tr k grid → Right tr e → IsOwn tr e → MayFollow k e
     → StandsWith (Then tr e) (after k e) grid
 own_goes tr e k grid stands right is may = record {
@@ -165,7 +165,7 @@ module _ {L : Type 0} (old new : Session L) where
       own_follows (Steps.Abandon g) Replies.Decided tt (λ tr. refl) none (λ tr stands. refl) (λ tr. own_decided tr g Outcomes.Rollback)
       (begun_if_abandoned (book_in old.manager) g none) book lines
 
-  -- where the log may have been asked, and didn't fail
+  -- if the log may have been asked, and didn't fail
   pub follows_if_ok : (why : Option Refusal) (es : List Happening) (m : Manager L) (reply result : Result (Unit {0}) Refusal) (counted : ℕ)
       → counted ≡ length es → new.happenings ≡ happenings_by reply counted old.happenings → result ≡ reply
       → new.manager ≡ m → new.lines ≡ lines_by reply old.lines → OnOk reply (why ≡ None)

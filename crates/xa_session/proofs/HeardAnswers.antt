@@ -35,7 +35,7 @@ first_is : {A : Type 0} (xs : List A) (x : A) → slice_get xs 0 ≡ Some x → 
 first_is [] x e = absurd (cc)
 first_is (y ∷ ys) x e = (ys, ap (λ z. z ∷ ys) (some_is y x e))
 
--- where no answer waits, each was heard
+-- if no answer waits, each was heard
 none_unheard : (tr : Trace) (l : Line) (at : Traffic) → LineStands tr l at → at.answers.waiting ≡ []
     → length (facts.heard tr l) ≡ length (facts.taken tr l)
 none_unheard tr l at stands none =

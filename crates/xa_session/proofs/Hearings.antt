@@ -39,8 +39,8 @@ none_is x e = absurd (cc)
 fits_on : (a : Asked) (b : Branch) (code : Code) → branch_asked a ≡ Some b → fits_row b.gtrid ≡ true → FitsRecord a (Ret code)
 fits_on a b code e fits = λ q is how. subst (λ x. FitsRow x.gtrid) (some_is b q (sym e ∙ is)) (row_fits b.gtrid fits)
 
--- what the manager then asks: the answer is one to the call, makes no record that the log can't hold, and a history knows the call, which
--- has such answers
+-- what the manager then asks: the answer is one to the call, makes no record that the log can't
+-- hold, and a history knows the call, which has such answers
 pub record IsHearable (a : Asked) (answer : Answer) : Type 0 where
   pub answers : IsAnswerTo a answer
   pub fits : FitsRecord a answer

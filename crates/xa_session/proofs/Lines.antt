@@ -31,7 +31,7 @@ use Rattle.xa_session.specs.declared.session.Session.{Session}
 lt_is : (m n : ℕ) → nat_lt m n ≡ true → m < n
 lt_is m n e = grind (arith, nat_tests, e)
 
--- what is so where a line may be told of
+-- what is so if a line may be told of
 pub record MayTell {L : Type 0} (s : Session L) (t r : ℕ) : Type 0 where
   pub free : is_over s ≡ false
   pub there : grid_has_line s.lines t r ≡ true
@@ -79,7 +79,8 @@ pub none_second : {A : Type 0} (o p : Option A) → option_or o p ≡ None → p
 none_second None p e = e
 none_second (Some x) p e = absurd (cc)
 
--- what the table says of a call: what it does of its line, what that line says, what the book does, and that there is room
+-- what the table says of a call: what it does of its line, what that line says, what the book does,
+-- and that there is room
 pub issue_rule : {L : Type 0} (s : Session L) (t r : ℕ) (call : Call Xid) → issue_refusal s t r call
     ≡ option_or (line_refusal s t r)
     (option_or (barred (calls_issued (line_at s.lines t r)) call)
@@ -114,7 +115,7 @@ full_is n = by (nat_le places n) refl
     by true e = grind (arith, nat_tests, e)
     by false e = grind (arith, nat_tests, e)
 
--- what is so where a call may wait
+-- what is so if a call may wait
 pub record MayIssue {L : Type 0} (s : Session L) (t r : ℕ) (call : Call Xid) : Type 0 where
   pub tell : MayTell s t r
   pub bar : barred (calls_issued (line_at s.lines t r)) call ≡ None
@@ -181,7 +182,7 @@ recovery_rule s r n =
     by false false true true true false true = refl
     by false false true true true false false = refl
 
--- what is so where one may begin
+-- what is so if one may begin
 pub may_recover : {L : Type 0} (s : Session L) (r n : ℕ) → recovery_refusal s r n ≡ None
     → (line_refusal s 0 r ≡ None) × (recovery_bar (line_at s.lines 0 r) n ≡ None)
 may_recover s r n none =

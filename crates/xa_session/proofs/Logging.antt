@@ -55,7 +55,7 @@ same_released k l g is = subst (SameOfLog k) (sym is)
 
 -- ** what a crash may leave
 
--- of a log in order that holds something, just that
+-- of a log in order that holds something, exactly that
 abbrev pub IsDurable : {L : Type 0} → (L → Moment) → Type 0
 IsDurable moment = (log : _) (c d : Content) → (moment log).is_in_order → (moment log).content ≡ Some c → (moment log).may_leave d → d ≡ c
 
@@ -81,7 +81,7 @@ module _ {L : Type 0} (moment : L → Moment) where
   pub kept_as : (old new : Manager L) → new ≡ old → KeepsLog moment old new
   kept_as old new is = subst (KeepsLog moment old) (sym is) (kept old)
 
-  -- one step behind another
+  -- one step after another
   pub both_keep : (a b c : Manager L) → KeepsLog moment a b → KeepsLog moment b c → KeepsLog moment a c
   both_keep a b c first second = record {
     order = λ h. second.order (first.order h);

@@ -22,7 +22,7 @@ use Rattle.xa_session.proofs.Books.{book_goes, up_alike}
 use Rattle.xa_session.proofs.Lines.{MayTell}
 use Rattle.xa_session.proofs.WaitingCalls.{first_waits}
 
--- a session stands in a history but for one line
+-- a session stands in a history except for one line
 record StandsBeside {L : Type 0} (tr : Trace) (t r : ℕ) (s : Session L) : Type 0 where
   run : IsRun tr
   apart : ApartRows (facts.origin tr).rows
@@ -45,7 +45,7 @@ beside tr t r s stands = record {
   others = λ u q has apart. stands.lines u q has;
 }
 
--- the same where a call on that line was done, and its answer not heard
+-- the same if a call on that line was done, and its answer not heard
 beside_taken : {L : Type 0} (tr : Trace) (t r : ℕ) (s : Session L) (k : Call) (a : KnownAnswer) → StandsIn tr s → Right tr (Took (line t r) k a)
     → StandsBeside (Then tr (Took (line t r) k a)) t r s
 beside_taken tr t r s k a stands right = record {

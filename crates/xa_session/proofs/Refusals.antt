@@ -47,7 +47,7 @@ pub if_there : (t : Bool) (x : Option Refusal) (r : Refusal) → (if t then x el
 if_there true x r e = e
 if_there false x r e = absurd (cc)
 
--- where a transaction may begin, the manager is up
+-- if a transaction may begin, the manager is up
 pub up_if_begins : (k : Book) (t : ℕ) → service_refusal_in k t ≡ None → k.up ≡ true
 up_if_begins k t none = if_up k.up (if_there _ _ _ none)
   where

@@ -54,7 +54,7 @@ room_parts false true e = (refl, refl)
 room_parts false false e = absurd (cc)
 room_parts true fits e = absurd (cc)
 
--- where there is room for some, it isn't over
+-- if there is room for some, it isn't over
 pub room_free : {L : Type 0} (s : Session L) (n : ℕ) → has_room_for s n ≡ true → is_over s ≡ false
 room_free s n e = (room_parts (is_over s) (nat_le n (first_headroom - s.happenings)) e).0
 
@@ -64,7 +64,7 @@ room_fits s n e = fits n (first_headroom - s.happenings) (room_parts (is_over s)
     fits : (a b : ℕ) → nat_le a b ≡ true → a ≤ b
     fits a b e = grind (arith, nat_tests, e)
 
--- where it isn't over, there is room for one
+-- if it isn't over, there is room for one
 pub room_for_one : {L : Type 0} (s : Session L) → is_over s ≡ false → has_room_for s 1 ≡ true
 room_for_one s free = by (nat_le 1 (first_headroom - s.happenings)) refl
   where
@@ -117,11 +117,11 @@ same_leaves old new ready count is lines = record {
   heard = subst AllHeard (sym lines) ready.heard;
 }
 
--- where it isn't over, one more may happen
+-- if it isn't over, one more may happen
 pub has_few : {L : Type 0} (s : Session L) → is_over s ≡ false → s.happenings < first_headroom
 has_few s e = not_over first_headroom s.happenings e
 
--- where it isn't over, it refuses as the table says
+-- if it isn't over, it refuses as the table says
 pub refusal_is : {L : Type 0} (s : Session L) (step : Step) → is_over s ≡ false
     → refusal_at s step ≡ refusal_of (view_in (book_in s.manager)) (lines_seen s) step
 refusal_is s step e = ap (λ t. if t then Some Limit else refusal_of (view_in (book_in s.manager)) (lines_seen s) step) e
@@ -137,7 +137,7 @@ never_the_log s step e = by (is_over s) e
     by true e = absurd (cc)
     by false e = forced_of (view_in (book_in s.manager)) (lines_seen s) step LogFault e
 
--- and so of several, where there is room for them
+-- and so of several, if there is room for them
 pub refusal_of_all_is : {L : Type 0} (s : Session L) (of_manager : Book → List Gtrid → Option Refusal) (gs : List Gtrid)
     → has_room_for s (length gs) ≡ true → refusal_of_all s of_manager gs ≡ of_manager (book_in s.manager) gs
 refusal_of_all_is s of_manager gs e = ap (λ t. if t then of_manager (book_in s.manager) gs else Some Limit) e

@@ -51,7 +51,7 @@ history_back o seen (e ∷ es) now h =
     last_did : (tr : Trace) → IsHistory o (Did seen e) tr → (before : Trace) × IsHistory o seen before × (tr ≡ Then before e)
     last_did _ (Does _ tr _ h) = (tr, h, refl)
 
--- what is right behind a history is right
+-- what is right after a history is right
 run_back : (tr : Trace) (es : List Happening) → IsRun (then_all tr es) → IsRun tr
 run_back tr [] run = run
 run_back tr (e ∷ es) run = (run_back (Then tr e) es run).0
@@ -136,7 +136,7 @@ calls_tracked o seen s keeps t r n lt lr tr history run =
     let there : grid_has_line s.lines t r ≡ true = λ i. lt_so t s.lines.threads of_threads i && lt_so r s.lines.rms of_rms i in
     call_waits s tr t r n stands (of_threads, of_rms) there
 
--- it stands wherever it stood, where it stays as it was
+-- it stands wherever it stood, if it stays as it was
 stays_there : {L : Type 0} (old new : Session L) → StaysAs old new → (tr : Trace) → StandsIn tr old → StandsIn tr new
 stays_there old new stays tr stands = record {
   run = stands.run;

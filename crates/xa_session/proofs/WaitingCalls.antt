@@ -31,13 +31,13 @@ first_waits s tr t r stands has there =
     known_first known_call (slice_get at.calls.waiting 0) _ (next_call_waits tr (line t r) at (stands.lines t r has))
     ∙ ap (λ b. option_and_then known_call (if b then slice_get at.calls.waiting 0 else None)) (sym there)
 
--- so many items further on, behind those that are gone
+-- so many items further on, after those that are gone
 get_behind : {A : Type 0} (xs ys : List A) (n : ℕ) → slice_get (xs ++ ys) (length xs + n) ≡ slice_get ys n
 get_behind [] ys n = ap (slice_get ys) (let same : 0 + n ≡ n = omega arith in same)
 get_behind (x ∷ xs) ys n =
     ap (slice_get (x ∷ (xs ++ ys))) (let same : suc (length xs) + n ≡ suc (length xs + n) = omega arith in same) ∙ get_behind xs ys n
 
--- and so does each call behind it
+-- and so does each call after it
 pub call_waits : {L : Type 0} (s : Session L) (tr : Trace) (t r n : ℕ) → StandsIn tr s → HasLine s.lines t r → grid_has_line s.lines t r ≡ true
     → waiting_call_at tr (line t r) n ≡ known_at s.lines t r n
 call_waits s tr t r n stands has there =

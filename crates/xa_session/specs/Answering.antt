@@ -31,11 +31,13 @@ module _ {L : Type 0} where
     pub has : HasAnswer c answer
     pub follows : FollowsAnswer (line thread rm) c answer old new
 
-  -- that call was answered so, and isn't heard: memory was refused, or the log failed as the end was to be noted there
+  -- that call was answered so, and isn't heard: memory was refused, or the log failed as the end
+  -- was to be noted there
   abbrev pub FailsToHear : (thread rm : ℕ) → Call → Answer → (old new : Session L) → Refusal → Type 0
   FailsToHear t r c answer old new n =
       FailsBy (doubt_of (record_of c answer)) (InHear (line t r)) (book_in old.manager) (book_in new.manager) n
 
--- what an answer may be unfit for that the session and the call allow: no state explains it, memory was refused, or the log failed
+-- what an answer may be unfit for that the session and the call allow: no state explains it, memory
+-- was refused, or the log failed
 abbrev pub IsFoundLater : Unfit → Type 0
 IsFoundLater u = ((n : Refusal) × (u ≡ Unfits.Refused n)) ⊎ ((b : Branch) × (u ≡ Unfits.NoSuchState b))

@@ -1,4 +1,5 @@
--- How much more may happen before the numbers of a book are too great, whatever the resource managers answer.
+-- How much more may happen before the numbers of a book are too great, whatever the resource
+-- managers answer.
 use Rattle.std.specs.Prelude.{ℕ, ◌≡◌, ◌<◌, ◌≤◌, ◌+◌, ◌-◌, ◌^◌, ◌⊎◌, true, IsSome}
 use Rattle.xa_base.specs.declared.branch.Gtrid.{Gtrid}
 use Rattle.xa_log.specs.Content.{last_number}
@@ -31,8 +32,8 @@ pub record HasHeadroom (n : ℕ) (k : Book) : Type 0 where
   -- what is begun was numbered
   pub begun_past : (g : Gtrid) → (k.transaction g).begun ≡ true → IsNumbered k g
 
--- It may happen while the manager stays the one that was started: numbers are given in turn, and what is decided is begun. An answer
--- may be any.
+-- It may happen while the manager stays the one that was started: numbers are given in turn, and
+-- what is decided is begun. An answer may be any.
 abbrev pub MayHappen : Book → Happening → Type 0
 MayHappen k (Begun g) = g ≡ record { incarnation = k.incarnation; sequence = k.sequence + 1 }
 MayHappen k (Decided g o) = (k.transaction g).begun ≡ true

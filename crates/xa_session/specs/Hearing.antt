@@ -28,7 +28,7 @@ abbrev pub is_ok : Answer → Bool
 is_ok (Ret Success) = true
 is_ok answer = false
 
--- so many are no more than were asked for; none are, where the count is negative
+-- so many are no more than were asked for; none are, if the count is negative
 abbrev pub is_at_most : (count : ℤ) → ℕ → Bool
 is_at_most (pos most) n = nat_le n most
 is_at_most count n = false
@@ -39,7 +39,7 @@ is_scan_of count (Page names) = is_at_most count (length names)
 is_scan_of count (Ret Invalid) = true
 is_scan_of count (Ret code) = false
 
--- an answer to a call on a branch: a code, where the branch is one of this manager's
+-- an answer to a call on a branch: a code, if the branch is one of this manager's
 abbrev pub is_code_on : Name → Answer → Bool
 is_code_on name (Ret code) = is_ours name
 is_code_on name (Page names) = false

@@ -10,19 +10,20 @@ use Rattle.xa_tm.specs.Calls.{book_in, log_in}
 use Rattle.xa_tm.specs.Started.{IsStartedOver}
 use Rattle.xa_tm.specs.declared.manager.Manager.{Manager}
 
--- these rows or, where a change of them is in doubt, these with all of it
+-- these rows or, if a change of them is in doubt, these with all of it
 abbrev pub HasAllOrNone : Doubt → (Gtrid → Option Waiting) → Content → Type 0
 HasAllOrNone doubt row c = ((g : Gtrid) → get c.decisions g ≡ row g) ⊎ ((g : Gtrid) → get c.decisions g ≡ row_with doubt g (row g))
 
 module _ {L : Type 0} (moment : L → Moment) where
-  -- The log has what the book says: just that while the manager is up and, once the log has failed, that with or without the change in
-  -- doubt, of which all was made or nothing. So has each content that a crash of its store may leave.
+  -- The log has what the book says: exactly that while the manager is up and, once the log has
+  -- failed, that with or without the change in doubt, of which all was made or nothing. So has each
+  -- content that a crash of its store may leave.
   pub record HoldsItsBook (near : Bool) (m : Manager L) : Type 0 where
     pub tied : IsTied near (book_in m) (moment (log_in m)).content
     pub left : (c : Content) → (moment (log_in m)).may_leave c → IsTied near (book_in m) (Some c)
 
-  -- A step of the session, of one incarnation: the log stays in order, and where it has been honest up to now, it has what the book says
-  -- now, if it had what the book said.
+  -- A step of the session, of one incarnation: the log stays in order, and if it has been honest up
+  -- to now, it has what the book says now, if it had what the book said.
   pub record KeepsLog (old new : Manager L) : Type 0 where
     pub order : (moment (log_in old)).is_in_order → (moment (log_in new)).is_in_order
     pub honest : (moment (log_in new)).is_honest → (moment (log_in old)).is_honest
@@ -35,7 +36,8 @@ module _ {L : Type 0} (moment : L → Moment) where
   abbrev pub LeavesContent : Manager L → Content → Type 0
   LeavesContent m c = ((moment (log_in m)).content ≡ Some c) ⊎ (moment (log_in m)).may_leave c
 
-  -- it has the rows of the book and, once the log has failed, all those that are in doubt with them, or none
+  -- it has the rows of the book and, once the log has failed, all those that are in doubt with
+  -- them, or none
   abbrev pub LogsHaveAllOrNone : Type 0
   LogsHaveAllOrNone = (near : Bool) (m : Manager L) (c : Content) → HoldsItsBook near m → LeavesContent m c
       → HasAllOrNone (book_in m).doubt (book_in m).row c
@@ -48,7 +50,8 @@ module _ {L : Type 0} (moment : L → Moment) where
     pub content : (moment handed).content ≡ Some c
     pub over : IsStartedOver moment threads rms (moment handed) next
 
-  -- It is of a later incarnation, so that no identifier comes twice, and its rows are those that were left.
+  -- It is of a later incarnation, so that no identifier comes twice, and its rows are those that
+  -- were left.
   abbrev pub LaterSessionsAreNewer : Type 0
   LaterSessionsAreNewer =
       (last next : Manager L) (handed : L) (c : Content) → HoldsItsBook true last → StartsBehind last handed next c

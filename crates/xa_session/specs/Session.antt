@@ -57,7 +57,8 @@ lines_seen s = record (lines_in s.lines) {
   resolving_open = λ r. length (resolved_open_in (book_in s.manager) r);
 }
 
--- why it refuses a step, the first reason that applies: that so much has happened, or what the table of refusals says
+-- why it refuses a step, the first reason that applies: that so much has happened, or what the
+-- table of refusals says
 abbrev pub refusal_at : {L : Type 0} → Session L → Step → Option Refusal
 refusal_at s step = if is_over s then Some Limit else refusal_of (view_in (book_in s.manager)) (lines_seen s) step
 
@@ -65,8 +66,8 @@ refusal_at s step = if is_over s then Some Limit else refusal_of (view_in (book_
 abbrev pub has_room_for : {L : Type 0} → Session L → ℕ → Bool
 has_room_for s n = not (is_over s) && nat_le n (first_headroom - s.happenings)
 
--- why it refuses steps that ask no line, one for each of these transactions and in turn, by why the manager does: the first
--- reason that applies
+-- why it refuses steps that ask no line, one for each of these transactions and in turn, by why the
+-- manager does: the first reason that applies
 abbrev pub refusal_of_all : {L : Type 0} → Session L → (of_manager : Book → List Gtrid → Option Refusal) → List Gtrid → Option Refusal
 refusal_of_all s of_manager gs = if has_room_for s (length gs) then of_manager (book_in s.manager) gs else Some Limit
 
@@ -84,20 +85,21 @@ begin_refusal s t = if is_over s then Some Limit else service_refusal_in (book_i
 
 -- ** what a call of the manager leaves that may ask the log
 
--- how much has happened, where so much does if it succeeds: no refusal is a happening, but a failure of the log is
+-- how much has happened, if so much does if it succeeds: no refusal is a happening, but a failure
+-- of the log is
 abbrev pub happenings_by : {A : Type 0} → Result A Refusal → (count : ℕ) → ℕ → ℕ
 happenings_by (Ok x) count n = n + count
 happenings_by (Err LogFault) count n = n + 1
 happenings_by _ count n = n
 
--- the lines: where the log failed, the manager is down and all of them broke
+-- the lines: if the log failed, the manager is down and all of them broke
 abbrev pub lines_by : {A : Type 0} → Result A Refusal → Grid → Grid
 lines_by (Err LogFault) g = new_grid g.threads g.rms
 lines_by _ g = g
 
 -- ** what it refuses of a line
 
--- the call that waits first on the line; none where the session has no such line
+-- the call that waits first on the line; none if the session has no such line
 abbrev pub first_waiting : Grid → (thread rm : ℕ) → Option (Call Xid)
 first_waiting g t r = if grid_has_line g t r then slice_get (line_at g t r).calls.waiting 0 else None
 
@@ -105,7 +107,7 @@ first_waiting g t r = if grid_has_line g t r then slice_get (line_at g t r).call
 abbrev pub known_waiting : Grid → (thread rm : ℕ) → Option KnownCall
 known_waiting g t r = option_and_then known (first_waiting g t r)
 
--- the call that waits on the line behind so many others, as a history knows it
+-- the call that waits on the line after so many others, as a history knows it
 abbrev pub known_at : Grid → (thread rm : ℕ) → ℕ → Option KnownCall
 known_at g t r n = option_and_then known (if grid_has_line g t r then slice_get (line_at g t r).calls.waiting n else None)
 
@@ -126,13 +128,15 @@ is_scan call = false
 abbrev pub awaits_page : Traffic → Bool
 awaits_page t = is_scan (slice_get t.calls.waiting 0)
 
--- while a page is awaited, a recovery is Busy: before Full, which comes after it in the order of the refusals, and if nothing else applies
+-- while a page is awaited, a recovery is Busy: before Full, which comes after it in the order of
+-- the refusals, and if nothing else applies
 abbrev pub behind_page : (awaited : Bool) → Option Refusal → Option Refusal
 behind_page true None = Some Busy
 behind_page true (Some Full) = Some Busy
 behind_page awaited why = why
 
--- why it refuses a recovery of so many calls at a resource manager, which goes over the line of the first thread
+-- why it refuses a recovery of so many calls at a resource manager, which goes over the line of the
+-- first thread
 abbrev pub recovery_refusal : {L : Type 0} → Session L → (rm calls : ℕ) → Option Refusal
 recovery_refusal s r n =
     behind_page (awaits_page (line_at s.lines 0 r))
@@ -157,7 +161,8 @@ abbrev pub unfit : {L : Type 0} → Session L → (thread rm : ℕ) → Answer X
 unfit s t r answer =
     option_or (option_map Unfits.Refused (line_refusal s t r)) (unfit_for (slice_get (line_at s.lines t r).calls.waiting 0) answer)
 
--- the states of the branch, as the session knows them, explain such an answer to the call that waits first on the line
+-- the states of the branch, as the session knows them, explain such an answer to the call that
+-- waits first on the line
 abbrev pub BranchExplains : {L : Type 0} → Session L → (thread rm : ℕ) → Answer Xid → Branch → Type 0
 BranchExplains s t r answer b =
     (c : KnownCall) → known_waiting s.lines t r ≡ Some c → CanExplain (states_of s.monitor) (line t r) c (map_answer name_of answer) b
@@ -168,7 +173,8 @@ IsExplainable s t r answer = (b : Branch) → IsSomewhere (states_of s.monitor) 
 
 -- ** recoveries
 
--- calls wait last on the first thread's line to a resource manager, which a history knows as these. No other line changed
+-- calls wait last on the first thread's line to a resource manager, which a history knows as these.
+-- No other line changed
 pub record LetsWait (rm : ℕ) (known : List KnownCall) (old new : Grid) : Type 0 where
   pub calls : List (Call Xid)
   pub are : AreKnownAs calls known

@@ -33,19 +33,22 @@ use Rattle.xa_session.specs.declared.session.answers.Unfit.TheVariants as Unfits
 -- ** rules, and what happens
 
 module _ {L A : Type 0} where
-  -- A step of the manager, or none. A rule that refuses it changes nothing, and the first that applies is told.
+  -- A step of the manager, or none. A rule that refuses it changes nothing, and the first that
+  -- applies is told.
   pub record ObeysRules (why : Option Refusal) (old new : Session L) (result : Result A Refusal) : Type 0 where
     pub refused : (n : Refusal) → why ≡ Some n → (result ≡ Err n) × (new ≡ old)
     pub allowed : OnOk result (why ≡ None)
 
-  -- No line changed, and not the log. Where no rule refuses, only want of memory does, and all stays as it was.
+  -- No line changed, and not the log. If no rule refuses, only want of memory does, and all stays
+  -- as it was.
   pub record IsQuiet (why : Option Refusal) (old new : Session L) (result : Result A Refusal) : Type 0 where
     pub memory : why ≡ None → IfErr result (λ n. n ≡ Refusals.Memory)
     pub stays : OnErr result (StaysAs old new)
     pub log : log_in new.manager ≡ log_in old.manager
     pub lines : new.lines ≡ old.lines
 
-  -- The log may have been asked. Where no rule refuses, it fails so. All stays as it was unless the log failed; then all lines are new.
+  -- The log may have been asked. If no rule refuses, it fails so. All stays as it was unless the
+  -- log failed; then all lines are new.
   pub record AsksLog (why : Option Refusal) (Fails : (old new : Book) → Refusal → Type 0) (old new : Session L) (result : Result A Refusal) : Type 0 where
     pub fails : why ≡ None → IfErr result (Fails (book_in old.manager) (book_in new.manager))
     pub stays : IfErr result (λ n. n ≢ Refusals.LogFault → StaysAs old new)
@@ -53,7 +56,8 @@ module _ {L A : Type 0} where
     -- a failure of the log is counted as one that happened
     pub fault_counted : result ≡ Err Refusals.LogFault → new.happenings ≡ old.happenings + 1
 
--- these happened in turn: they were right to, wherever the session stood, and the book is what they lead to
+-- these happened in turn: they were right to, wherever the session stood, and the book is what they
+-- lead to
 pub record HappenInTurn {L : Type 0} (es : List Happening) (old new : Session L) : Type 0 where
   pub book : book_in new.manager ≡ after_all (book_in old.manager) es
   pub follows : FollowsAll es old new
@@ -100,7 +104,8 @@ module _ {L : Type 0} where
   pub record Settles (g : Gtrid) (old new : Session L) (result : Result (Unit {0}) Refusal) : Type 0 where
     pub rules : ObeysRules (refusal_at old (Steps.Settle g)) old new result
     pub asks : AsksLog (refusal_at old (Steps.Settle g)) (FailsBy (Adds (rows_for (book_in old.manager) (g ∷ []))) (InDecide (g ∷ []))) old new result
-    -- it fails by the log only where a row is to be written: of a transaction that some branch voted XA_OK for
+    -- it fails by the log only if a row is to be written: of a transaction that some branch voted
+    -- XA_OK for
     pub asked : refusal_at old (Steps.Settle g) ≡ None → result ≡ Err Refusals.LogFault → ((book_in old.manager).transaction g).has_yes ≡ true
     pub decided : OnOk result (Happens (Decided g Outcomes.Commit) old new)
 
@@ -182,7 +187,8 @@ module _ {L : Type 0} where
 -- ** releases
 
 module _ {L : Type 0} where
-  -- The transaction was over, and nothing is held of it any more. Nothing happened: wherever the session stood, it still stands.
+  -- The transaction was over, and nothing is held of it any more. Nothing happened: wherever the
+  -- session stood, it still stands.
   pub record Forgets (g : Gtrid) (old new : Session L) : Type 0 where
     pub over : IsOver (book_in old.manager) g
     pub nothing_held : HoldsNothingOf g new.manager

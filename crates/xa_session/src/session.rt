@@ -1,4 +1,5 @@
-//! A session: the manager over its log, the lines, and the monitor of the branches. A file for each family of requests.
+//! A session: the manager over its log, the lines, and the monitor of the branches. A file for each
+//! family of requests.
 
 ghost use Rattle.xa_tm.specs.Calls.{book_in};
 ghost use Rattle.xa_session.specs.Sizes.{HasItsLines};
@@ -23,8 +24,8 @@ const HAPPENING_LIMIT: u64 = 4_611_686_018_427_387_904;
 
 /// A session of a driver with the coordinator.
 ///
-/// Each method asks that the session is ready (`IsReady`), and leaves it so, whatever was answered. A session that
-/// [`Session::new`] gives is ready.
+/// Each method asks that the session is ready (`IsReady`), and leaves it so, whatever was answered.
+/// A session that [`Session::new`] gives is ready.
 #[derive(Drop)]
 pub struct Session<L: Drop> {
     pub(crate) manager: Manager<L>,
@@ -52,7 +53,8 @@ impl<L: DecisionLog + Drop> Session<L> {
 
     /// A session over a log, of so many threads and resource managers.
     ///
-    /// The rows are read before room is made for lines, so that the log has only been read where memory is refused.
+    /// The rows are read before room is made for lines, so that the log has only been read if
+    /// memory is refused.
     pub fn new(alloc: Global, threads: u32, rms: u32, log: L) -> Result<Session<L>, StartFault>
         ensures ready { IfOk result IsReady }
         ensures lines { IfOk result (λ s. s.lines ≡ new_grid threads rms) }
@@ -60,7 +62,8 @@ impl<L: DecisionLog + Drop> Session<L> {
         ensures stands { IfOk result (StandsAtStart threads rms) }
         ensures old { IfOk result (λ s. (o : Origin) → BeginsWith threads rms s.manager o →
             HasOnlyOlderRows o) }
-        // The log that was handed in: its rows and its records, and its incarnation, which is raised.
+        // The log that was handed in: its rows and its records, and its incarnation, which is
+        // raised.
         ensures started { IfOk result (λ s. IsStarted threads rms s.manager) }
         ensures over { IfOk result (λ s.
             IsStartedOver L.moment threads rms (L.moment log) s.manager) }
@@ -126,7 +129,8 @@ impl<L: DecisionLog + Drop> Session<L> {
         self.manager.record_count()
     }
 
-    /// How many steps have happened since the start: those that succeeded, and one in which the log failed.
+    /// How many steps have happened since the start: those that succeeded, and one in which the log
+    /// failed.
     pub fn happenings(&self) -> u64
         ensures { result ≡ self.now.happenings }
     {
@@ -168,8 +172,8 @@ impl<L: DecisionLog + Drop> Session<L> {
         !self.is_over() && count as u64 <= HAPPENING_LIMIT - self.happenings
     }
 
-    /// Notes what a call of the manager gave that may have asked the log, and that stands for so many happenings if it
-    /// succeeded. Where the log failed, all lines break.
+    /// Counts `count` happenings if the manager did the step, one if its log failed, which breaks
+    /// all lines, and none if it refused.
     fn conclude(&mut self, reply: Result<(), Refusal>, count: usize) -> Result<(), Refusal>
         requires { has_room_for self.old count ≡ true }
         ensures value { result ≡ reply }

@@ -8,8 +8,8 @@ use std::marker::Model;
 use xa_base::{Answer, Call, LINE_LIMIT, Refusal};
 use xa_line::Line;
 
-/// A line that takes memory only while it is open: its rings are made with its first xa_open, and dropped with its
-/// connection.
+/// A line that takes memory only while it is open: its rings are made with its first xa_open, and
+/// dropped with its connection.
 #[derive(Drop)]
 pub struct SessionLine {
     line: Option<Line>,

@@ -1,4 +1,5 @@
-//! The lines of a session: one for each thread and each resource manager, of which only those that are open take memory.
+//! The lines of a session: one for each thread and each resource manager, of which only those that
+//! are open take memory.
 
 use crate::session_line::SessionLine;
 use std::alloc::Global;

@@ -10,7 +10,7 @@ use Rattle.xa_files.specs.Fates.{fate_text}
 use Rattle.xa_story.specs.Lines.{left}
 use Rattle.xa_story.specs.Naming.{Naming, xid_text}
 
--- what a fate means, where its name doesn't say it
+-- what a fate means, if its name doesn't say it
 abbrev pub fate_note : Fate → List ℕ
 fate_note fates.Prepared = codes ": it waits to be told how it ends"
 fate_note fates.Lost = codes ": its line broke before it was prepared"

@@ -25,7 +25,7 @@ naming_of a = record { names = map string_bytes a.names.now; gtrids = a.gtrids.i
 abbrev pub unbegun : List (List ℕ) → Naming
 unbegun names = record { names = names; gtrids = [] }
 
--- the transaction of a begin: none has these numbers, where it is refused
+-- the transaction of a begin: none has these numbers, if it is refused
 abbrev pub begun_by : Reply Xid → Gtrid
 begun_by (Replies.Begun g) = g
 begun_by _ = record { incarnation = 0; sequence = 0 }
@@ -52,7 +52,7 @@ name_at_place names place = elim (slice_get names place) [ None ↦ codes "?" | 
 abbrev pub next_name : Naming → List ℕ
 next_name n = name_at_place n.names (length n.gtrids)
 
--- the name of a transaction, where just one begin is of it
+-- the name of a transaction, if exactly one begin is of it
 abbrev pub transaction_name : Naming → Gtrid → List ℕ
 transaction_name n g = if length (filter (λ h. gtrid_eq h g) n.gtrids) == 1
     then elim (position (λ h. gtrid_eq h g) n.gtrids) [ None ↦ codes "?" | Some place ↦ name_at_place n.names place ]

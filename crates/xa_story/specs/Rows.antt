@@ -22,6 +22,6 @@ decision_of step = None
 abbrev pub is_settled : Ledger → Branch → Bool
 is_settled l b = list_any (λ c. branch_eq c b) l.acknowledged.items || list_any (λ c. branch_eq c b) l.recorded.items
 
--- those that said yes to a transaction, but for the settled ones
+-- those that said yes to a transaction, except for the settled ones
 abbrev pub waited_for : Ledger → Gtrid → List Branch
 waited_for l g = filter (λ b. gtrid_eq b.gtrid g && not (is_settled l b)) l.participants.items

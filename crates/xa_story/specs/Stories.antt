@@ -20,7 +20,8 @@ pub record IsToldOf (n : Naming) (number : ℕ) (event : Event) (line : StoryLin
   pub asked : string_bytes line.asked ≡ asked_text n event
   pub reply : string_bytes line.reply ≡ told_reply_text event
 
--- the lines tell the events in turn, from this number on, each by the names that were begun before it
+-- the lines tell the events in turn, from this number on, each by the names that were begun before
+-- it
 abbrev pub TellEvents : Naming → ℕ → List Event → List StoryLine → Type 0
 TellEvents n number [] [] = Unit
 TellEvents n number (event ∷ events) (line ∷ lines) =
@@ -32,7 +33,8 @@ pub record IsSpelled (n : Naming) (lines : List StoryLine) (fates : List (Xid ×
   pub reasons : List ℕ
   pub is : text ≡ flat_map line_text lines ++ codes "\n" ++ flat_map (branch_end_line n) fates ++ reasons
 
--- a text is the story of a run of these events whose branches have these fates, by the names that the file gives
+-- a text is the story of a run of these events whose branches have these fates, by the names that
+-- the file gives
 pub record IsStory (names : List (List ℕ)) (events : List Event) (fates : List (Xid × Fate)) (text : List ℕ) : Type 0 where
   pub lines : List StoryLine
   pub told : TellEvents (unbegun names) 1 events lines

@@ -130,7 +130,7 @@ impl<'a> Scene<'a> {
         Ok(effect)
     }
 
-    /// What an answer changes, with the reason where the manager asked in a recovery.
+    /// What an answer changes, with the reason if the manager asked in a recovery.
     pub(crate) fn answered_text(
         &self,
         call: &Call,

@@ -16,7 +16,7 @@ pub(crate) struct Effect {
     pub(crate) log: Option<LogChange>,
 }
 
-/// What an event changes, in words, where no branch goes anywhere and nothing comes or is lost.
+/// What an event changes, in words, if no branch goes anywhere and nothing comes or is lost.
 pub(crate) fn plain_effect(alloc: Global, change: &str) -> Result<Effect, Memory> {
     Ok(Effect {
         change: String::from_str(alloc, change)?,

@@ -12,7 +12,7 @@ use std::alloc::Global;
 use xa_base::{Fate, Gtrid, How, Memory, Xid};
 use xa_files::fate_text;
 
-/// What a fate means, where its name doesn't say it.
+/// What a fate means, if its name doesn't say it.
 fn fate_note(fate: Fate) -> &'static str
     ensures { result.now ≡ fate_note fate }
 {

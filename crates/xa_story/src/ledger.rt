@@ -193,7 +193,8 @@ impl Ledger {
         self.begun.contains(&gtrid) && !is_shut
     }
 
-    /// A recovery at a resource manager decides to roll back what is open of what that listed. Tells what it is.
+    /// A recovery at a resource manager decides to roll back what is open of what that listed.
+    /// Tells what it is.
     pub fn roll_back_open(
         &mut self,
         alloc: Global,
@@ -268,8 +269,8 @@ impl Ledger {
         Ok(())
     }
 
-    /// A part crashes. What the manager knew is lost with it, and what was listed with the line on which it was heard; the
-    /// log stays.
+    /// A part crashes. What the manager knew is lost with it, and what was listed with the line on
+    /// which it was heard; the log stays.
     pub fn lose(&mut self, alloc: Global, part: Part) -> Result<(), Memory> {
         match part {
             Part::Line { thread: 0, rm } | Part::Rm { rm } => self.forget_page(alloc, rm),

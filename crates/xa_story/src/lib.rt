@@ -1,7 +1,8 @@
-//! The events of a run as a story: a line for each that a person reads, and then what became of the branches and why.
+//! The events of a run as a story: a line for each that a person reads, and then what became of the
+//! branches and why.
 //!
-//! "XA" in these pages is X/Open CAE Specification C193, "Distributed Transaction Processing: The XA Specification"
-//! (1991).
+//! "XA" in these pages is X/Open CAE Specification C193, "Distributed Transaction Processing: The
+//! XA Specification" (1991).
 #![tactic(auto)]
 
 mod asked;

@@ -44,7 +44,8 @@ pub struct StoryLine {
     pub log: Option<LogChange>,
 }
 
-/// Who takes part, as it is told: the answers of a recovery, which wait on the lines of thread 0, go to the manager.
+/// Who takes part, as it is told: the answers of a recovery, which wait on the lines of thread 0,
+/// go to the manager.
 fn told_sides(line: &StoryLine) -> Sides
     ensures { result ≡ told_sides line.now }
 {

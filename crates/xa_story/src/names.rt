@@ -30,7 +30,7 @@ const NO_GTRID: Gtrid = Gtrid {
     sequence: 0,
 };
 
-/// What a begin is answered with: no transaction, where it is refused.
+/// What a begin is answered with: no transaction, if it is refused.
 fn begun_by(reply: &Reply) -> Gtrid
     ensures { result ≡ begun_by reply.now }
 {
@@ -89,7 +89,7 @@ impl<'a> Names<'a> {
         self.gtrids.iter().position(|other| *other == gtrid)
     }
 
-    /// The name of a transaction, where just one stands for it.
+    /// The name of a transaction, if exactly one stands for it.
     pub fn name_of(&self, gtrid: Gtrid) -> &str
         ensures { result.now ≡ transaction_name self.now gtrid }
     {

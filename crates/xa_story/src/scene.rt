@@ -28,7 +28,8 @@ pub struct Scene<'a> {
 }
 
 impl<'a> Scene<'a> {
-    /// Nothing has happened, and the log is empty. The names are those that the scenario file begins, in turn.
+    /// Nothing has happened, and the log is empty. The names are those that the scenario file
+    /// begins, in turn.
     pub fn new(alloc: Global, names: &'a [String]) -> Scene<'a>
         ensures { result.names ≡ unbegun (map string_bytes names.now) }
     {

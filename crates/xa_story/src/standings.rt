@@ -16,7 +16,8 @@ pub struct Move {
     pub standing: Standing,
 }
 
-/// Where a branch stands after a call on it was answered, by the branch state table (XA, chapter 6, State Tables).
+/// Where a branch stands after a call on it was answered, by the branch state table (XA, chapter 6,
+/// State Tables).
 fn standing_after(before: Standing, call: &Call, code: Code) -> Standing
     ensures { result ≡ standing_after_answer before call.now code }
 {
@@ -129,7 +130,8 @@ impl Standings {
         Ok(self.moves.push(Move { branch, standing })?)
     }
 
-    /// A resource manager took a call and answered. Tells where the branch goes, if it goes anywhere.
+    /// A resource manager took a call and answered. Tells where the branch goes, if it goes
+    /// anywhere.
     pub fn answer(&mut self, call: &Call, answer: &Answer) -> Result<Option<Move>, Memory> {
         let Answer::Ret(code) = answer else {
             return Ok(None);

@@ -69,7 +69,8 @@ pub fn code_name(code: Code) -> &'static str
     }
 }
 
-/// An answer, as XA's calls return it: a code by its name, and what an xa_recover lists by its count (XA, chapter 5).
+/// An answer, as XA's calls return it: a code by its name, and what an xa_recover lists by its
+/// count (XA, chapter 5).
 pub fn answer_text(alloc: Global, answer: &Answer) -> Result<String, Memory>
     ensures { IfOk result (λ text. string_bytes text ≡ answer_name answer.now) }
 {

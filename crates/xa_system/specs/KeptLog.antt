@@ -37,13 +37,15 @@ pub record HasFailedInStep {R L : Type 0} (see : Observes R L) (step : Step Xid)
       (MayHaveFailed (trace_in see.look old) (log_failed (step_of step)) (see.place old.log).content (see.place new.log).content)
 
 pub record KeepsItsLog {R L : Type 0} (see : Observes R L) (old new : SystemView R L) : Type 0 where
-  -- the log that was handed in last is the same, and so is the one that was handed in first and how the manager began over it
+  -- the log that was handed in last is the same, and so is the one that was handed in first and how
+  -- the manager began over it
   pub handed : new.handed ≡ old.handed
   pub first : new.first ≡ old.first
   pub begun : new.begun ≡ old.begun
   -- what it rests on was honest before, if it is so after
   pub honest : (see.place new.log).is_honest → (see.place old.log).is_honest
-  -- a restart may follow, if one might before; and so over each content that a crash may leave of the log
+  -- a restart may follow, if one might before; and so over each content that a crash may leave of
+  -- the log
   pub near : Honestly (see.moment old.handed) (see.place new.log) (MayRestart see old → MayRestart see new)
   pub crash : Honestly (see.moment old.handed) (see.place new.log) (MayRestart see old → MayRestartAfterCrash see old → MayRestartAfterCrash see new)
   -- the log has counted each of its failures that an event answers

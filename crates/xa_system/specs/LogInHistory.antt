@@ -34,8 +34,8 @@ LogStandsBy false tr held = (c : Content) → held ≡ Some c → MayHoldRows tr
 abbrev pub LogStands : Trace → Option Content → Type 0
 LogStands tr held = LogStandsBy (up tr) tr held
 
--- what a crash may leave of it: just that while the manager is up, and while it is down those rows and that record, with
--- or without the change in doubt
+-- what a crash may leave of it: exactly that while the manager is up, and while it is down those
+-- rows and that record, with or without the change in doubt
 abbrev pub LeftBy : (is_up : Bool) → Trace → Content → Type 0
 LeftBy true tr c = IsAsTold tr c
 LeftBy false tr c = MayHoldRows tr c
@@ -53,12 +53,13 @@ MayRestartOver tr held = (c : Content) → held ≡ Some c → IsBeforeNext tr c
 
 -- ** failures
 
--- the change that a step is to make in which the log fails: that of its fault, and a restart's is the next incarnation
+-- the change that a step is to make in which the log fails: that of its fault, and a restart's is
+-- the next incarnation
 abbrev pub change_in : Trace → Fault → Content → Content
 change_in tr InRestart c = with_bump c
 change_in tr f c = after_change (fault_change tr f) c
 
--- where the log failed, it is shut, or as before, or has that change
+-- if the log failed, it is shut, or as before, or has that change
 abbrev pub MayHaveFailed : Trace → Happening → (old new : Option Content) → Type 0
 MayHaveFailed tr (Failed f) old new = MayMake (change_in tr f) old new
 MayHaveFailed tr e old new = Unit {0}
@@ -96,14 +97,14 @@ log_faults_but_restarts events =
 abbrev pub AreTied : (near : Bool) → Book → (Content → Type 0) → Type 0
 AreTied near k may = (c : Content) → may c → IsTied near k (Some c)
 
--- of a log in order that holds something it leaves just that
+-- of a log in order that holds something it leaves exactly that
 abbrev pub IsDurable : {L : Type 0} → (L → Moment) → Type 0
 IsDurable moment = (log : _) (c d : Content) → (moment log).is_in_order → (moment log).content ≡ Some c
     → (moment log).may_leave d → d ≡ c
 
 -- ** one happening more
 
--- what it does to the log of a manager. Its rows follow the book where they followed it before
+-- what it does to the log of a manager. Its rows follow the book if they followed it before
 pub record LogFollows {L : Type 0} (moment : L → Moment) (tr : Trace) (e : Happening) (old new : Manager L) : Type 0 where
   pub order : (moment (log_in old)).is_in_order → (moment (log_in new)).is_in_order
   pub honest : (moment (log_in new)).is_honest → (moment (log_in old)).is_honest
@@ -111,7 +112,7 @@ pub record LogFollows {L : Type 0} (moment : L → Moment) (tr : Trace) (e : Hap
       (IsTied near (book_in old) (moment (log_in old)).content → IsTied near (book_in new) (moment (log_in new)).content)
   pub counted : Honestly (moment (log_in old)) (moment (log_in new))
       (IsTied true (book_in old) (moment (log_in old)).content → (moment (log_in new)).fault_count ≡ count_after e (moment (log_in old)).fault_count)
-  -- whatever the log, but that nothing is counted where a restart finds what it may not
+  -- whatever the log, but that nothing is counted if a restart finds what it may not
   pub counts : ((moment (log_in new)).fault_count ≡ count_after e (moment (log_in old)).fault_count)
       ⊎ ((e ≡ Failed InRestart) × ((moment (log_in new)).fault_count ≡ (moment (log_in old)).fault_count))
   pub failed : Honestly (moment (log_in old)) (moment (log_in new)) (MayHaveFailed tr e (moment (log_in old)).content (moment (log_in new)).content)

@@ -18,19 +18,20 @@ use Rattle.xa_rm.specs.Look.{Look}
 
 -- ** what is left
 
--- a history leaves a branch so: once its line is broken, it is in the state that the history tells, with its vote and its
--- retries
+-- a history leaves a branch so: once its line is broken, it is in the state that the history tells,
+-- with its vote and its retries
 pub record LeavesBranch (past : Trace) (b : Branch) (h : HeldBranch) : Type 0 where
   pub state : state_of (broken h.standing) ≡ state_of (standing (gone past) b)
   pub vote_is : h.vote ≡ vote past b
   pub retries_are : h.retries ≡ retries past b
 
--- what is held of a branch at its resource manager: nothing, where it has no identifier or is at none of these
+-- what is held of a branch at its resource manager: nothing, if it has no identifier or is at none
+-- of these
 abbrev pub held_among : {R : Type 0} → (R → Look) → List R → Branch → HeldBranch
 held_among look rms b = if fits b then held_at_rm look rms b.rm (xid_of_branch b) else new_branch
 
--- it leaves a log so: with its rows and its records, with or without the change in doubt, which is new to them, in its
--- incarnation or a later one
+-- it leaves a log so: with its rows and its records, with or without the change in doubt, which is
+-- new to them, in its incarnation or a later one
 pub record LeavesLog (past : Trace) (c : Content) : Type 0 where
   pub rows : MayHoldRows past c
   pub is_new : IsNewTo (log past) (doubt past)

@@ -57,7 +57,7 @@ held_at_rm look rms r = option_map_or (λ rm. (look rm).held) (slice_get rms r) 
 abbrev pub doubt_in : {R : Type 0} → (R → Look) → List R → (rm : ℕ) → List Xid
 doubt_in look rms r = option_map_or (λ rm. (look rm).in_doubt) (slice_get rms r) []
 
--- where the first thread's scan stands: behind an identifier, whatever that names
+-- where the first thread's scan stands: after an identifier, whatever that names
 abbrev pub first_scan : {R : Type 0} → (R → Look) → List R → (rm : ℕ) → Scan Name
 first_scan look rms r = option_map_or (λ rm. scan_by (λ x. Foreign x) ((look rm).scan 0)) (slice_get rms r) NotOpen
 
@@ -124,7 +124,8 @@ module _ {R L : Type 0} (see : Sees R L) where
     pub book : book_in new.manager ≡ book_in old.manager
     pub log : log_in new.manager ≡ log_in old.manager
 
-  -- the step was answered as the history demands, and the parts then stand where one happening more leaves them
+  -- the step was answered as the history demands, and the parts then stand where one happening more
+  -- leaves them
   pub record OneMore (step : Step Xid) (reply : Reply Xid) (tr : Trace) (old new : Parts R L) : Type 0 where
     pub allowed : Allowed tr (step_of step) (reply_of reply)
     pub stands : Stands (Then tr (happened (step_of step) (reply_of reply))) new
@@ -150,17 +151,19 @@ module _ {R L : Type 0} (see : Sees R L) where
   abbrev pub StandsSomewhere : Parts R L → Type 0
   StandsSomewhere parts = (tr : Trace) × Stands tr parts × (happenings tr < EVENT_LIMIT)
 
-  -- the parts stand somewhere where the step is not refused
+  -- the parts stand somewhere if the step is not refused
   abbrev pub IsAllowed : Step Xid → Parts R L → Type 0
   IsAllowed step parts = (tr : Trace) × Stands tr parts × (happenings tr < EVENT_LIMIT)
       × (must_refuse tr (step_of step) ≡ None)
 
-  -- wherever the parts stand, this is why a resource manager isn't told anything of what the name is of
+  -- wherever the parts stand, this is why a resource manager isn't told anything of what the name
+  -- is of
   abbrev pub HindersScript : (rm : ℕ) → Name → Parts R L → Option Refusal → Type 0
   HindersScript r n parts refusal = (tr : Trace) → Stands tr parts
       → refusal ≡ refusal_by (has_rm tr r) (script_guards (lines_of tr) r (not (is_at r n)))
 
-  -- wherever the parts stand, this is why no recovery of so many calls may begin at a resource manager
+  -- wherever the parts stand, this is why no recovery of so many calls may begin at a resource
+  -- manager
   abbrev pub HindersRecovery : (rm calls : ℕ) → Parts R L → Option Refusal → Type 0
   HindersRecovery r n parts refusal = (tr : Trace) → Stands tr parts
       → refusal ≡ refusal_by (has_rm tr r) (recovery_guards (view_of tr) (lines_of tr) r n)

@@ -5,7 +5,8 @@ use Rattle.xa_model.specs.Protocol.{AllRight, RightOrigin}
 use Rattle.xa_model.specs.Trace.{Trace}
 use Rattle.xa_system.specs.SystemView.{HoldsItsTrace, Observes, SystemView, origin_in}
 
--- its parts are where its events leave them, and the headline holds of those, also after the history of earlier processes
+-- its parts are where its events leave them, and the headline holds of those, also after the
+-- history of earlier processes
 pub record KeepsItsPromises {R L : Type 0} (see : Observes R L) (s : SystemView R L) : Type 0 where
   pub parts : HoldsItsTrace see s
   pub headline : RightOrigin (origin_in see.look s) → Headline (origin_in see.look s) s.events

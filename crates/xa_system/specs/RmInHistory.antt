@@ -19,8 +19,8 @@ use Rattle.xa_rm.specs.Look.{Look}
 
 -- ** branches
 
--- what is held of a branch is where it stands, its vote and its retries. Where a break of its line would lose it, its own
--- thread started it
+-- what is held of a branch is where it stands, its vote and its retries. If a break of its line
+-- would lose it, its own thread started it
 pub record IsHeldAs (tr : Trace) (b : Branch) (h : HeldBranch) : Type 0 where
   pub standing : h.standing ≡ facts.standing tr b
   pub vote : h.vote ≡ facts.vote tr b
@@ -31,7 +31,8 @@ pub record IsHeldAs (tr : Trace) (b : Branch) (h : HeldBranch) : Type 0 where
 abbrev pub IsOther : (rm : ℕ) → Xid → Type 0
 IsOther r x = (b : Branch) → IsBranch b → b.rm ≡ r → x ≡ xid_of_branch b → ⊥
 
--- the branches of a resource manager are where the history leaves them, and all others as much in doubt as they were
+-- the branches of a resource manager are where the history leaves them, and all others as much in
+-- doubt as they were
 pub record BranchesStand (tr : Trace) (r : ℕ) (held : Xid → HeldBranch) : Type 0 where
   pub own : (b : Branch) → IsBranch b → b.rm ≡ r → IsHeldAs tr b (held (xid_of_branch b))
   pub others : (x : Xid) → IsOther r x → is_in_doubt (held x).standing
@@ -50,8 +51,9 @@ scan_by f (Behind last) = Behind (option_map f last)
 abbrev pub IsOwnAt : (rm : ℕ) → Xid → Type 0
 IsOwnAt r x = (b : Branch) × IsBranch b × (b.rm ≡ r) × (x ≡ xid_of_branch b)
 
--- No branch that the start found is at work, and a log can hold the numbers of each. What is in doubt at a resource manager is
--- listed, and a branch of this manager that is listed is one of this resource manager.
+-- No branch that the start found is at work, and a log can hold the numbers of each. What is in
+-- doubt at a resource manager is listed, and a branch of this manager that is listed is one of this
+-- resource manager.
 pub record BeginsOver (o : Origin) : Type 0 where
   pub still : (b : Branch) → broken (held_of o b).standing ≡ (held_of o b).standing
   pub numbers : (b : Branch) → ((held_of o b).standing ≡ Unstarted) ⊎ (b.gtrid.sequence ≤ last_number)
@@ -60,7 +62,8 @@ pub record BeginsOver (o : Origin) : Type 0 where
 
 -- ** the whole
 
--- what a contract sees of a resource manager is what the history says: its branches, and the first thread's scan
+-- what a contract sees of a resource manager is what the history says: its branches, and the first
+-- thread's scan
 pub record RmStands {R : Type 0} (look : R → Look) (tr : Trace) (r : ℕ) (rm : R) : Type 0 where
   pub branches : BranchesStand tr r (look rm).held
   pub scan : (look rm).scan 0 ≡ scan_by xid_of_name (scan tr r)

@@ -1,4 +1,4 @@
--- Why no system is made, where the manager didn't start.
+-- Why no system is made, if the manager didn't start.
 use Rattle.xa_system.specs.declared.resume.ResumeFault.{ResumeFault}
 use Rattle.xa_system.specs.declared.resume.ResumeFault.TheVariants as resumes
 use Rattle.xa_system.specs.declared.system.NewFault.{NewFault}

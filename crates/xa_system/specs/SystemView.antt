@@ -45,9 +45,9 @@ pub record Observes (R L : Type 0) : Type 1 where
 abbrev pub observes : {R L : Type 0} → (R → Look) → (L → Moment) → Observes R L
 observes look moment = record { look = look; moment = moment; place = slot_moment moment }
 
--- `start` has the resource managers and `first` the log as they were handed in; `begun` is the place of that log as the
--- manager began over it, and `incarnation`, `rows` and `records` are what it began with; `handed` is the log as it was
--- handed in last, and `log` its place
+-- `start` has the resource managers and `first` the log as they were handed in; `begun` is the
+-- place of that log as the manager began over it, and `incarnation`, `rows` and `records` are what
+-- it began with; `handed` is the log as it was handed in last, and `log` its place
 pub record SystemView (R L : Type 0) : Type 0 where
   pub start : List R
   pub first : L
@@ -85,8 +85,9 @@ abbrev pub trace_in : {R L : Type 0} → (R → Look) → SystemView R L → Tra
 trace_in look s = history (origin_in look s) s.events
 
 module _ {R L : Type 0} (see : Observes R L) where
-  -- the log that was handed in first has the rows and the record of the start; and the log held is where the history
-  -- leaves it, where it was in order as it was handed in, and what it rests on has been honest
+  -- the log that was handed in first has the rows and the record of the start; and the log held is
+  -- where the history leaves it, if it was in order as it was handed in, and what it rests on has
+  -- been honest
   pub record HoldsItsLog (s : SystemView R L) : Type 0 where
     pub start : Honestly (see.moment s.first) (see.place s.begun) (IsSomeAnd (see.moment s.first).content (StartsOver (origin_in see.look s)))
     pub stands : Honestly (see.moment s.handed) (see.place s.log) (LogStands (trace_in see.look s) (see.place s.log).content)
@@ -94,10 +95,12 @@ module _ {R L : Type 0} (see : Observes R L) where
     pub order : (see.moment s.handed).is_in_order → (see.place s.log).is_in_order
     pub leaves : Honestly (see.moment s.handed) (see.place s.log) ((c : Content) → (see.place s.log).may_leave c → MayBeLeft (trace_in see.look s) c)
 
-  -- each reply is the one that the history before it demands, and the parts are where the history leaves them
+  -- each reply is the one that the history before it demands, and the parts are where the history
+  -- leaves them
   pub record HoldsItsTrace (s : SystemView R L) : Type 0 where
     pub allowed : AreAllowed (origin_in see.look s) s.events
-    -- no row, no record and no branch of the start is of a transaction that may still be begun, and what was in doubt is listed
+    -- no row, no record and no branch of the start is of a transaction that may still be begun, and
+    -- what was in doubt is listed
     pub old : OldOrigin (origin_in see.look s)
     pub listed : (r : ℕ) → IsInDoubtList ((origin_in see.look s).held r) ((origin_in see.look s).in_doubt r)
     -- each branch that was started since has an identifier
@@ -109,7 +112,8 @@ module _ {R L : Type 0} (see : Observes R L) where
     pub lines : (t r : ℕ) → HasLine s.lines t r → LineStands (trace_in see.look s) (line t r) (line_at s.lines t r)
     pub log : HoldsItsLog s
 
-  -- a restart may follow: the log held is shut, or of an incarnation that the history's restarts may have left
+  -- a restart may follow: the log held is shut, or of an incarnation that the history's restarts
+  -- may have left
   abbrev pub MayRestart : SystemView R L → Type 0
   MayRestart s = MayRestartOver (trace_in see.look s) (see.place s.log).content
 
@@ -124,8 +128,8 @@ module _ {R L : Type 0} (see : Observes R L) where
     pub lines : (t r : ℕ) → HasLine old.lines t r → line_at new.lines t r ≡ line_at old.lines t r
     pub log : new.log ≡ old.log
 
-  -- of the events since then, at most as many were answered that the log failed as its count rose by, unless the count
-  -- has come to the greatest number
+  -- of the events since then, at most as many were answered that the log failed as its count rose
+  -- by, unless the count has come to the greatest number
   abbrev pub FaultsHaveCauses : (old new : SystemView R L) → Type 0
   FaultsHaveCauses old new = (greatest_count ≤ (see.place new.log).fault_count)
       ⊎ (log_faults new.events + (see.place old.log).fault_count ≤ log_faults old.events + (see.place new.log).fault_count)
@@ -136,7 +140,8 @@ module _ {R L : Type 0} (see : Observes R L) where
       ⊎ (log_faults_but_restarts new.events + (see.place old.log).fault_count
       ≤ log_faults_but_restarts old.events + (see.place new.log).fault_count)
 
-  -- what is known of the log that was handed in first and of the one handed in last, and of what became of that
+  -- what is known of the log that was handed in first and of the one handed in last, and of what
+  -- became of that
   pub record KeepsLog (origin : Origin) (a : Inside R L) : Type 0 where
     pub order : (see.moment a.handed.value).is_in_order → (see.place (log_in a.parts.manager)).is_in_order
     pub honest : (see.place (log_in a.parts.manager)).is_honest → (see.moment a.handed.value).is_honest
@@ -179,7 +184,8 @@ AddsSteps steps old new = (events : List Event) × (map (λ event. event.step) e
 abbrev pub HasWrongSize : ℕ → ℕ → Type 0
 HasWrongSize threads rms = (threads ≡ 0) ⊎ ((MAX_THREADS < threads) ⊎ ((rms ≡ 0) ⊎ (MAX_RMS < rms)))
 
--- a branch of this system: its numbers fit, and the system started with its thread and its resource manager
+-- a branch of this system: its numbers fit, and the system started with its thread and its resource
+-- manager
 pub record IsOwnIn {R L : Type 0} (s : SystemView R L) (b : Branch) : Type 0 where
   pub fits : IsBranch b
   pub thread : b.thread < s.lines.threads
@@ -203,8 +209,8 @@ module _ {R : Type 0} (look : R → Look) where
     pub there : slice_get rms place ≡ Some rm
     pub holds : HoldsFormat (look rm).held own_format
 
-  -- each branch of this manager that was ever started there is one that earlier incarnations may have left at the resource
-  -- manager of this number, and what is in doubt is listed
+  -- each branch of this manager that was ever started there is one that earlier incarnations may
+  -- have left at the resource manager of this number, and what is in doubt is listed
   pub record IsOfPast (incarnation r : ℕ) (rm : R) : Type 0 where
     pub past : HoldsPast (look rm).held r incarnation
     pub listed : IsInDoubtList (look rm).held (look rm).in_doubt

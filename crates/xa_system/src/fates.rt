@@ -18,7 +18,7 @@ impl<R: ResourceManager + Drop, L: DecisionLog + Drop> System<R, L> {
     ghost use Rattle.xa_system.specs.Report.{IsReported};
     ghost use Rattle.xa_system.specs.SystemView.{IsOwnIn, trace_in};
 
-    /// What became of a branch; `Unstarted` where the identifier names no branch of this system.
+    /// What became of a branch; `Unstarted` if the identifier names no branch of this system.
     pub fn fate(&self, xid: &Xid) -> Fate
         ensures own { (b : Branch) → IsOwnIn self.now b → xid.now ≡ xid_of_branch b →
             result ≡ fate (trace_in R.look self.now) b }
@@ -33,7 +33,8 @@ impl<R: ResourceManager + Drop, L: DecisionLog + Drop> System<R, L> {
         }
     }
 
-    /// All branches whose xa_start was accepted, in the order of their identifiers, each with what became of it.
+    /// All branches whose xa_start was accepted, in the order of their identifiers, each with what
+    /// became of it.
     pub fn report(&self, alloc: Global) -> Result<Vec<(Xid, Fate)>, Memory>
         ensures in_order { IfOk result (λ list. IsStrictlySortedBy xid_cmp (keys_of list.items)) }
         ensures listed { IfOk result (λ list. (x : _) (f : _) →

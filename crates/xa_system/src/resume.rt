@@ -28,13 +28,13 @@ pub enum ResumeFault {
     /// The threads or the resource managers are not 1 to 8.
     #[error("not 1 to 8 threads and 1 to 8 resource managers")]
     Limit,
-    /// A resource manager holds a branch of this manager's that no earlier incarnation can have left there: it is of
-    /// this one or a later one, names another resource manager, or has numbers that no row can hold. The incarnation
-    /// was raised.
+    /// A resource manager holds a branch of this manager's that no earlier incarnation can have
+    /// left there: it is of this one or a later one, names another resource manager, or has numbers
+    /// that no row can hold. The incarnation was raised.
     #[error("a resource manager holds a branch that no earlier incarnation left there")]
     Newer,
-    /// The decision log failed, or has a row or a record of a later incarnation than its own. The incarnation may have
-    /// been raised.
+    /// The decision log failed, or has a row or a record of a later incarnation than its own. The
+    /// incarnation may have been raised.
     #[error("the decision log failed, or has a row of no earlier incarnation")]
     Log,
     /// A request for memory was refused. The log is as it was.
@@ -65,8 +65,8 @@ impl From<AllocError> for ResumeFault {
     }
 }
 
-/// Whether each branch of this manager that was ever started is one that an earlier incarnation may have left where it
-/// is.
+/// Whether each branch of this manager that was ever started is one that an earlier incarnation may
+/// have left where it is.
 fn are_past<R: ResourceManager + Drop>(sites: &[Site<R>], incarnation: u64) -> bool
     requires few { length sites.now ≤ MAX_RMS }
     ensures past { result ≡ true → ArePast R.look incarnation (map (λ site. site.rm) sites.now) }
@@ -83,12 +83,13 @@ fn are_past<R: ResourceManager + Drop>(sites: &[Site<R>], incarnation: u64) -> b
 }
 
 impl<R: ResourceManager + Drop, L: DecisionLog + Drop> System<R, L> {
-    /// A system with no events over the log and the resource managers of earlier processes, 1 to 8 of them. What wasn't
-    /// prepared there is lost, as in a crash of each resource manager; what was waits for its recovery. Room for all
-    /// events is made here, and a fault drops what was handed in.
+    /// A system with no events over the log and the resource managers of earlier processes, 1 to 8
+    /// of them. What wasn't prepared there is lost, as in a crash of each resource manager; what
+    /// was waits for its recovery. Room for all events is made here, and a fault drops what was
+    /// handed in.
     ///
-    /// `Log` and `Memory` come as in `System::new`. `Newer` comes last: which branches are of an earlier incarnation is
-    /// known only when the log's has been raised.
+    /// `Log` and `Memory` come as in `System::new`. `Newer` comes last: which branches are of an
+    /// earlier incarnation is known only when the log's has been raised.
     pub fn resume(
         alloc: Global,
         threads: u32,

@@ -54,8 +54,8 @@ fn apply_thrice<R: ResourceManager>(
     Ok((answer, second, third))
 }
 
-/// The resource manager takes the oldest call that waits on the thread's line, and answers it. The line has room for
-/// the answer.
+/// The resource manager takes the oldest call that waits on the thread's line, and answers it. The
+/// line has room for the answer.
 pub(crate) fn take<R: ResourceManager>(
     rm: &mut R,
     line: &mut Line,
@@ -112,7 +112,8 @@ pub(crate) fn heard(line: &mut Line, copy: Answer) -> Twin
     }
 }
 
-/// The reply to a step that the manager refused. Where its log failed, it is down, and all lines break.
+/// The reply to a step that the manager refused. If its log failed, it is down, and all lines
+/// break.
 pub(crate) fn undone<R: ResourceManager + Drop>(
     sites: &mut Vec<Site<R>>,
     lines: &mut Lines,

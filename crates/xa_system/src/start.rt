@@ -50,8 +50,8 @@ fn start_manager<L: DecisionLog + Drop>(
     Ok(manager.into_slot())
 }
 
-/// The parts of a system as it starts: each resource manager is up, the lines are new, and the manager starts over the
-/// log. All other room is made before the log is asked.
+/// The parts of a system as it starts: each resource manager is up, the lines are new, and the
+/// manager starts over the log. All other room is made before the log is asked.
 pub(crate) fn start_parts<R: ResourceManager + Drop, L: DecisionLog + Drop>(
     alloc: Global,
     threads: u32,

@@ -42,11 +42,13 @@ fn has_xids(step: &Step)
 impl<R: ResourceManager + Drop, L: DecisionLog + Drop> System<R, L> {
     ghost use Rattle.xa_system.specs.declared.system.TheConstants.{EVENT_LIMIT};
 
-    /// Adds one event, where there is room, and leaves all parts where the history with it leaves them.
+    /// Adds one event, if there is room, and leaves all parts where the history with it leaves
+    /// them.
     ///
-    /// A refused step leaves them as they were. One in which the log failed leaves the manager down, all lines broken, and
-    /// the log as it was or with the step's one change. A restart of the manager is refused in the same way while its log
-    /// is out, and over a log of another incarnation than one that it may follow.
+    /// A refused step leaves them as they were. One in which the log failed leaves the manager
+    /// down, all lines broken, and the log as it was or with the step's one change. A restart of
+    /// the manager is refused in the same way while its log is out, and over a log of another
+    /// incarnation than one that it may follow.
     pub fn step(&mut self, step: Step) -> Reply
         // The event, and its reply.
         ensures full { EVENT_LIMIT ≤ length self.old.events →
@@ -89,7 +91,7 @@ impl<R: ResourceManager + Drop, L: DecisionLog + Drop> System<R, L> {
         reply
     }
 
-    /// Does all steps in order, or none where the trace lacks room for them.
+    /// Does all steps in order, or none if the trace lacks room for them.
     pub fn run(&mut self, steps: &[Step]) -> Result<(), Refusal>
         // The events.
         ensures limit { EVENT_LIMIT < length self.old.events + length steps.now →

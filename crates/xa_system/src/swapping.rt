@@ -15,8 +15,9 @@ use xa_rm::ResourceManager;
 use xa_tm::SwapFault;
 
 impl<R: ResourceManager + Drop, L: DecisionLog + Drop> System<R, L> {
-    /// Takes the log out, where the manager is down and holds one; else it is `None` and nothing changes. No event is
-    /// added. Until a log is put in, each restart of the manager is refused as where the log failed.
+    /// Takes the log out, if the manager is down and holds one; else it is `None` and nothing
+    /// changes. No event is added. Until a log is put in, each restart of the manager is refused as
+    /// when the log failed.
     pub fn take_log(&mut self) -> Option<L>
         // What comes out.
         ensures up { up (trace_in R.look self.old) ≡ Bool.true →
@@ -35,16 +36,16 @@ impl<R: ResourceManager + Drop, L: DecisionLog + Drop> System<R, L> {
         log
     }
 
-    /// Puts a log in, where the manager is down and its log is out. Its rows and records are read: they are those that
-    /// the events tell of before the change in doubt, or with it. No event is added. A fault leaves all as it was and
-    /// gives the log back, and comes in this order:
+    /// Puts a log in, if the manager is down and its log is out. Its rows and records are read:
+    /// they are those that the events tell of before the change in doubt, or with it. No event is
+    /// added. A fault leaves all as it was and gives the log back, and comes in this order:
     ///
     /// - [`SwapFault::Up`]: the manager is up or holds a log;
     /// - [`SwapFault::Memory`]: a request for memory was refused;
     /// - [`SwapFault::Log`]: the log failed for another cause;
     /// - [`SwapFault::OtherRows`]: its rows and records are others.
     pub fn give_log(&mut self, log: L) -> Result<(), (SwapFault, L)>
-        // Where no log can be put in, the one handed in isn't looked at.
+        // If no log can be put in, the one handed in isn't looked at.
         ensures up { up (trace_in R.look self.old) ≡ Bool.true →
             (result ≡ Err (SwapFault.Up, log)) × (self.new ≡ self.old) }
         ensures held { IsSome (log_held self.old.log) →

@@ -31,7 +31,8 @@ pub struct System<R: ResourceManager + Drop, L: DecisionLog + Drop> {
     pub(crate) events: Vec<Event>,
 }
 
-// It is written out, so that a function that owns a system does not prove again how each part is dropped.
+// It is written out, so that a function that owns a system does not prove again how each part is
+// dropped.
 impl<R: ResourceManager + Drop, L: DecisionLog + Drop> Drop for System<R, L> {
     fn drop(self) {
         let System {
@@ -65,8 +66,8 @@ pub enum NewFault {
     /// A resource manager holds branches of this manager's format.
     #[error("a resource manager holds branches of this manager's format")]
     NotClear,
-    /// The decision log failed, or has a row or a record of a later incarnation than its own. The incarnation may have
-    /// been raised.
+    /// The decision log failed, or has a row or a record of a later incarnation than its own. The
+    /// incarnation may have been raised.
     #[error("the decision log failed, or has a row of no earlier incarnation")]
     Log,
     /// A request for memory was refused. The log is as it was.
@@ -121,13 +122,14 @@ impl<R: ResourceManager + Drop, L: DecisionLog + Drop> System<R, L> {
     ghost use Rattle.xa_system.specs.declared.system.TheConstants.{EVENT_LIMIT};
     ghost use Rattle.xa_tm.specs.Slots.{slot_moment};
 
-    /// A system with no events, of 1 to 8 threads and 1 to 8 resource managers that hold no branch of this manager's
-    /// format, with a manager that starts over the log. Room for all events is made here. The log's rows are read, and
-    /// room for them is made, before its incarnation is raised.
+    /// A system with no events, of 1 to 8 threads and 1 to 8 resource managers that hold no branch
+    /// of this manager's format, with a manager that starts over the log. Room for all events is
+    /// made here. The log's rows are read, and room for them is made, before its incarnation is
+    /// raised.
     ///
-    /// `Log` blames the log alone: it failed, or has a row or a record of a later incarnation than its own, and then its
-    /// incarnation was raised. `Memory` comes where a request was refused outside of the log, before that is raised. A
-    /// fault drops what was handed in.
+    /// `Log` blames the log alone: it failed, or has a row or a record of a later incarnation than
+    /// its own, and then its incarnation was raised. `Memory` comes if a request was refused
+    /// outside of the log, before that is raised. A fault drops what was handed in.
     pub fn new(alloc: Global, threads: u32, rms: Vec<R>, log: L) -> Result<System<R, L>, NewFault>
         // Why none is made.
         ensures limit { HasWrongSize threads (vec_len rms) → result ≡ Err NewFault.Limit }

@@ -10,8 +10,8 @@ use Rattle.xa_tm.specs.declared.manager.Manager.{Manager}
 
 -- ** rows and records
 
--- the rows that a list of transactions and one of their participants say, where each transaction's stand together and
--- in that order
+-- the rows that a list of transactions and one of their participants say, where each transaction's
+-- stand together and in that order
 abbrev pub rows_listed : List Gtrid → List Branch → List Row
 rows_listed [] bs = []
 rows_listed (g ∷ gs) bs =

@@ -33,7 +33,8 @@ pub record SameRowsAndRecords (c d : Content) : Type 0 where
   pub decisions : c.decisions ≡ d.decisions
   pub heuristics : c.heuristics ≡ d.heuristics
 
--- the change is one of these rows: those that it adds are not there, those that it takes away are, and none comes twice
+-- the change is one of these rows: those that it adds are not there, those that it takes away are,
+-- and none comes twice
 abbrev pub IsChangeOf : (Gtrid → Option Waiting) → Doubt → Type 0
 IsChangeOf row (Adds xs) = EachOnce (λ g. row g ≡ None) (map (λ (x : Gtrid × Waiting). x.0) xs)
 IsChangeOf row (Drops gs) = EachOnce (λ g. is_some (row g) ≡ true) gs
@@ -54,8 +55,8 @@ pub record IsTiedUp (k : Book) (c : Content) : Type 0 where
   pub holds : HoldsBook k c
   pub incarnation : c.incarnation ≡ k.incarnation
 
--- the log, where it isn't shut, has what the book says with or without the change in doubt; a near one is of an
--- incarnation that a restart may follow, where one that was put in may be of any
+-- the log, if it isn't shut, has what the book says with or without the change in doubt; a near one
+-- is of an incarnation that a restart may follow, if one that was put in may be of any
 pub record IsTiedDown (near : Bool) (k : Book) (c : Content) : Type 0 where
   pub holds : MayHold k c
   pub incarnation : near ≡ true → IsReached k c
@@ -64,7 +65,8 @@ abbrev pub TiedBy : (up near : Bool) → Book → Option Content → Type 0
 TiedBy true near k log = IsSomeAnd log (IsTiedUp k)
 TiedBy false near k log = (c : Content) → log ≡ Some c → IsTiedDown near k c
 
--- the book and what its log holds agree: exactly while the manager is up, but for the change in doubt while it is down
+-- the book and what its log holds agree: exactly while the manager is up, except for the change in
+-- doubt while it is down
 abbrev pub IsTied : (near : Bool) → Book → Option Content → Type 0
 IsTied near k log = TiedBy k.up near k log
 
@@ -79,15 +81,17 @@ pub record FoundIn (i d h : ℕ) (c : Content) : Type 0 where
   pub rows : d ≡ len c.decisions
   pub records : h ≡ len c.heuristics
 
--- a log's rows were read and its incarnation raised, in this order, and these numbers are those that it had
+-- a log's rows were read and its incarnation raised, in this order, and these numbers are those
+-- that it had
 pub record IsReadFrom {L : Type 0} (logs : DecisionLog.Ghosts L) (i d h : ℕ) (old new : L) : Type 0 where
   pub between : L
   pub rows : logs.says Rows unchanged old between None
   pub raised : logs.says Bump with_bump between new None
   pub found : (logs.moment old).is_in_order → (logs.moment new).is_honest → IsSomeAnd (logs.moment old).content (FoundIn i d h)
 
--- the numbers that a restart may find: the next incarnation after one that the failures since may have reached, and
--- those of the book, or of the book with the change in doubt. A record of a branch that has one adds none
+-- the numbers that a restart may find: the next incarnation after one that the failures since may
+-- have reached, and those of the book, or of the book with the change in doubt. A record of a
+-- branch that has one adds none
 abbrev pub rows_of : Doubt → ℕ → ℕ
 rows_of (Adds xs) n = n + length xs
 rows_of (Drops gs) n = n - length gs

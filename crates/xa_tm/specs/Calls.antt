@@ -20,19 +20,21 @@ book_in m = as_book m.ledger
 abbrev pub log_in : {L : Type 0} → Manager L → L
 log_in m = m.log
 
--- a call that no rule refuses fails for want of memory, and leaves the book; or by its log, which may have made the
--- change that it was asked for
+-- a call that no rule refuses fails for want of memory, and leaves the book; or by its log, which
+-- may have made the change that it was asked for
 abbrev pub FailsBy : Doubt → Fault → (old new : Book) → Refusal → Type 0
 FailsBy asked f old new n = ((n ≡ Memory) × (new ≡ old)) ⊎ ((n ≡ LogFault) × (new ≡ book_after old asked (Failed f)))
 
--- the log's count of faults after a call of the manager: one more where the log failed in it, up to the greatest number
+-- the log's count of faults after a call of the manager: one more if the log failed in it, up to
+-- the greatest number
 abbrev pub faults_by : {A : Type 0} → Result A Refusal → ℕ → ℕ
 faults_by (Err LogFault) n = min (n + 1) (2 ^ 64 - 1)
 faults_by _ n = n
 
--- What a call of the manager does to its log, by the log's moments before and after it: it asks for this change, or for none.
+-- What a call of the manager does to its log, by the log's moments before and after it: it asks for
+-- this change, or for none.
 pub record AsksFor {A : Type 0} (change : Content → Content) (old new : Moment) (result : Result A Refusal) : Type 0 where
-  -- where the log failed, it is shut, or as before, or has the change
+  -- if the log failed, it is shut, or as before, or has the change
   pub fault : old.is_in_order → result ≡ Err LogFault → MayMake change old.content new.content
   pub crash : old.is_in_order → new.is_honest → LeavesAlso change old.content old.may_leave new.may_leave
   pub order : old.is_in_order → new.is_in_order

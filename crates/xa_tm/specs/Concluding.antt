@@ -1,4 +1,4 @@
--- What the manager does where it decides transactions that no rule refuses to decide.
+-- What the manager does if it decides transactions that no rule refuses to decide.
 use Rattle.std.specs.Prelude.{◌≡◌, ◌≢◌, Bool, List, [], map, Result, Err, IfErr, OnOk}
 use Rattle.xa_base.specs.declared.branch.Gtrid.{Gtrid}
 use Rattle.xa_base.specs.declared.refusal.Refusal.{Refusal}

@@ -32,8 +32,8 @@ abbrev pub BooksFollowHistories : Type 0
 BooksFollowHistories = (tr : Trace) (e : Happening) → CountsRows tr e
     → book_of (Then tr e) ≡ book_after (book_of tr) (doubt_of_happening tr e) e
 
--- of a right history over a start whose rows are of different transactions nothing more is asked: the row that a Done
--- takes away is one, and the numbers that a restart tells are those of the rows
+-- of a right history over a start whose rows are of different transactions nothing more is asked:
+-- the row that a Done takes away is one, and the numbers that a restart tells are those of the rows
 abbrev pub RowsAreCounted : Type 0
 RowsAreCounted = (tr : Trace) (e : Happening) → IsRun tr → Right tr e → ApartRows (origin tr).rows → CountsRows tr e
 
@@ -59,8 +59,8 @@ DropsAreCounted = (tr : Trace) (gs : List Gtrid) → IsRun tr → ApartRows (ori
 abbrev pub DoubtsAreOfRows : Type 0
 DoubtsAreOfRows = (tr : Trace) → IsRun tr → IsChangeOf (book_of tr).row (book_of tr).doubt
 
--- the numbers of the book are those of a count over all branches: of a transaction's branches, of those without a vote
--- for commit and, while it is begun, of those that are not settled
+-- the numbers of the book are those of a count over all branches: of a transaction's branches, of
+-- those without a vote for commit and, while it is begun, of those that are not settled
 abbrev pub BranchesAreCounted : Type 0
 BranchesAreCounted = (tr : Trace) (g : Gtrid)
     → ((book_of tr).transaction g).branches ≡ length (filter (λ b. gtrid_eq b.gtrid g) (branches tr))
@@ -104,7 +104,7 @@ IsAlone (Steps.Crash Part.Manager) = Unit
 IsAlone (Steps.Restart Side.Manager) = Unit
 IsAlone _ = ⊥
 
--- where the manager alone is asked, these are all refusals that the history forces
+-- if the manager alone is asked, these are all refusals that the history forces
 abbrev pub ManagersRefusalsAreAll : Type 0
 ManagersRefusalsAreAll = (tr : Trace) (s : Step) → IsAlone s → must_refuse tr s ≡ managers_refusal tr s
 
@@ -115,15 +115,16 @@ OpenHasNoRow = (tr : Trace) (g : Gtrid) → IsRun tr → begun tr g ≡ true
 
 -- ** what the log is asked for
 
--- where decisions to commit fail, the rows that the book says are in doubt are the rows that the history says
+-- if decisions to commit fail, the rows that the book says are in doubt are the rows that the
+-- history says
 abbrev pub DecisionsAskTheRows : Type 0
 DecisionsAskTheRows = (tr : Trace) (gs : List Gtrid) → Adds (rows_for (book_of tr) gs) ≡ doubt_of_happening tr (Failed (InDecide gs))
 
--- where a Done of several fails, their rows
+-- if a Done of several fails, their rows
 abbrev pub DonesAskTheRows : Type 0
 DonesAskTheRows = (tr : Trace) (gs : List Gtrid) → Drops gs ≡ doubt_of_happening tr (Failed (InDone gs))
 
--- where the answer that waits first isn't heard, the record that it makes
+-- if the answer that waits first isn't heard, the record that it makes
 abbrev pub AnswersAskTheRecord : Type 0
 AnswersAskTheRecord = (tr : Trace) (l : Line) (c : Call) (a : Answer) → next_answer tr l ≡ Some (c, a)
     → doubt_of (record_of c a) ≡ doubt_of_happening tr (Failed (InHear l))

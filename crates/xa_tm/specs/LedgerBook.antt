@@ -112,7 +112,7 @@ row_at m g = option_map waiting_of (unwrap_or (get gtrid_cmp m g) None)
 abbrev pub names_at : BTreeMap ℕ (List Xid) → ℕ → List Name
 names_at pages r = map name_of (unwrap_or (get nat_cmp pages r) [])
 
--- a branch off its line, where what crashes breaks that
+-- a branch off its line, if what crashes breaks that
 abbrev pub off_line : Part → Branch → BranchNotes → BranchNotes
 off_line p b n = record n { is_on_line = not (breaks_in true (Crashed p) (line_of b)) && n.is_on_line }
 
@@ -198,7 +198,7 @@ HasRoomForDoubt k = HasRoomFor k.doubt k
 
 -- ** restarts
 
--- the change in doubt was made where a number of rows changed
+-- the change in doubt was made if a number of rows changed
 abbrev pub without_doubt : Bool → Bool → Book → Book
 without_doubt row_changed record_changed k = record k {
   row = λ g. if row_changed then row_with k.doubt g (k.row g) else k.row g;
@@ -221,7 +221,8 @@ come_up_with i d h k = record k {
 
 -- ** what a history of at most 10,000 events makes sure of
 
--- the numbers of a book leave room for one more, what is begun fits a row, and what is live has none
+-- the numbers of a book leave room for one more, what is begun fits a row, and what is live has
+-- none
 pub record IsSound (k : Book) : Type 0 where
   pub begins : k.sequence ≤ k.begins
   pub restarts : k.failed_restarts < 2 ^ 64 - 1

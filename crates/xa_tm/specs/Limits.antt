@@ -21,7 +21,8 @@ use Rattle.xa_tm.specs.News.{Asked}
 use Rattle.xa_tm.specs.Starting.{IsOld}
 use Rattle.xa_tm.specs.BookAndLog.{IsFound}
 
--- how much a happening counts: where the log fails that was to decide several transactions, as much as those
+-- how much a happening counts: if the log fails that was to decide several transactions, as much as
+-- those
 abbrev pub counts_for : Happening → ℕ
 counts_for (Failed (InDecide (g ∷ gs))) = length gs + 1
 counts_for _ = 1
@@ -44,8 +45,8 @@ pub record HasRoomForRun (k : Book) : Type 0 where
   pub rows : k.rows ≤ last_number
   pub records : k.records ≤ last_number
 
--- the history is a run, not too long, and of no greater incarnation than a log can hold; nor has what its start found numbers that
--- a log can't hold
+-- the history is a run, not too long, and of no greater incarnation than a log can hold; nor has
+-- what its start found numbers that a log can't hold
 pub record IsWithinLimits (tr : Trace) : Type 0 where
   pub right : IsRun tr
   pub events : happenings tr ≤ most_events
@@ -62,18 +63,19 @@ abbrev pub LimitsAreKept : Type 0
 LimitsAreKept = (tr : Trace) (e : Happening) → IsWithinLimits tr → Right tr e → happenings (Then tr e) ≤ most_events
     → FitsIncarnation e → IsWithinLimits (Then tr e)
 
--- the book of a right history of at most 10,000 events is sound, where that of its start is
+-- the book of a right history of at most 10,000 events is sound, if that of its start is
 abbrev pub BooksAreSound : Type 0
 BooksAreSound = (tr : Trace) → IsWithinLimits tr → IsSound (book_of (From (origin tr)))
     → HasRoomForRun (book_of (From (origin tr))) → IsSound (book_of tr)
 
--- a start whose rows and records are of earlier incarnations is right, where no branch of this manager was there and all that
--- is in doubt is another manager's
+-- a start whose rows and records are of earlier incarnations is right, if no branch of this manager
+-- was there and all that is in doubt is another manager's
 abbrev pub OldStartsAreRight : Type 0
 OldStartsAreRight = (o : Origin) → IsOld (book_of (From o)) → ((b : Branch) → (held_of o b).standing ≡ Unstarted)
     → ((r : ℕ) (x : Xid) → Contains (o.in_doubt r) x → branch_of_xid x ≡ None) → RightOrigin o
 
--- the answer that waits first on a line answers what was asked for: a call on a branch is answered by a code
+-- the answer that waits first on a line answers what was asked for: a call on a branch is answered
+-- by a code
 abbrev pub AnswersAreCodes : Type 0
 AnswersAreCodes = (tr : Trace) (l : Line) (c : Call) (a : Answer) (asked : Asked) → IsRun tr
     → next_answer tr l ≡ Some (c, a) → accepted asked ≡ Some c → IsAnswerTo asked a

@@ -32,7 +32,8 @@ after_change NoChange c = c
 abbrev pub MayHoldRows : Trace → Content → Type 0
 MayHoldRows tr c = (before : Content) × HoldsRows tr before × (SameRowsAndRecords c before ⊎ SameRowsAndRecords c (after_change (doubt tr) before))
 
--- a history starts over a log that had just the rows and the record of its start, in the incarnation before
+-- a history starts over a log that had just the rows and the record of its start, in the
+-- incarnation before
 pub record StartsOver (o : Origin) (c : Content) : Type 0 where
   pub rows : HoldsRows (From o) c
   pub incarnation : o.incarnation ≡ c.incarnation + 1

@@ -16,11 +16,13 @@ abbrev pub waits_for : Option Waiting → Branch → Bool
 waits_for None b = false
 waits_for (Some set) b = contains set b
 
--- the branch is at the resource manager, and its transaction's row is of an earlier incarnation and waits for it
+-- the branch is at the resource manager, and its transaction's row is of an earlier incarnation and
+-- waits for it
 abbrev pub owes : Book → (rm : ℕ) → Branch → Bool
 owes k rm b = nat_eq b.rm rm && (nat_lt b.gtrid.incarnation k.incarnation && waits_for (k.row b.gtrid) b)
 
--- these are the identifiers of the branches at a resource manager that are owed, each once, in their order
+-- these are the identifiers of the branches at a resource manager that are owed, each once, in
+-- their order
 pub record AreOwed (k : Book) (rm : ℕ) (xids : List Xid) : Type 0 where
   pub set : KeySet branch_cmp
   pub listed : xids ≡ map xid_of_branch (items set)

@@ -26,12 +26,14 @@ use Rattle.xa_tm.specs.declared.manager.Manager.{Manager}
 abbrev pub was_given : Book → Gtrid → Bool
 was_given k g = nat_lt g.incarnation k.incarnation || (nat_eq g.incarnation k.incarnation && nat_le g.sequence k.sequence)
 
--- nothing more can come of its branches: each that was started has given its last answer, and none is recorded as heuristic
+-- nothing more can come of its branches: each that was started has given its last answer, and none
+-- is recorded as heuristic
 pub record AreFinished (k : Book) (g : Gtrid) : Type 0 where
   pub finished : (b : Branch) → b.gtrid ≡ g → contains k.known b ≡ true → (k.notes b).finished ≡ true
   pub unrecorded : (b : Branch) → b.gtrid ≡ g → k.recorded b ≡ None
 
--- nothing more can come of it, while the manager is up: its number was given, it isn't live, it has no row, and its branches are finished
+-- nothing more can come of it, while the manager is up: its number was given, it isn't live, it has
+-- no row, and its branches are finished
 pub record IsOver (k : Book) (g : Gtrid) : Type 0 where
   pub up : k.up ≡ true
   pub given : was_given k g ≡ true
@@ -62,8 +64,9 @@ HoldsNothingOf g m = HasForgotten g m.ledger
 abbrev pub RowsAreOwn : Book → Type 0
 RowsAreOwn k = (g : Gtrid) (set : Waiting) (b : Branch) → k.row g ≡ Some set → contains set b ≡ true → b.gtrid ≡ g
 
--- A book that has released these transactions, and the whole book, which has released none: they say the same of all others. Of those
--- that are gone the whole book says that nothing more can come of them.
+-- A book that has released these transactions, and the whole book, which has released none: they
+-- say the same of all others. Of those that are gone the whole book says that nothing more can come
+-- of them.
 pub record HasReleased (gone : Gtrid → Bool) (whole k : Book) : Type 0 where
   pub same : whole ≡ record k { transaction = whole.transaction; notes = whole.notes; known = whole.known }
   pub transactions : (g : Gtrid) → gone g ≡ false → whole.transaction g ≡ k.transaction g
@@ -82,8 +85,8 @@ abbrev pub StartsBegun : Book → Call → Type 0
 StartsBegun k (Calls.Start b join) = (k.transaction b.gtrid).begun ≡ true
 StartsBegun k c = Unit
 
--- It may happen of this book while its manager isn't restarted: the transaction that begins has the next number, and one that is started
--- or decided is begun. An answer may be any.
+-- It may happen of this book while its manager isn't restarted: the transaction that begins has the
+-- next number, and one that is started or decided is begun. An answer may be any.
 abbrev pub MayFollow : Book → Happening → Type 0
 MayFollow k (Begun g) = g ≡ record { incarnation = k.incarnation; sequence = k.sequence + 1 }
 MayFollow k (Issued l c) = StartsBegun k c

@@ -11,7 +11,8 @@ module _ {L : Type 0} (logs : DecisionLog.Ghosts L) where
   abbrev pub HasFailed : (handed left : L) → Type 0
   HasFailed handed left = (logs.moment left).fault_count ≡ one_more_fault (logs.moment handed).fault_count
 
-  -- it has not failed, but has a row or a record of a later incarnation than its own, and that was raised
+  -- it has not failed, but has a row or a record of a later incarnation than its own, and that was
+  -- raised
   pub record IsRaisedInVain (handed left : L) : Type 0 where
     pub honest : (logs.moment left).is_honest → (logs.moment handed).is_honest
     pub faults : (logs.moment left).fault_count ≡ (logs.moment handed).fault_count

@@ -18,7 +18,8 @@ use Rattle.xa_tm.specs.declared.manager.Manager.{Manager}
 pub record IsStarted {L : Type 0} (threads rms : ℕ) (manager : Manager L) : Type 0 where
   -- a history that begins with what it began with has its book
   pub book : (o : Origin) → BeginsWith threads rms manager o → book_in manager ≡ book_of (From o)
-  -- its rows and records are of earlier incarnations; each row waits for branches of its own transaction, and no transaction has two
+  -- its rows and records are of earlier incarnations; each row waits for branches of its own
+  -- transaction, and no transaction has two
   pub old : IsOld (book_in manager)
   pub own : RowsAreOwn (book_in manager)
   pub apart : ApartRows (rows_begun manager)

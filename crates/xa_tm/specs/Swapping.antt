@@ -7,7 +7,8 @@ use Rattle.xa_log.specs.declared.log_fault.LogFault.{LogFault}
 use Rattle.xa_tm.specs.Slots.{FailsToRead, LooksAt, ReadsRows}
 use Rattle.xa_tm.specs.declared.swap_fault.SwapFault.{SwapFault}
 
--- A log that was handed in comes back with this fault, where one that is put in must hold such a content.
+-- A log that was handed in comes back with this fault, if one that is put in must hold such a
+-- content.
 pub record GivesBack {L : Type 0} (logs : DecisionLog.Ghosts L) (holds : Content → Type 0) (handed : L) (fault : SwapFault) (back : L) : Type 0 where
   pub looks : LooksAt (logs.moment handed) (logs.moment back)
   -- memory was refused after its rows were read, or in reading them

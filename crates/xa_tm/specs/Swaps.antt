@@ -1,4 +1,5 @@
--- Whether the rows of a log that is put in are those of the book, without the change in doubt or with it.
+-- Whether the rows of a log that is put in are those of the book, without the change in doubt or
+-- with it.
 use Rattle.std.specs.Prelude.{ℕ, ◌+◌, Bool, true, false, not, ◌≡◌, ◌&&◌, ◌||◌, length, if◌then◌else◌, Option, Some, None, is_some, List, [], ◌∷◌, unwrap_or, nat_eq}
 use Rattle.std.specs.Global.{Vec}
 use Rattle.std.specs.BTreeMap.{BTreeMap, get}
@@ -33,7 +34,7 @@ are_among bs cs = list_all (λ b. is_branch_among b cs) bs
 abbrev pub same_branches : List Branch → List Branch → Bool
 same_branches bs cs = are_among bs cs && are_among cs bs
 
--- whether a row is there and names just these branches
+-- whether a row is there and names exactly these branches
 abbrev pub names_just : Option (Vec Branch) → List Branch → Bool
 names_just (Some v) bs = same_branches v.items bs
 names_just None bs = false
@@ -60,16 +61,18 @@ abbrev pub same_how : (own read : Option How) → Bool
 same_how own (Some h) = is_how own h
 same_how own None = not (is_some own)
 
--- whether a row is what the first of these decisions on the transaction makes; where there is none, as is said
+-- whether a row is what the first of these decisions on the transaction makes; if there is none, as
+-- is said
 abbrev pub decided_agrees : List Decision → Option (Vec Branch) → Gtrid → (same : Bool) → Bool
 decided_agrees [] read g same = same
 decided_agrees (d ∷ ds) read g same = if gtrid_eq d.gtrid g then names_just read d.participants.items else decided_agrees ds read g same
 
--- whether a row is gone, where the transaction is one of these; where it isn't, as is said
+-- whether a row is gone, if the transaction is one of these; if it isn't, as is said
 abbrev pub dropped_agrees : List Gtrid → Option (Vec Branch) → Gtrid → (same : Bool) → Bool
 dropped_agrees gs read g same = if has_gtrid gs g then not (is_some read) else same
 
--- whether what is read of a transaction's row is what the book has, with its change in doubt or without it
+-- whether what is read of a transaction's row is what the book has, with its change in doubt or
+-- without it
 abbrev pub row_agrees_with : Change → (own : BTreeMap Gtrid (Option (Vec Branch))) → (read : BTreeMap Gtrid (Option (Vec Branch))) → Gtrid → Bool
 row_agrees_with (AddRows v) own read g = decided_agrees v.items (kept_row read g) g (same_row (kept_row own g) (kept_row read g))
 row_agrees_with (DropRows h others) own read g =

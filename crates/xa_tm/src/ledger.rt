@@ -46,9 +46,11 @@ pub(crate) struct Ledger {
     failed_restarts: u64,
     transactions: BTreeMap<Gtrid, Transaction>,
     branches: BTreeMap<Branch, BranchNotes>,
-    /// The last page that each resource manager listed on the first thread's line, since that broke.
+    /// The last page that each resource manager listed on the first thread's line, since that
+    /// broke.
     pages: BTreeMap<u32, Page>,
-    /// The rows of the log, each with the branches whose xa_commit it waits for. At `None` there is room for a row alone.
+    /// The rows of the log, each with the branches whose xa_commit it waits for. At `None` there is
+    /// room for a row alone.
     rows: BTreeMap<Gtrid, Option<Vec<Branch>>>,
     /// How many rows the log has.
     row_count: u64,

@@ -1,8 +1,9 @@
-//! The manager of global transactions: which it began, what their branches answered, what it decided, and its
-//! decision log. The functions of [`laws`] do nothing: their contracts are theorems, and tie the manager's book to histories.
+//! The manager of global transactions: which it began, what their branches answered, what it
+//! decided, and its decision log. The functions of [`laws`] do nothing: their contracts are
+//! theorems, and tie the manager's book to histories.
 //!
-//! "XA" in these pages is X/Open CAE Specification C193, "Distributed Transaction Processing: The XA Specification"
-//! (1991).
+//! "XA" in these pages is X/Open CAE Specification C193, "Distributed Transaction Processing: The
+//! XA Specification" (1991).
 #![tactic(auto)]
 
 mod change;

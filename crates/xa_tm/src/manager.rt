@@ -34,7 +34,8 @@ pub struct Manager<L: Drop> {
 }
 
 impl<L: DecisionLog + Drop> Manager<L> {
-    /// Whether the manager is up: not since its crash, or a failure of its log, to the next restart.
+    /// Whether the manager is up: not since its crash, or a failure of its log, to the next
+    /// restart.
     pub fn is_up(&self) -> bool
         ensures { result ≡ (book_in self.now).up }
     {

@@ -15,7 +15,8 @@ pub(crate) struct Transaction {
     pub is_begun: bool,
     /// How it was decided.
     pub outcome: Option<Outcome>,
-    /// Its one branch was told to commit in one phase, so that the outcome is its resource manager's.
+    /// Its one branch was told to commit in one phase, so that the outcome is its resource
+    /// manager's.
     pub is_handed_over: bool,
     /// It was claimed and isn't decided yet. A claim ends with the incarnation.
     pub is_claimed: bool,

@@ -7,9 +7,11 @@ ghost use Rattle.xa_tm.specs.StartFaults.{HasFailed};
 use std::snapshot::Snapshot;
 use xa_log::{DecisionLog, LogFault, LogRows};
 
-/// A log, and its rows as they were just read: what a manager starts with ([`Manager::over`](crate::Manager::over)).
+/// A log, and its rows as they were just read: what a manager starts with
+/// ([`Manager::over`](crate::Manager::over)).
 ///
-/// So whoever needs more room than the manager makes it between the two, where the log has only been read.
+/// A caller that needs memory of its own takes it between the two calls: if that fails, the log has
+/// only been read.
 #[derive(Drop)]
 pub struct ReadLog<L> {
     pub(crate) log: L,

@@ -10,8 +10,9 @@ use xa_log::{Decision, DecisionLog, LogFault, LogRows, Logged, counted};
 
 /// A place for a decision log, which may be taken out and another put in.
 ///
-/// With the log in it, each call is that of the log. While it is empty each call answers [`LogFault::Store`]: so a manager
-/// whose log is out is one whose log fails, and needs no case of its own.
+/// With the log in it, each call is that of the log. While it is empty each call answers
+/// [`LogFault::Store`]: so a manager whose log is out is one whose log fails, and needs no case of
+/// its own.
 #[derive(Drop)]
 pub struct Slot<L: Drop> {
     pub(crate) log: Option<L>,

@@ -28,7 +28,7 @@ fate_after end ReadOnly = Fate.ReadOnly
 fate_after Commit Yes = Fate.Committed
 fate_after Rollback Yes = Fate.RolledBack
 
--- the fate of job i's branch at resource manager r, if it has one, where the jobs end so
+-- the fate of job i's branch at resource manager r, if it has one, if the jobs end so
 abbrev pub fate_at : Jobs → (incarnation : ℕ) → List Outcome → (i r : ℕ) → Option (Xid × Fate)
 fate_at jobs incarnation ends i r =
     option_and_then
@@ -38,7 +38,7 @@ fate_at jobs incarnation ends i r =
 abbrev pub job_fates : Jobs → (incarnation : ℕ) → List Outcome → (i : ℕ) → List (Xid × Fate)
 job_fates jobs incarnation ends i = filter_map (fate_at jobs incarnation ends i) (all_rms jobs)
 
--- the fates of all branches, where the jobs end so, in the order of their identifiers
+-- the fates of all branches, if the jobs end so, in the order of their identifiers
 abbrev pub fates_of : Jobs → (incarnation : ℕ) → List Outcome → List (Xid × Fate)
 fates_of jobs incarnation ends = flat_map (job_fates jobs incarnation ends) (all_jobs jobs)
 
@@ -67,7 +67,8 @@ NamesOnly is_own call = (x : Xid) → xid_in call ≡ Some x → is_own x ≡ tr
 abbrev pub HasFate : List MemRm → (Xid × Fate) → Type 0
 HasFate rms f = IsSomeAnd (branch_of_xid f.0) (λ b. IsSomeAnd (slice_get rms b.rm) (λ rm. fate_in rm f.0 ≡ f.1))
 
--- the resource managers are as many as the jobs name. Each listed branch has its fate there, and no other was started
+-- the resource managers are as many as the jobs name. Each listed branch has its fate there, and no
+-- other was started
 pub record HaveFates (jobs : Jobs) (incarnation : ℕ) (rms : List MemRm) (fates : List (Xid × Fate)) : Type 0 where
   pub number : length rms ≡ jobs.rms
   pub listed : All (HasFate rms) fates

@@ -1,4 +1,4 @@
--- Which fault is told, where workers ended before their work was done.
+-- Which fault is told, if workers ended before their work was done.
 use Rattle.std.specs.Prelude.{Bool, true, false, List, Result, Ok, Err, if◌then◌else◌}
 use Rattle.std.specs.List.{list_any}
 use Rattle.xa_workers.specs.declared.fault.Halt.{Halt}
@@ -19,7 +19,8 @@ tells fault (Err (Fault told)) = same_fault told fault
 tells fault (Err Stopped) = false
 tells fault (Ok left) = false
 
--- Of Memory, Log and Stuck, the first that a worker names. It is Mixed where no worker names one of these.
+-- Of Memory, Log and Stuck, the first that a worker names. It is Mixed if no worker names one of
+-- these.
 abbrev pub first_told : {T : Type 0} → List (Result T Halt) → WorkFault
 first_told ends =
     if list_any (tells Memory) ends then Memory

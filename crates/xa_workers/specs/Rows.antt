@@ -23,7 +23,7 @@ abbrev pub is_committed : Option Outcome → Bool
 is_committed (Some Commit) = true
 is_committed _ = false
 
--- whether job i has a row, where the jobs end so: it committed, and some branch voted yes
+-- whether job i has a row, if the jobs end so: it committed, and some branch voted yes
 abbrev pub job_has_row : Jobs → List Outcome → (i : ℕ) → Bool
 job_has_row jobs ends i = is_committed (slice_get ends i) && list_any is_yes (votes_of jobs i)
 
@@ -46,7 +46,8 @@ pub record IsFresh (incarnation : ℕ) (c : Content) : Type 0 where
   pub rows : (g : Gtrid) → incarnation ≤ g.incarnation → get c.decisions g ≡ None
   pub records : (b : Branch) → incarnation ≤ b.gtrid.incarnation → get c.heuristics b ≡ None
 
--- the log has these rows of jobs, and besides just what it came with, where no row and no record was of this incarnation
+-- the log has these rows of jobs, and besides exactly what it came with, if no row and no record
+-- was of this incarnation
 pub record HasRows (incarnation : ℕ) (rows : ℕ → Option (KeySet branch_cmp)) (before after : Content) : Type 0 where
   pub fresh : IsFresh incarnation before
   pub jobs : (i : ℕ) → get after.decisions (gtrid_of incarnation i) ≡ rows i
@@ -54,7 +55,8 @@ pub record HasRows (incarnation : ℕ) (rows : ℕ → Option (KeySet branch_cmp
   pub heuristics : after.heuristics ≡ before.heuristics
   pub same_incarnation : after.incarnation ≡ before.incarnation
 
--- where a log has the rows of the jobs that are noted in one list, these decisions make it have those that are noted in another
+-- if a log has the rows of the jobs that are noted in one list, these decisions make it have those
+-- that are noted in another
 abbrev pub Adds : Jobs → (incarnation : ℕ) → (noted : List Bool) → List Decision → (now_noted : List Bool) → Type 0
 Adds jobs incarnation noted decisions now_noted = (before c : Content)
     → HasRows incarnation (written_rows (participants_of_job jobs incarnation) noted) before c
@@ -64,8 +66,8 @@ Adds jobs incarnation noted decisions now_noted = (before c : Content)
 abbrev pub no_rows : (i : ℕ) → Option (KeySet branch_cmp)
 no_rows i = None
 
--- what a log has become in a run: its incarnation has risen by one, to that of the run, and it has the rows that it came
--- with, and these rows of jobs
+-- what a log has become in a run: its incarnation has risen by one, to that of the run, and it has
+-- the rows that it came with, and these rows of jobs
 pub record Logs {L : Type 0} (g : DecisionLog.Ghosts L) (incarnation : ℕ) (rows : ℕ → Option (KeySet branch_cmp))
     (first log : L) : Type 0 where
   pub order : (g.moment first).is_in_order → (g.moment log).is_in_order
@@ -74,8 +76,8 @@ pub record Logs {L : Type 0} (g : DecisionLog.Ghosts L) (incarnation : ℕ) (row
       (IsSomeAnd (g.moment first).content (λ before. (incarnation ≡ before.incarnation + 1)
       × IsSomeAnd (g.moment log).content (λ after. HasRows incarnation rows (with_bump before) after)))
 
--- A run can begin over a log: no call fails, the incarnation rises by one, and no row and no record is of that one or a
--- later one.
+-- A run can begin over a log: no call fails, the incarnation rises by one, and no row and no record
+-- is of that one or a later one.
 pub record CanBegin {L : Type 0} (g : DecisionLog.Ghosts L) (log : L) : Type 0 where
   pub left : L
   pub incarnation : ℕ

@@ -26,8 +26,8 @@ blank = record { entries = []; held = [] }
 abbrev pub without_slot : ℕ → List ℕ → List ℕ
 without_slot slot held = filter (λ k. not (k == slot)) held
 
--- a slot is held from the step that finds it open and leaves it claimed to the step that finds it claimed and decides
--- it
+-- a slot is held from the step that finds it open and leaves it claimed to the step that finds it
+-- claimed and decides it
 abbrev pub slots_after : List ℕ → ℕ → Word → Word → List ℕ
 slots_after held slot Open Claimed = slot ∷ held
 slots_after held slot Claimed Committed = without_slot slot held
@@ -38,7 +38,7 @@ slots_after held slot found left = held
 abbrev pub with_entry : View → Entry → View
 with_entry v e = record { entries = v.entries ++ e ∷ []; held = slots_after v.held e.slot e.found e.left }
 
--- after a step that left this word, a step may find it, or a greater one where it was open or claimed
+-- after a step that left this word, a step may find it, or a greater one if it was open or claimed
 abbrev pub MayFind : Word → Word → Type 0
 MayFind left found = (found ≡ left) ⊎ ((number_of_word left ≤ 1) × (number_of_word left < number_of_word found))
 
@@ -89,7 +89,8 @@ pub record SeatState : Type 0 where
   pub board : TableId
   pub view : View
 
--- the exchanges that a seat may make: to claim or roll back an open slot, and to decide a slot that it holds
+-- the exchanges that a seat may make: to claim or roll back an open slot, and to decide a slot that
+-- it holds
 abbrev pub MayExchange : View → ℕ → Word → Word → Type 0
 MayExchange v slot Open Claimed = Unit {0}
 MayExchange v slot Open RolledBack = Unit {0}

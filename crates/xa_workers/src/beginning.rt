@@ -15,8 +15,9 @@ pub(crate) struct Begun<L> {
     pub(crate) log: L,
 }
 
-/// Raises a log's incarnation for a run. A log over which no system starts is refused: one that fails, for want of memory
-/// too, and one whose rows and records aren't all of older incarnations, or are none that a log lists.
+/// Raises a log's incarnation for a run. A log over which no system starts is refused: one that
+/// fails, for want of memory too, and one whose rows and records aren't all of older incarnations,
+/// or are none that a log lists.
 pub(crate) fn begin<L: DecisionLog + Drop>(mut log: L) -> Result<Begun<L>, WorkFault>
     ensures first { IfOk result (λ begun. begun.first.value ≡ log) }
     ensures most { IfOk result (λ begun. begun.incarnation ≤ last_number) }

@@ -1,4 +1,5 @@
-//! The decision board: a word for each slot, on which threads decide without a lock how each job ends.
+//! The decision board: a word for each slot, on which threads decide without a lock how each job
+//! ends.
 ghost use Rattle.std.specs.Prelude.{◌≡◌, ◌≢◌, ◌≤◌, ◌<◌, IfOk};
 ghost use Rattle.xa_workers.specs.Words.{after_rollback, exchanged};
 ghost use Rattle.xa_workers.specs.Views.{blank, entry, claim_entry, with_entry, InOrder, HoldsSlot, SawDecided};
@@ -15,12 +16,12 @@ use std::marker::Model;
 use std::mem;
 use xa_base::Memory;
 
-/// A word for each slot, which threads share by `&`. Each call is one atomic step on one word, tried once; it neither
-/// waits nor takes memory.
+/// A word for each slot, which threads share by `&`. Each call is one atomic step on one word,
+/// tried once; it neither waits nor takes memory.
 ///
-/// Between any two steps of any seats the board keeps its rule (`specs/BoardRule.antt`): a slot is held by at most one
-/// seat, and is claimed then; what a seat saw decided stays so for good; and each seat finds what it left, or what comes
-/// after it.
+/// Between any two steps of any seats the board keeps its rule (`specs/BoardRule.antt`): a slot is
+/// held by at most one seat, and is claimed then; what a seat saw decided stays so for good; and
+/// each seat finds what it left, or what comes after it.
 #[derive(Drop)]
 pub struct Board {
     table: Table<(), Place, usize, Agreement, Global>,
@@ -39,8 +40,8 @@ impl Model for Board {
         × (b.table.shared.key ≤ JOB_LIMIT) };
 }
 
-/// The right to take steps on one board. Contracts see in it the steps that were taken with it, and the slots that it
-/// holds. It has no bytes.
+/// The right to take steps on one board. Contracts see in it the steps that were taken with it, and
+/// the slots that it holds. It has no bytes.
 #[derive(Drop)]
 pub struct BoardSeat {
     seat: Seat<(), Place>,
@@ -58,8 +59,8 @@ impl Model for BoardSeat {
 }
 
 impl Board {
-    /// A board of 0 to 1,000 slots, all of them open, and its first seat. Takes all the memory that it ever needs, and
-    /// fails only where that is refused.
+    /// A board of 0 to 1,000 slots, all of them open, and its first seat. Takes all the memory that
+    /// it ever needs, and fails only if that is refused.
     pub fn new(alloc: Global, slots: usize) -> Result<(Board, BoardSeat), Memory>
         requires { slots ≤ JOB_LIMIT }
         ensures slots { IfOk result (λ r. r.0.slots ≡ slots) }
@@ -92,7 +93,8 @@ impl Board {
         (BoardSeat { seat }, BoardSeat { seat: other })
     }
 
-    /// Claims the slot if it is open, for the seat to settle or abandon it. Else it stays as it is found.
+    /// Claims the slot if it is open, for the seat to settle or abandon it. Else it stays as it is
+    /// found.
     pub fn claim(&self, seat: &mut BoardSeat, slot: usize) -> Claim
         requires board { seat.old.board ≡ self.now.table }
         requires slot { slot < self.now.slots }
@@ -134,7 +136,8 @@ impl Board {
         self.exchange(seat, slot, Word::Claimed, Word::RolledBack);
     }
 
-    /// Rolls the slot back if it is open, and says how it then stands: never open. A claim stays with its seat.
+    /// Rolls the slot back if it is open, and says how it then stands: never open. A claim stays
+    /// with its seat.
     pub fn rollback(&self, seat: &mut BoardSeat, slot: usize) -> Word
         requires board { seat.old.board ≡ self.now.table }
         requires slot { slot < self.now.slots }
@@ -163,8 +166,8 @@ impl Board {
         Word::of_number(self.table.shared.load::<Noting>(seat, slot + 1))
     }
 
-    /// States that what two seats have seen agrees with one state of the board: they saw no slot decided in two ways,
-    /// and hold none both. It changes nothing.
+    /// States that what two seats have seen agrees with one state of the board: they saw no slot
+    /// decided in two ways, and hold none both. It changes nothing.
     pub fn compare(&self, one: &mut BoardSeat, other: &mut BoardSeat)
         requires one { one.old.board ≡ self.now.table }
         requires other { other.old.board ≡ self.now.table }

@@ -1,4 +1,4 @@
-//! Which fault is told, where workers ended before their work was done.
+//! Which fault is told, if workers ended before their work was done.
 ghost use Rattle.std.specs.Prelude.{◌≡◌, ◌⊎◌, All, IsOk, IsTrue, IfErr, IfOk};
 ghost use Rattle.std.specs.List.{filter_map, list_any};
 ghost use Rattle.std.specs.Result.{result_ok};
@@ -42,7 +42,8 @@ fn is_told<T>(fault: WorkFault, ends: &[Result<T, Halt>]) -> bool
     ends.iter().any(|end| tells(fault, end))
 }
 
-/// The fault that comes first. It is `Mixed` where workers were told to end, and none of them said why.
+/// The fault that comes first. It is `Mixed` if workers were told to end, and none of them said
+/// why.
 pub(crate) fn first_fault<T>(ends: &[Result<T, Halt>]) -> WorkFault
     ensures { result ≡ first_told ends.now }
 {
@@ -64,7 +65,8 @@ fn are_ok<T>(ends: &[Result<T, Halt>]) -> bool
     ends.iter().all(|end| end.is_ok())
 }
 
-/// What the workers of a kind left, in their order. Where some left nothing, the fault that comes first.
+/// What the workers of a kind left, in their order. If some left nothing, the fault that comes
+/// first.
 pub(crate) fn all_left<T: Drop>(
     alloc: Global,
     ends: Vec<Result<T, Halt>>,

@@ -54,7 +54,8 @@ impl<J: Run> JobRm<J> {
         self.number
     }
 
-    /// Answers a thread's call, unless it names another branch than one of the jobs, which is `Mixed`.
+    /// Answers a thread's call, unless it names another branch than one of the jobs, which is
+    /// `Mixed`.
     pub(crate) fn answer(
         &mut self,
         jobs: &Jobs,
@@ -82,7 +83,8 @@ impl<J: Run> JobRm<J> {
     }
 }
 
-/// What a job votes at a resource manager, if it has to be told: a branch that nobody named votes yes.
+/// What a job votes at a resource manager, if it has to be told: a branch that nobody named votes
+/// yes.
 fn vote_to_set(jobs: &Jobs, job: usize, rm: u32) -> Option<Vote> {
     match jobs.vote(job, rm) {
         Some(Vote::Yes) => None,

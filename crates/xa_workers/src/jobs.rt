@@ -9,9 +9,9 @@ use std::alloc::{AllocError, Global};
 use xa_base::{Branch, Gtrid, MAX_RMS, MAX_THREADS, Vote, Xid};
 use xa_log::Decision;
 
-/// Global transactions to be run at once. Job `i`, from 0, belongs to thread `i` modulo `threads`, and has a branch at
-/// each resource manager whose vote isn't `None`. Its gtrid is the incarnation that the log gives the run, and the
-/// sequence `i + 1`.
+/// Global transactions to be run at once. Job `i`, from 0, belongs to thread `i` modulo `threads`,
+/// and has a branch at each resource manager whose vote isn't `None`. Its gtrid is the incarnation
+/// that the log gives the run, and the sequence `i + 1`.
 #[derive(Drop)]
 pub struct Jobs {
     /// How many threads of control there are, 1 to 8.
@@ -20,8 +20,8 @@ pub struct Jobs {
     pub rms: u32,
     /// Whether a recovery rolls back what isn't claimed yet, while the jobs run.
     pub sweep: bool,
-    /// For each job, at most 1,000, what each resource manager answers to its xa_prepare (XA, section 2.3), or `None`
-    /// where it has no branch there.
+    /// For each job, at most 1,000, what each resource manager answers to its xa_prepare (XA,
+    /// section 2.3), or `None` if it has no branch there.
     pub votes: Vec<Vec<Option<Vote>>>,
 }
 
@@ -65,8 +65,8 @@ pub(crate) fn gtrid(incarnation: u64, job: usize) -> Gtrid
 }
 
 impl Jobs {
-    /// Whether the jobs can be run: there are 1 to 8 threads, 1 to 8 resource managers and at most 1,000 jobs, and each
-    /// job has a vote or none for each resource manager.
+    /// Whether the jobs can be run: there are 1 to 8 threads, 1 to 8 resource managers and at most
+    /// 1,000 jobs, and each job has a vote or none for each resource manager.
     pub fn is_runnable(&self) -> bool
         ensures { IsTrue result ↔ IsRunnable self.now }
     {

@@ -1,11 +1,13 @@
-//! Jobs, each a global transaction, that worker threads run: one for each thread of control, one for each resource
-//! manager and, where a recovery sweeps the jobs, one for that. The calling thread is the log's worker.
+//! Jobs, each a global transaction, that worker threads run: one for each thread of control, one
+//! for each resource manager and, if a recovery sweeps the jobs, one for that. The calling thread
+//! is the log's worker.
 //!
-//! [`run_jobs`] runs them. The calls of a thread of control go to a resource manager over a line of two rings, and on a
-//! [`Board`] the threads and the recovery decide without a lock how each job ends.
+//! [`run_jobs`] runs them. The calls of a thread of control go to a resource manager over a line of
+//! two rings, and on a [`Board`] the threads and the recovery decide without a lock how each job
+//! ends.
 //!
-//! "XA" in these pages is X/Open CAE Specification C193, "Distributed Transaction Processing: The XA Specification"
-//! (1991).
+//! "XA" in these pages is X/Open CAE Specification C193, "Distributed Transaction Processing: The
+//! XA Specification" (1991).
 #![tactic(auto)]
 
 mod beginning;

@@ -58,7 +58,7 @@ fn is_commit(end: Option<Outcome>) -> bool
 }
 
 impl Jobs {
-    /// How all jobs end, where no recovery sweeps them.
+    /// How all jobs end, if no recovery sweeps them.
     pub(crate) fn planned_ends(&self, alloc: Global) -> Result<Vec<Outcome>, AllocError>
         ensures { IfOk result (λ v. v.items ≡ ends_of self.now) }
     {
@@ -68,7 +68,7 @@ impl Jobs {
             .collect(alloc)
     }
 
-    /// The fate of a job's branch at a resource manager, where the jobs end so.
+    /// The fate of a job's branch at a resource manager, if the jobs end so.
     fn fate(&self, incarnation: u64, ends: &[Outcome], job: usize, rm: u32) -> Option<(Xid, Fate)>
         requires job { job < 2 ^ 32 }
         requires threads { 0 < self.now.threads }
@@ -80,7 +80,7 @@ impl Jobs {
         Some((branch.xid(), fate_after(end, vote)))
     }
 
-    /// The fates of a job's branches, where the jobs end so.
+    /// The fates of a job's branches, if the jobs end so.
     fn job_fates(
         &self,
         alloc: Global,
@@ -97,7 +97,7 @@ impl Jobs {
             .collect(alloc)
     }
 
-    /// The fates of all branches, where the jobs end so.
+    /// The fates of all branches, if the jobs end so.
     #[tactic(auto, using(crate::proofs::Ranges::flat_map_next))]
     pub(crate) fn fates(
         &self,
@@ -117,7 +117,7 @@ impl Jobs {
         Ok(all)
     }
 
-    /// Whether a job has a row in the log, where the jobs end so.
+    /// Whether a job has a row in the log, if the jobs end so.
     pub(crate) fn has_row(&self, ends: &[Outcome], job: usize) -> bool
         ensures { result ≡ job_has_row self.now ends.now job }
     {

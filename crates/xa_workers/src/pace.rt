@@ -7,7 +7,8 @@ use std::time::{Clock, Instant};
 /// Of the time of its last write the log's worker waits this part at most.
 const PART: u128 = 4;
 
-/// It doesn't wait at all where that write took fewer microseconds, as most of a log in memory do: there is little to share.
+/// It doesn't wait at all if that write took fewer microseconds, as most of a log in memory do:
+/// there is little to share.
 const LEAST_WRITE: u128 = 50;
 
 /// How often it yields at most in one wait.
@@ -16,8 +17,8 @@ const MOST_WAITS: u32 = 10_000;
 /// So many writes go without a wait after one in which another program ran.
 const UNPACED: u32 = 256;
 
-/// What the log's worker waits for before a write. Threads that ask one by one would fall into groups that are written in
-/// turn, and each group would wait for the writes of the others.
+/// What the log's worker waits for before a write. Threads that ask one by one would fall into
+/// groups that are written in turn, and each group would wait for the writes of the others.
 #[derive(Clone, Copy)]
 pub(crate) struct Pace {
     /// The microseconds that the last write took.
@@ -33,8 +34,8 @@ impl Pace {
         unpaced: 0,
     };
 
-    /// Waits, where a row is asked for and a thread runs that asks for none yet: until each asks, or for a part of the time of
-    /// the last write.
+    /// Holds a write back while other threads may still add rows to it: until every thread has
+    /// asked, at most 1/PART of the last write's time.
     pub(crate) fn fill(&mut self, clock: &impl Clock, docket: &Docket) {
         if self.unpaced > 0 {
             self.unpaced -= 1;

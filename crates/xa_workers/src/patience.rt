@@ -5,26 +5,29 @@ use std::thread::Threads;
 use std::time::{Clock, Instant};
 use std::{hint, thread};
 
-/// How often an idle worker looks before it yields, where each worker has a processor of its own.
+/// How often an idle worker looks before it yields, if each worker has a processor of its own.
 const MOST_LOOKS: u32 = 200;
 
-/// How often it then yields before it sleeps: for longer than it takes to wake a processor that has nothing to do, so
-/// that one worker that fell asleep isn't followed by all.
+/// How often it then yields before it sleeps: for longer than it takes to wake a processor that has
+/// nothing to do, so that one worker that fell asleep isn't followed by all.
 const MOST_YIELDS: u32 = 1_000;
 
 /// A yield that took more microseconds went to another program.
 const LONG_YIELD: u128 = 500;
 
-/// One that took more went to a worker on the same processor: with nobody there it takes less than one.
+/// One that took more went to a worker on the same processor: with nobody there it takes less than
+/// one.
 const SHARED_YIELD: u128 = 2;
 
-/// How often a worker sleeps at once after its first long yield. Each later one makes it eight times as often.
+/// How often a worker sleeps at once after its first long yield. Each later one makes it eight
+/// times as often.
 const FIRST_SLEEPS: u32 = 16;
 
 /// How often it does so at most after one long yield.
 const MOST_SLEEPS: u32 = 4_096;
 
-/// Behind so many short yields in a row a long one counts as the first again: the other program was there for a moment.
+/// After so many short yields in a row a long one counts as the first again: the other program was
+/// there for a moment.
 const FORGIVEN: u32 = 20_000;
 
 /// What an idle worker is to do before it looks again.
@@ -51,7 +54,7 @@ pub(crate) enum Yielded {
 /// What a worker did since it last found something to do, and what its yields cost it.
 #[derive(Clone, Copy)]
 pub(crate) struct Idle {
-    /// How often it looks before it yields: not at all where workers share processors.
+    /// How often it looks before it yields: not at all if workers share processors.
     most_looks: u32,
     most_yields: u32,
     looks: u32,
@@ -89,8 +92,8 @@ pub(crate) fn give_way(clock: &impl Clock) -> Yielded {
 }
 
 impl Idle {
-    /// A worker that has just begun. Where each has a processor of its own it sleeps at once the first time: Linux may start
-    /// several on one processor, but wakes each on one that is free.
+    /// A worker that has just begun. If each has a processor of its own it sleeps at once the first
+    /// time: Linux may start several on one processor, but wakes each on one that is free.
     pub(crate) fn new(most_looks: u32) -> Idle {
         Idle {
             most_looks,
@@ -104,8 +107,8 @@ impl Idle {
         }
     }
 
-    /// A resource manager's worker that has just begun. Where workers share processors it sleeps at once, and the threads that
-    /// call serve themselves.
+    /// A resource manager's worker that has just begun. If workers share processors it sleeps at
+    /// once, and the threads that call serve themselves.
     pub(crate) fn new_rm(most_looks: u32) -> Idle {
         let most_yields = if most_looks > 0 { MOST_YIELDS } else { 0 };
         Idle {
@@ -160,9 +163,9 @@ impl Idle {
         Pause::Sleep
     }
 
-    /// Notes to whom a yield went. Where another program ran, yields may cost a whole slice of time each, and the worker goes
-    /// without them for a while. Where another worker did, though each has a processor of its own, it sleeps once, and is
-    /// woken on one that is free.
+    /// Notes to whom a yield went. If another program ran, yields may cost a whole slice of time
+    /// each, and the worker goes without them for a while. If another worker did, though each has a
+    /// processor of its own, it sleeps once, and is woken on one that is free.
     fn note(&mut self, yielded: Yielded) {
         if yielded == Yielded::Program {
             self.go_without();
@@ -174,7 +177,8 @@ impl Idle {
         }
     }
 
-    /// Has the worker sleep at once from now on: the more often, the more long yields came before, unless they are long past.
+    /// Has the worker sleep at once from now on: the more often, the more long yields came before,
+    /// unless they are long past.
     fn go_without(&mut self) {
         if self.short >= FORGIVEN {
             self.penalty = FIRST_SLEEPS;

@@ -28,7 +28,8 @@ fn met<J: Run>(issuer: NumberedIssuer<J>, takers: &mut Vec<NumberedTaker<J>>) ->
     Some(line)
 }
 
-/// The lines of all ends. It is `Mixed` where an end has no other end, or a line still holds a call or an answer.
+/// The lines of all ends. It is `Mixed` if an end has no other end, or a line still holds a call or
+/// an answer.
 pub(crate) fn all_met<J: Run>(
     alloc: Global,
     issuers: Vec<NumberedIssuer<J>>,

@@ -31,7 +31,7 @@ use std::time::Clock;
 use xa_line::{Issuer, Taker};
 use xa_log::DecisionLog;
 
-/// What the workers left, where none ended before its work was done. Else the fault that comes first.
+/// What the workers left, if none ended before its work was done. Else the fault that comes first.
 fn work_of<J: Run, L: Drop>(
     started: Result<(), Halt>,
     logged: Result<(), Halt>,
@@ -143,8 +143,8 @@ fn run_all<
     )
 }
 
-/// Runs the jobs of a crew over a log that has begun, and over the two ends of each line: deals the ends to the workers,
-/// runs all of them, and looks at what they left.
+/// Runs the jobs of a crew over a log that has begun, and over the two ends of each line: deals the
+/// ends to the workers, runs all of them, and looks at what they left.
 fn run_dealt<
     J: Run + Send + Sync,
     R: Threads + Wait + Clock + Sync,
@@ -236,34 +236,38 @@ fn run_named<
     run_dealt(rt, alloc, &crew, seat, begun, issuers, takers)
 }
 
-/// Runs the jobs by two-phase commit with presumed rollback (XA, section 2.3): one worker for each thread of control, one
-/// for each resource manager, one for the recovery if it sweeps them, and this thread writes the log. All workers have
-/// ended when it returns.
+/// Runs the jobs by two-phase commit with presumed rollback (XA, section 2.3): one worker for each
+/// thread of control, one for each resource manager, one for the recovery if it sweeps them, and
+/// this thread writes the log. All workers have ended when it returns.
 ///
-/// A thread of control opens its lines, and sends the branches of each of its jobs xa_start, xa_end and xa_prepare, all of
-/// them before it awaits the first answer. Once all votes are heard it claims the job at the board, has its row written and
-/// settles the claim, and then sends xa_commit to the branches that voted yes. A job with a no, and one whose claim isn't
-/// won, gets xa_rollback. Rows that threads ask for at the same time are written at once.
+/// A thread of control opens its lines, and sends the branches of each of its jobs xa_start, xa_end
+/// and xa_prepare, all of them before it awaits the first answer. Once all votes are heard it
+/// claims the job at the board, has its row written and settles the claim, and then sends xa_commit
+/// to the branches that voted yes. A job with a no, and one whose claim isn't won, gets
+/// xa_rollback. Rows that threads ask for at the same time are written at once.
 ///
-/// What a job's last calls are answered is heard together with the votes of the thread's next job, so that each job takes one
-/// round trip. All answers were heard when it returns outcomes.
+/// What a job's last calls are answered is heard together with the votes of the thread's next job,
+/// so that each job takes one round trip. All answers were heard when it returns outcomes.
 ///
-/// A worker with nothing to do looks again for a while, yields, and then sleeps until it is woken, a resource manager's worker for
-/// a millisecond at most. A thread of control that waits for an answer serves its line itself, if the resource manager's worker
-/// doesn't look for calls. Before it writes, the log's worker waits a little for further rows. The clock tells only how long
+/// A worker with nothing to do looks again for a while, yields, and then sleeps until it is woken,
+/// a resource manager's worker for a millisecond at most. A thread of control that waits for an
+/// answer serves its line itself, if the resource manager's worker doesn't look for calls. Before
+/// it writes, the log's worker waits a little for further rows. The clock tells only how long
 /// yields and writes take, and so how long is waited.
 ///
-/// The clauses say what the jobs came to, for some incarnation that the log gave: `ends`, that each job ended as its
-/// votes say, or was rolled back by the recovery; `plain`, that without a recovery each ended as its votes say;
-/// `outcome`, the fates of all branches, that the resource managers have these and no other branch, and that the log has
-/// the rows that it came with and one for each committed job with a yes, with these branches as its participants;
-/// `order`, that the fates are listed in the order of the identifiers; `lines`, that on each line each call was taken, and
-/// each answer heard; `can_begin`, that a log over which no run can begin is told as Log and as nothing else. After a
-/// fault nothing is said of the log.
+/// The clauses say what the jobs came to, for some incarnation that the log gave: `ends`, that each
+/// job ended as its votes say, or was rolled back by the recovery; `plain`, that without a recovery
+/// each ended as its votes say; `outcome`, the fates of all branches, that the resource managers
+/// have these and no other branch, and that the log has the rows that it came with and one for each
+/// committed job with a yes, with these branches as its participants; `order`, that the fates are
+/// listed in the order of the identifiers; `lines`, that on each line each call was taken, and each
+/// answer heard; `can_begin`, that a log over which no run can begin is told as Log and as nothing
+/// else. After a fault nothing is said of the log.
 ///
 /// - [`WorkFault::Memory`]: a request for memory outside of the log, or for a thread, was refused.
-/// - [`WorkFault::Log`]: the log failed, for want of memory too, or no system starts over it: it has no incarnation left, or
-///   holds a row or a record of the incarnation that it gave, or of a later one.
+/// - [`WorkFault::Log`]: the log failed, for want of memory too, or no system starts over it: it
+///   has no incarnation left, or holds a row or a record of the incarnation that it gave, or of a
+///   later one.
 /// - [`WorkFault::Stuck`]: a gate answered no to one worker 1,000,000 times in a row.
 /// - [`WorkFault::Mixed`]: what the workers gave back doesn't agree.
 ///

@@ -19,7 +19,8 @@ use std::sync::Wait;
 use std::time::{Clock, Instant};
 use xa_log::{Decision, DecisionLog};
 
-/// A run's log, and for each job whether the run wrote its row. `first` remembers the log as it was before the run.
+/// A run's log, and for each job whether the run wrote its row. `first` remembers the log as it was
+/// before the run.
 #[derive(Drop)]
 pub(crate) struct RunRows<L> {
     pub(crate) log: L,
@@ -139,8 +140,8 @@ impl<L: DecisionLog> RunRows<L> {
     }
 }
 
-/// Writes the rows that threads of control ask for, those that are asked for at the same time at once, and says whether
-/// there was one.
+/// Writes the rows that threads of control ask for, those that are asked for at the same time at
+/// once, and says whether there was one.
 fn write_asked<J: Run, G: Gate, L: DecisionLog>(
     clock: &impl Clock,
     alloc: Global,

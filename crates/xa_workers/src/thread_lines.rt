@@ -69,8 +69,9 @@ impl<'a, J: Run, G: Gate> ThreadLines<'a, J, G> {
         Ok(())
     }
 
-    /// The votes of a job with these branches. All its calls are on their lines before the thread waits for an answer, behind
-    /// the last ones of its job before, which `told` were sent. All are answered before this returns.
+    /// The votes of a job with these branches. All its calls are on their lines before the thread
+    /// waits for an answer, after the last ones of its job before, which `told` were sent. All are
+    /// answered before this returns.
     pub(crate) fn votes<R: Wait + Clock>(
         &mut self,
         rt: &R,
@@ -111,8 +112,9 @@ impl<'a, J: Run, G: Gate> ThreadLines<'a, J, G> {
         Ok(())
     }
 
-    /// Serves this thread's line to a resource manager, and waits a little where there was nothing to serve. Before it sleeps it
-    /// wakes the worker, since who holds the resource manager may be another thread.
+    /// Serves this thread's line to a resource manager, and waits a little if there was nothing to
+    /// serve. Before it sleeps it wakes the worker, since who holds the resource manager may be
+    /// another thread.
     fn serve_or_wait<R: Wait + Clock>(&mut self, rt: &R, rm: u32) -> Result<(), Halt> {
         if self.serve(rm)? {
             return Ok(());
@@ -123,7 +125,8 @@ impl<'a, J: Run, G: Gate> ThreadLines<'a, J, G> {
         Ok(())
     }
 
-    /// Serves this thread's line to a resource manager, unless somebody else holds that, and says whether there was a call.
+    /// Serves this thread's line to a resource manager, unless somebody else holds that, and says
+    /// whether there was a call.
     fn serve(&self, rm: u32) -> Result<bool, Halt> {
         if self.crew.signals.is_attended(rm) {
             return Ok(false);
@@ -138,7 +141,8 @@ impl<'a, J: Run, G: Gate> ThreadLines<'a, J, G> {
         served.serve_line(self.crew, self.thread)
     }
 
-    /// The codes that answer the oldest unheard call for each of these branches, once all are there.
+    /// The codes that answer the oldest unheard call for each of these branches, once all are
+    /// there.
     fn hear_each<R: Wait + Clock>(
         &mut self,
         rt: &R,

@@ -131,7 +131,7 @@ fn taken_ends<J: Run>(
     Ok(all)
 }
 
-/// Whether the rows were written that the jobs have, where they end so.
+/// Whether the rows were written that the jobs have, if they end so.
 fn have_rows(jobs: &Jobs, ends: &[Outcome], written: &[bool]) -> bool
     ensures { IsTrue result → (i : ℕ)
         → slice_index_or written.now i false ≡ job_has_row jobs.now ends.now i }
@@ -147,7 +147,8 @@ fn have_rows(jobs: &Jobs, ends: &[Outcome], written: &[bool]) -> bool
     true
 }
 
-/// Whether the resource managers are as many as the jobs name, and each listed identifier has its fate there.
+/// Whether the resource managers are as many as the jobs name, and each listed identifier has its
+/// fate there.
 fn rms_agree(jobs: &Jobs, rms: &[MemRm], fates: &[(Xid, Fate)]) -> bool
     ensures number { IsTrue result → length rms.now ≡ jobs.now.rms }
     ensures listed { IsTrue result → All (HasFate rms.now) fates.now }
@@ -162,7 +163,7 @@ fn are_all_lines(jobs: &Jobs, lines: &[Line]) -> bool
     lines.len() as u64 == u64::from(jobs.threads) * u64::from(jobs.rms)
 }
 
-/// How the jobs ended, where they may end so.
+/// How the jobs ended, if they may end so.
 fn ends_left<J: Run>(
     alloc: Global,
     jobs: &Jobs,
@@ -209,7 +210,8 @@ fn rms_and_lines<J: Run>(
     }
 }
 
-/// What the jobs came to, where all that the workers left, and the resource managers that were served, agree with it.
+/// What the jobs came to, if all that the workers left, and the resource managers that were served,
+/// agree with it.
 pub(crate) fn verified_outcomes<J: Run, L: DecisionLog + Drop>(
     alloc: Global,
     jobs: &Jobs,

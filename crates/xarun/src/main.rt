@@ -1,5 +1,6 @@
-//! What the program `xatm` does of files that it only looks at, over a log in memory: `run`, `check`, `explain` and `chart`. It is small,
-//! so that `rt try` is soon done with it: `./xatm` has it run where that program isn't built.
+//! What the program `xatm` does of files that it only looks at, over a log in memory: `run`,
+//! `check`, `explain` and `chart`. It is small, so that `rt try` is soon done with it: `./xatm` has
+//! it run if that program isn't built.
 #![tactic(auto)]
 
 use std::alloc::{AllocError, AllocFailed};
@@ -28,7 +29,7 @@ enum Failure {
 }
 
 impl Failure {
-    /// This failure, or want of memory, where that is the cause.
+    /// This failure, or want of memory, if that is the cause.
     fn caused_by(self, error: &io::Error) -> Failure {
         match error.kind() {
             io::ErrorKind::OutOfMemory => Failure::Run(RunFault::Memory),
@@ -36,8 +37,8 @@ impl Failure {
         }
     }
 
-    /// The status that the program ends with: 1 where the file is refused, 2 where the work on it fails, 3 where the
-    /// command line is refused.
+    /// The status that the program ends with: 1 if the file is refused, 2 if the work on it fails,
+    /// 3 if the command line is refused.
     fn status(&self) -> u8 {
         match self {
             Failure::CommandLine => 3,
@@ -94,8 +95,8 @@ fn main(rt: HostRuntime) -> ExitCode {
     }
 }
 
-/// Does what the command line asks: `run FILE..`, `run --trace FILE..`, `check FILE..`, `check --explain FILE..`, `explain FILE` or
-/// `chart FILE`.
+/// Does what the command line asks: `run FILE..`, `run --trace FILE..`, `check FILE..`, `check
+/// --explain FILE..`, `explain FILE` or `chart FILE`.
 fn work(rt: &HostRuntime) -> Result<(), Failure> {
     let alloc = rt.alloc();
     let words: Vec<String> = env::args(rt)
@@ -115,7 +116,7 @@ fn work(rt: &HostRuntime) -> Result<(), Failure> {
     }
 }
 
-/// The failure of a file, behind earlier ones, that was read for this.
+/// The failure of a file, after earlier ones, that was read for this.
 fn failure_of(
     rt: &HostRuntime,
     path: &str,

@@ -1,4 +1,5 @@
-//! The two files of a log: a log over them, and what is done over a connection to them, which is closed then.
+//! The two files of a log: a log over them, and what is done over a connection to them, which is
+//! closed then.
 
 use crate::disks::seen::Seen;
 use crate::disks::task::{Change, Done, Reached, Task, perform};
@@ -8,8 +9,8 @@ use std::alloc::Global;
 use xa_log::LogFault;
 use xa_sql_log::SqlLog;
 
-/// How files are opened: with little memory for pages, so that a run is short. Behind so many frames the journal is copied
-/// into the database file.
+/// How files are opened: with little memory for pages, so that a run is short. After so many frames
+/// the journal is copied into the database file.
 fn options(checkpoint_frames: usize) -> Options {
     Options {
         cache_pages: 16,
@@ -19,8 +20,8 @@ fn options(checkpoint_frames: usize) -> Options {
     }
 }
 
-/// What a task comes to over a connection to files, and the files as they then stand, with no copy of the journal into the
-/// database file.
+/// What a task comes to over a connection to files, and the files as they then stand, with no copy
+/// of the journal into the database file.
 fn perform_over<D: Disk + Drop>(
     conn: Connection<FileStore<D>>,
     task: Task<'_>,
@@ -40,7 +41,8 @@ fn perform_in<D: Disk + Drop>(alloc: Global, files: Files<D>, task: Task<'_>) ->
     }
 }
 
-/// The files once these statements have run. It is an `Err` where they don't open, or a statement is refused.
+/// The files once these statements have run. It is an `Err` if they don't open, or a statement is
+/// refused.
 pub(crate) fn files_after<D: Disk + Drop>(
     alloc: Global,
     files: Files<D>,
@@ -52,7 +54,7 @@ pub(crate) fn files_after<D: Disk + Drop>(
     }
 }
 
-/// What the tables in the files hold, and the files. It is an `Err` where they don't open.
+/// What the tables in the files hold, and the files. It is an `Err` if they don't open.
 pub(crate) fn look_in<D: Disk + Drop>(
     alloc: Global,
     files: Files<D>,
@@ -95,8 +97,8 @@ pub(crate) fn crash_after<D: Crash + Drop>(
     Ok((reached, left, next))
 }
 
-/// A log over the files, where they open and it can make its tables. With little room in the journal, so that the database file
-/// is written too.
+/// A log over the files, if they open and it can make its tables. With little room in the journal,
+/// so that the database file is written too.
 pub(crate) fn log_over<D: Disk + Drop>(
     alloc: Global,
     files: Files<D>,

@@ -15,8 +15,8 @@ pub(crate) const VERSION_1: &str = "BEGIN; \
     INSERT INTO heuristic (inc, seq, thread, rm, how) VALUES (1, 2, 0, 3, 6); \
     COMMIT";
 
-/// The tables of a database, and how many rows they have. Of decisions and heuristics only the rows of `VERSION_1` count, and any
-/// other row counts as -1.
+/// The tables of a database, and how many rows they have. Of decisions and heuristics only the rows
+/// of `VERSION_1` count, and any other row counts as -1.
 #[derive(Clone, Copy, PartialEq, Eq)]
 pub(crate) struct Seen {
     pub tables: i64,
@@ -60,7 +60,7 @@ pub(crate) const MIGRATED: Seen = Seen {
     ..OLD
 };
 
-/// The number that a query answers, or 0 where it is refused.
+/// The number that a query answers, or 0 if it is refused.
 fn number<S: Alter>(conn: &mut Connection<S>, sql: &str) -> i64 {
     match conn.query_row(sql, &[]) {
         Ok(row) => row.get(0).unwrap_or(0),

@@ -1,4 +1,5 @@
-//! What is done over a connection: statements run, its tables are looked at, or a log takes it and may make a change.
+//! What is done over a connection: statements run, its tables are looked at, or a log takes it and
+//! may make a change.
 
 ghost use Rattle.std.specs.Prelude.{◌≡◌, ◌≤◌};
 ghost use Rattle.xa_log.specs.Contract.{FitsRow};

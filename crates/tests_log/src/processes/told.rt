@@ -44,8 +44,8 @@ impl Ends {
     }
 }
 
-/// Whether a branch may end so: it is committed only where its transaction has had a row, and rolled back or lost only where it
-/// never had one.
+/// Whether a branch may end so: it is committed only if its transaction has had a row, and rolled
+/// back or lost only if it never had one.
 fn may_end(fate: Fate, has_row: bool) -> bool {
     match fate {
         Fate::Committed => has_row,

@@ -54,7 +54,7 @@ pub(crate) enum Act {
     RestartRm(u32),
 }
 
-/// The call of an act, with its resource manager, where it is one.
+/// The call of an act, with its resource manager, if it is one.
 fn call_of(act: Act) -> Option<(u32, Call)> {
     match act {
         Act::Open(rm) => Some((rm, Call::OpenRm)),

@@ -1,4 +1,5 @@
-//! What follows a stop: the log is given back, the manager is started again, and what is in doubt is ended.
+//! What follows a stop: the log is given back, the manager is started again, and what is in doubt
+//! is ended.
 
 use crate::rows::act::{Act, branch, perform};
 use std::process::Abort;
@@ -60,8 +61,9 @@ fn perform_all<L: DecisionLog + Drop>(system: &mut System<MemRm, L>, acts: &[Act
     }
 }
 
-/// Opens the line to each resource manager, has what is in doubt there listed, and ends it: again and again, since a
-/// branch that ended heuristically is to be forgotten, and a resource manager may put its xa_commit off.
+/// Opens the line to each resource manager, has what is in doubt there listed, and ends it: again
+/// and again, since a branch that ended heuristically is to be forgotten, and a resource manager
+/// may put its xa_commit off.
 fn recover<L: DecisionLog + Drop>(system: &mut System<MemRm, L>, rms: u32) {
     for rm in 0..rms {
         perform_all(system, &[Act::RestartRm(rm), Act::Open(rm)]);
@@ -77,8 +79,8 @@ fn recover<L: DecisionLog + Drop>(system: &mut System<MemRm, L>, rms: u32) {
     }
 }
 
-/// Asks each branch once more for its xa_commit, since what was heard before a crash counts no more, and has the row leave.
-/// Answers how many rows left.
+/// Asks each branch once more for its xa_commit, since what was heard before a crash counts no
+/// more, and has the row leave. Answers how many rows left.
 fn settle<L: DecisionLog + Drop>(system: &mut System<MemRm, L>, rms: u32) -> usize {
     for rm in 0..rms {
         perform(system, Act::Commit(rm));
@@ -89,7 +91,8 @@ fn settle<L: DecisionLog + Drop>(system: &mut System<MemRm, L>, rms: u32) -> usi
     }
 }
 
-/// What is in doubt is ended, and all branches have this end, but for those that ended heuristically. Answers how many those are.
+/// What is in doubt is ended, and all branches have this end, except for those that ended
+/// heuristically. Answers how many those are.
 fn ends_alike<L: DecisionLog + Drop>(
     rt: &impl Abort,
     system: &mut System<MemRm, L>,
@@ -103,7 +106,8 @@ fn ends_alike<L: DecisionLog + Drop>(
     alone
 }
 
-/// The rows leave, and the next start is of a later incarnation: it finds no decision, and so many heuristic ends.
+/// The rows leave, and the next start is of a later incarnation: it finds no decision, and so many
+/// heuristic ends.
 fn rows_leave<L: DecisionLog + Drop>(
     rt: &impl Abort,
     system: &mut System<MemRm, L>,
@@ -118,8 +122,9 @@ fn rows_leave<L: DecisionLog + Drop>(
     assert!(rt; is_later && after.decisions == 0 && after.heuristics == alone);
 }
 
-/// The manager is started over the log that was given back, and all branches end alike, as the log says; but for those
-/// that ended heuristically, of which the log tells. Answers what the start found.
+/// The manager is started over the log that was given back, and all branches end alike, as the log
+/// says; except for those that ended heuristically, of which the log tells. Answers what the start
+/// found.
 pub(crate) fn end_as_the_log_says<L: DecisionLog + Drop>(
     rt: &impl Abort,
     system: &mut System<MemRm, L>,

@@ -40,7 +40,8 @@ fn ends_whole<L: DecisionLog + Drop>(rt: &impl Abort, system: &System<MemRm, L>,
     assert!(rt; ended.saturating_add(alone) == row.rms as usize && ended > 0);
 }
 
-/// The incarnation of the last start, and whether the step behind all others was to start the manager again.
+/// The incarnation of the last start, and whether the step after all others was to start the
+/// manager again.
 fn starts_of<L: DecisionLog + Drop>(system: &System<MemRm, L>) -> (u64, bool) {
     let mut incarnation = 1u64;
     let mut is_start = false;
@@ -53,8 +54,8 @@ fn starts_of<L: DecisionLog + Drop>(system: &System<MemRm, L>) -> (u64, bool) {
     (incarnation, is_start)
 }
 
-/// A manager takes its log again, and all ends as the log says. The incarnation is the next, and where the start of a
-/// manager met the stop, that or the one after it.
+/// A manager takes its log again, and all ends as the log says. The incarnation is the next, and if
+/// the start of a manager met the stop, that or the one after it.
 fn goes_on<L: DecisionLog + Drop>(
     rt: &impl Abort,
     system: &mut System<MemRm, L>,
@@ -135,8 +136,8 @@ fn run(rt: &impl Abort, alloc: Global, which: Stops, calls: u64, row: &Row) -> R
     Ok(playing.ended)
 }
 
-/// A row with a stop at each call of the one file, up to a run that meets none. Answers how many runs met a stop before the
-/// first step, and how many in a step.
+/// A row with a stop at each call of the one file, up to a run that meets none. Answers how many
+/// runs met a stop before the first step, and how many in a step.
 fn stop_at_each_call(
     rt: &impl Abort,
     alloc: Global,
@@ -168,7 +169,8 @@ fn tell(
     );
 }
 
-/// The same for both files. A step that changes the log meets stops of the journal, in which its changes are.
+/// The same for both files. A step that changes the log meets stops of the journal, in which its
+/// changes are.
 fn stops(rt: &(impl Abort + Eprint), alloc: Global, row: &Row) -> Result<(), Fail> {
     let database = stop_at_each_call(rt, alloc, Stops::Database, row)?;
     let journal = stop_at_each_call(rt, alloc, Stops::Journal, row)?;

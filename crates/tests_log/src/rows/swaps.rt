@@ -1,5 +1,5 @@
-//! A commit in two phases whose log fails at the decision, which it has made, over a log that fails by plan; and logs that a manager
-//! doesn't take meanwhile.
+//! A commit in two phases whose log fails at the decision, which it has made, over a log that fails
+//! by plan; and logs that a manager doesn't take meanwhile.
 
 ghost use Rattle.std.specs.Prelude.{◌≡◌};
 ghost use Rattle.xa_log.specs.Contract.{FitsRow};
@@ -66,7 +66,8 @@ fn keeps_its_log(alloc: Global, system: &mut System<MemRm, FailLog>) -> bool {
     matches!(fault, Some(SwapFault::Up)) && taken_log(system).is_none()
 }
 
-/// Whether a manager whose log is out stays down: there is no other log to take out, and no restart is accepted.
+/// Whether a manager whose log is out stays down: there is no other log to take out, and no restart
+/// is accepted.
 fn stays_down(system: &mut System<MemRm, FailLog>) -> bool {
     taken_log(system).is_none()
         && matches!(

@@ -1,4 +1,4 @@
-//! The rows: what is done, and how it ends where nothing stops.
+//! The rows: what is done, and how it ends if nothing stops.
 
 use crate::rows::act::Act;
 use crate::rows::act::Act::{
@@ -12,7 +12,7 @@ use crate::rows::act::Act::{
 pub(crate) struct Row {
     pub rms: u32,
     pub parts: &'static [&'static [Act]],
-    /// Whether its transaction is committed where nothing stops.
+    /// Whether its transaction is committed if nothing stops.
     pub is_committed: bool,
     /// Whether a step changes the log.
     pub is_logged: bool,

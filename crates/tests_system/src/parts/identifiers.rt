@@ -1,4 +1,5 @@
-//! Examples from outside: the numbers and flags of XA's header, and texts and lengths of identifiers.
+//! Examples from outside: the numbers and flags of XA's header, and texts and lengths of
+//! identifiers.
 
 use std::test::Fail;
 use xa_base::{Answer, Branch, Call, CallKind, Code, Gtrid, How, Page, RbCode, Xid, XidFault};
@@ -164,7 +165,7 @@ fn takes_the_flags_of_xa(rt: HostRuntime) {
     }
 }
 
-/// The call of a kind with these flags, and with an identifier and a count where it takes them.
+/// The call of a kind with these flags, and with an identifier and a count if it takes them.
 fn call_of(kind: CallKind, flags: u32) -> Result<Call, Code> {
     let xid = SECOND_BRANCH.xid();
     match kind {

@@ -1,4 +1,5 @@
-//! What no clause says: that lines are made where there is memory, and that real threads get calls and answers through.
+//! What no clause says: that lines are made if there is memory, and that real threads get calls and
+//! answers through.
 
 ghost use Rattle.std.specs.Prelude.{◌≡◌};
 ghost use Rattle.xa_line.specs.Ends.{SameIssuer, SameTaker};
@@ -109,7 +110,8 @@ fn issue_opens(issuer: &mut Issuer, count: i64) -> i64
     count
 }
 
-/// Takes xa_open so many times, and says how many were taken before the end gave up or took something else.
+/// Takes xa_open so many times, and says how many were taken before the end gave up or took
+/// something else.
 fn take_opens(taker: &mut Taker, count: i64) -> i64
     ensures { SameTaker taker.old taker.new }
 {

@@ -55,7 +55,7 @@ fn are(xids: &[Xid], texts: &[&str]) -> Result<bool, XidFault> {
     Ok(are_alike)
 }
 
-/// Whether a whole scan lists just these.
+/// Whether a whole scan lists exactly these.
 fn lists(rm: &mut MemRm, texts: &[&str]) -> Result<bool, Fail> {
     match rm.recover(0, 8, WHOLE_SCAN)? {
         Answer::Page(page) => Ok(are(page.xids(), texts)?),

@@ -15,7 +15,8 @@ use xa_base::Outcome;
 use xa_log::MemLog;
 use xa_workers::{Jobs, WorkFault};
 
-/// Just the branches that voted yes are sent xa_commit or xa_rollback: each other was ended by its vote.
+/// Exactly the branches that voted yes are sent xa_commit or xa_rollback: each other was ended by
+/// its vote.
 #[test]
 fn the_last_phase_goes_to_who_voted_yes(rt: HostRuntime) -> Result<(), Fail> {
     let alloc = rt.alloc();
@@ -34,7 +35,7 @@ fn the_last_phase_goes_to_who_voted_yes(rt: HostRuntime) -> Result<(), Fail> {
     Ok(())
 }
 
-/// Four jobs, which are made again where they want memory, twice at most.
+/// Four jobs, which are made again if they want memory, twice at most.
 fn jobs_at_last(rt: &HostRuntime, alloc: Global) -> Result<Jobs, AllocError> {
     for _ in 0..2u32 {
         if let Ok(four) = four_jobs(alloc, 2) {
@@ -45,8 +46,9 @@ fn jobs_at_last(rt: &HostRuntime, alloc: Global) -> Result<Jobs, AllocError> {
     four_jobs(alloc, 2)
 }
 
-/// A run that wants memory ends with a fault, with all its threads, and the same run again comes to its end. So this
-/// holds whichever one request for memory is refused, or any two in a row; the test says what it met.
+/// A run that wants memory ends with a fault, with all its threads, and the same run again comes to
+/// its end. So this holds whichever one request for memory is refused, or any two in a row; the
+/// test says what it met.
 #[test]
 fn runs_again_after_want_of_memory(rt: HostRuntime) -> Result<(), Fail> {
     let alloc = rt.alloc();

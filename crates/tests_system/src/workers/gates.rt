@@ -113,7 +113,8 @@ impl Gate for After {
     }
 }
 
-/// A gate at which resource manager 0 gives its fifth answer only once all others together have given eight.
+/// A gate at which resource manager 0 gives its fifth answer only once all others together have
+/// given eight.
 #[derive(Drop)]
 pub(crate) struct Lagging {
     answered: AtomicU64,

@@ -7,7 +7,8 @@ use std::test::Fail;
 use xa_log::{FailLog, FailPlan, LogCall, MemLog};
 use xa_workers::WorkFault;
 
-/// However many resource managers a job has branches at, none of them is sent xa_commit without the job's row.
+/// However many resource managers a job has branches at, none of them is sent xa_commit without the
+/// job's row.
 #[test]
 fn no_commit_is_issued_without_its_row(rt: HostRuntime) -> Result<(), Fail> {
     let alloc = rt.alloc();

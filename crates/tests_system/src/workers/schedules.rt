@@ -1,4 +1,5 @@
-//! Runs whose gates hold workers back: that they work side by side, and in which order decisions and sweeps come.
+//! Runs whose gates hold workers back: that they work side by side, and in which order decisions
+//! and sweeps come.
 
 use crate::workers::gates::{After, Closed, Lagging, Meeting};
 use crate::workers::plans::{YES, end_at, fault_of, four_jobs, jobs, run, swept};
@@ -77,8 +78,8 @@ fn the_first_to_reach_a_job_decides_it(rt: HostRuntime) -> Result<(), Fail> {
     Ok(())
 }
 
-/// Resource manager 1 answers xa_open, four calls of the first job and three of the second before resource manager 0 answers the
-/// first job's xa_commit.
+/// Resource manager 1 answers xa_open, four calls of the first job and three of the second before
+/// resource manager 0 answers the first job's xa_commit.
 #[test]
 fn a_job_begins_before_the_last_answers_of_the_one_before(rt: HostRuntime) -> Result<(), Fail> {
     let alloc = rt.alloc();

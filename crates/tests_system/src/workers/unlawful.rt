@@ -13,8 +13,8 @@ use xa_workers::WorkFault;
 /// How often a log yields before it fails.
 const YIELDS: u32 = 10_000;
 
-/// A log of the third incarnation that lists these rows and records once, whatever they are, and takes each call, but for a
-/// row where it fails late.
+/// A log of the third incarnation that lists these rows and records once, whatever they are, and
+/// takes each call, except for a row if it fails late.
 #[derive(Drop)]
 struct Unlawful {
     decisions: Vec<Gtrid>,
@@ -120,8 +120,8 @@ impl DecisionLog for Unlawful {
     }
 }
 
-/// What is listed of two transactions, and whether a run over such a log is refused: out of order, twice, or with a number
-/// that fits no row, as a system would refuse it.
+/// What is listed of two transactions, and whether a run over such a log is refused: out of order,
+/// twice, or with a number that fits no row, as a system would refuse it.
 const LISTED: [([u64; 2], bool); 4] = [
     ([1, 2], false),
     ([2, 1], true),
@@ -153,7 +153,8 @@ fn what_no_log_lists_is_refused(rt: HostRuntime) -> Result<(), Fail> {
     Ok(())
 }
 
-/// A thread of control awaits its row, however long the log takes to fail: no xa_commit is sent before.
+/// A thread of control awaits its row, however long the log takes to fail: no xa_commit is sent
+/// before.
 #[test]
 fn no_commit_is_issued_while_its_row_is_written(rt: HostRuntime) -> Result<(), Fail> {
     let alloc = rt.alloc();

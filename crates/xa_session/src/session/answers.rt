@@ -18,12 +18,12 @@ pub enum Unfit {
     Refused(Refusal),
     /// No call waits on the line.
     NothingWaits,
-    /// The call that waits first has no such answer: xa_open and xa_close are answered XA_OK, xa_recover by a page of no
-    /// more identifiers than were asked for or by XAER_INVAL, and any other call by a code, where its branch is one of
-    /// this manager's whose numbers fit the log.
+    /// The call that waits first has no such answer: xa_open and xa_close are answered XA_OK,
+    /// xa_recover by a page of no more identifiers than were asked for or by XAER_INVAL, and any
+    /// other call by a code. (Its branch must be this manager's, with numbers that fit a row.)
     NoSuchAnswer,
-    /// No state of XA's table in which this branch may be, by all that was answered, explains the answer (XA, chapter 6,
-    /// State Tables): the branch of the call, or one that the page lists.
+    /// No state of XA's table in which this branch may be, by all that was answered, explains the
+    /// answer (XA, chapter 6, State Tables): the branch of the call, or one that the page lists.
     NoSuchState(Branch),
 }
 
@@ -38,8 +38,9 @@ impl From<Refusal> for Unfit {
 }
 
 impl<L: DecisionLog + Drop> Session<L> {
-    /// The call that waits first on a line was done, and answered so. What is answered is heard by the manager and by the
-    /// monitor, or by neither. Where the log fails, the manager is down and all lines break.
+    /// The call that waits first on a line was done, and answered so. What is answered is heard by
+    /// the manager and by the monitor, or by neither. If the log fails, the manager is down and all
+    /// lines break.
     pub fn answer(&mut self, thread: u32, rm: u32, answer: Answer) -> Result<(), Unfit>
         requires { IsReady self.old }
         ensures ready { IsReady self.new }

@@ -47,7 +47,7 @@ impl<L: DecisionLog + Drop> Session<L> {
         self.lines.line(thread, rm).front()
     }
 
-    /// Lets a call wait on a line, behind those that do already.
+    /// Lets a call wait on a line, after those that do already.
     pub fn issue(&mut self, thread: u32, rm: u32, call: &Call) -> Result<(), Refusal>
         requires { IsReady self.old }
         ensures ready { IsReady self.new }

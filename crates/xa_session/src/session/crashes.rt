@@ -10,9 +10,9 @@ use xa_base::{Part, Refusal};
 use xa_log::DecisionLog;
 
 impl<L: DecisionLog + Drop> Session<L> {
-    /// The connection of a thread to a resource manager is lost: what waits on the line is lost, and the line isn't
-    /// open. The crash of a resource manager is the loss of each thread's line to it. Where memory is refused, the line
-    /// isn't lost yet: tell it again.
+    /// The connection of a thread to a resource manager is lost: what waits on the line is lost,
+    /// and the line isn't open. The crash of a resource manager is the loss of each thread's line
+    /// to it. If memory is refused, the line isn't lost yet: tell it again.
     pub fn lose_line(&mut self, thread: u32, rm: u32) -> Result<(), Refusal>
         requires { IsReady self.old }
         ensures ready { IsReady self.new }

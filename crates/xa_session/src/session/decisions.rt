@@ -10,7 +10,8 @@ use xa_base::{Gtrid, Refusal};
 use xa_log::DecisionLog;
 
 impl<L: DecisionLog + Drop> Session<L> {
-    /// A thread begins a transaction. As long as anything may happen in the session, none is one too many.
+    /// A thread begins a transaction. As long as anything may happen in the session, none is one
+    /// too many.
     pub fn begin(&mut self, thread: u32) -> Result<Gtrid, Refusal>
         requires { IsReady self.old }
         ensures ready { IsReady self.new }
@@ -50,7 +51,7 @@ impl<L: DecisionLog + Drop> Session<L> {
         }
     }
 
-    /// Commits a claimed transaction. Where the log fails, the manager is down and all lines break.
+    /// Commits a claimed transaction. If the log fails, the manager is down and all lines break.
     pub fn settle(&mut self, gtrid: Gtrid) -> Result<(), Refusal>
         requires { IsReady self.old }
         ensures ready { IsReady self.new }

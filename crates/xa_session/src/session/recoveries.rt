@@ -17,7 +17,8 @@ use xa_log::DecisionLog;
 use xa_tm::laws::recoveries_are_read;
 
 impl<L: DecisionLog + Drop> Session<L> {
-    /// Says why no recovery of so many calls may begin at a resource manager: the first reason that applies.
+    /// Says why no recovery of so many calls may begin at a resource manager: the first reason that
+    /// applies.
     fn check_recovery(&self, rm: u32, count: usize) -> Result<(), Refusal>
         ensures { result_err result ≡ recovery_refusal self.now rm count }
     {
@@ -30,7 +31,8 @@ impl<L: DecisionLog + Drop> Session<L> {
         line.check_room(count)
     }
 
-    /// The identifiers of the branches at a resource manager that rows of earlier incarnations wait for, in their order.
+    /// The identifiers of the branches at a resource manager that rows of earlier incarnations wait
+    /// for, in their order.
     pub fn owed(&self, rm: u32) -> Result<Vec<Xid>, Refusal>
         ensures ok { IfOk result (λ list. AreOwed (book_in self.now.manager) rm list.items) }
         ensures err { IfErr result (λ n. n ≡ Refusals.Memory) }
@@ -38,8 +40,9 @@ impl<L: DecisionLog + Drop> Session<L> {
         self.manager.owed(rm)
     }
 
-    /// Lets the calls wait, on the line of the first thread, that end what a resource manager listed last. Gives their
-    /// number. It is refused as Busy while an xa_recover waits first on that line: behind a page that was refused, too.
+    /// Lets the calls wait, on the line of the first thread, that end what a resource manager
+    /// listed last. Gives their number. It is refused as Busy while an xa_recover waits first on
+    /// that line: after a page that was refused, too.
     pub fn resolve(&mut self, rm: u32) -> Result<usize, Refusal>
         requires { IsReady self.old }
         ensures ready { IsReady self.new }

@@ -13,8 +13,8 @@ use xa_base::Gtrid;
 use xa_log::DecisionLog;
 
 impl<L: DecisionLog + Drop> Session<L> {
-    /// Forgets all that is noted of a transaction that is over (`IsOver`), and says whether it was. Nothing happens in
-    /// this: wherever the session stood, it still stands.
+    /// Forgets all that is noted of a transaction that is over (`IsOver`), and says whether it was.
+    /// Nothing happens in this: wherever the session stood, it still stands.
     pub fn release(&mut self, gtrid: Gtrid) -> bool
         requires { IsReady self.old }
         ensures ready { IsReady self.new }

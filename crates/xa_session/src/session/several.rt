@@ -11,8 +11,9 @@ use xa_base::{Gtrid, Outcome, Refusal};
 use xa_log::DecisionLog;
 
 impl<L: DecisionLog + Drop> Session<L> {
-    /// Decides these transactions so, in turn: all of them, or none where one is refused. Their rows are in one write of the
-    /// log. Where that fails, the manager is down and all lines break; all of the rows may be there, or none.
+    /// Decides these transactions so, in turn: all of them, or none if one is refused. Their rows
+    /// are in one write of the log. If that fails, the manager is down and all lines break; all of
+    /// the rows may be there, or none.
     pub fn decide_all(
         &mut self,
         alloc: Global,
@@ -32,8 +33,9 @@ impl<L: DecisionLog + Drop> Session<L> {
         self.conclude(reply, gtrids.len())
     }
 
-    /// Takes the rows of these transactions away, in turn: all of them, or none where one is refused. They go by one write
-    /// of the log. Where that fails, the manager is down and all lines break; all of the rows may be there, or none.
+    /// Takes the rows of these transactions away, in turn: all of them, or none if one is refused.
+    /// They go by one write of the log. If that fails, the manager is down and all lines break; all
+    /// of the rows may be there, or none.
     pub fn done_all(&mut self, gtrids: &[Gtrid]) -> Result<(), Refusal>
         requires { IsReady self.old }
         ensures ready { IsReady self.new }

@@ -37,7 +37,7 @@ use Rattle.xa_tm.specs.BookAndLog.{IsTied}
 use Rattle.xa_system.proofs.Histories.SystemView.{mapped_at}
 
 module _ {R L : Type 0} (see : Sees R (Slot L)) (moment : L → Moment) where
-  -- what a crash may leave is tied with its incarnation, where that is one that a restart may follow
+  -- what a crash may leave is tied with its incarnation, if that is one that a restart may follow
   near_left : (a : Inside R L) → IsSound see moment a → (moment a.handed.value).is_in_order → (see.moment (log_in a.parts.manager)).is_honest
       → MayRestartAfterCrash (observes_parts see moment) (system_view_of a)
       → AreTied true (book_in a.parts.manager) (see.moment (log_in a.parts.manager)).may_leave
@@ -47,7 +47,7 @@ module _ {R L : Type 0} (see : Sees R (Slot L)) (moment : L → Moment) where
       (subst (λ k. IsTied false k (Some c)) sound.stands.book (sound.log.left order honest c left))
       (λ d is. subst (IsBeforeNext (history (start_of see moment a.parts) a.events.items)) (let same : c ≡ d = cc in same) (may c left)))
 
-  -- where a restart may follow, the log is tied with its incarnation
+  -- if a restart may follow, the log is tied with its incarnation
   near_tied : (a : Inside R L) → IsSound see moment a → (moment a.handed.value).is_in_order → (see.moment (log_in a.parts.manager)).is_honest
       → MayRestart (observes_parts see moment) (system_view_of a) → IsTied true (book_in a.parts.manager) (see.moment (log_in a.parts.manager)).content
   near_tied a sound order honest may =
@@ -56,7 +56,7 @@ module _ {R L : Type 0} (see : Sees R (Slot L)) (moment : L → Moment) where
       (restarts_near (history (start_of see moment a.parts) a.events.items) held
       (subst (λ k. IsTied false k held) sound.stands.book (sound.log.tied order honest)) may)
 
-  -- so it is while the manager is up, where a restart may follow over what the log holds
+  -- so it is while the manager is up, if a restart may follow over what the log holds
   pub follows_a_crash : (a : Inside R L) → IsSound see moment a → IsDurable see.moment → (book_in a.parts.manager).up ≡ true
       → (moment a.handed.value).is_in_order → (see.moment (log_in a.parts.manager)).is_honest
       → MayRestart (observes_parts see moment) (system_view_of a) → MayRestartAfterCrash (observes_parts see moment) (system_view_of a)

@@ -53,7 +53,7 @@ module _ {R L : Type 0} (see : Sees R L) where
       goes_as see tr step reply (Replies.Refused Refusals.Memory) parts _ stands has (ap reply_of is) (For_memory none may refl)
       (nothing_follows see tr parts manager stands same log)
 
-  -- a refusal that is forced, where the manager holds what it held
+  -- a refusal that is forced, if the manager holds what it held
   pub rule_goes : (tr : Trace) (step : Step Xid) (reply : Reply Xid) (parts : Parts R L) (manager : Manager L) (n : Refusal)
       → Stands see tr parts → StepHasXids step → reply ≡ Replies.Refused n → must_refuse tr (step_of step) ≡ Some n
       → book_in manager ≡ book_in parts.manager → log_in manager ≡ log_in parts.manager

@@ -157,7 +157,7 @@ module _ {R L : Type 0} (see : Sees R L) where
     unchanged = λ n is other. follows.unchanged (ap (λ r. happened (step_of step) (reply_of r)) is ∙ refused_as_nothing n (step_of step) other);
   }
 
-  -- the same, where what the history knows of the reply is at hand
+  -- the same, if what the history knows of the reply is at hand
   pub goes_as : (tr : Trace) (step : Step Xid) (reply : Reply Xid) (seen : KnownReply) (old new : Parts R L) → Stands see tr old
       → StepHasXids step → reply_of reply ≡ seen → Allowed tr (step_of step) seen
       → Follows tr (happened (step_of step) seen) old new → OneMore see step reply tr old new
@@ -201,7 +201,7 @@ module _ {R L : Type 0} (see : Sees R L) where
       → (nat_lt t parts.lines.threads && nat_lt r parts.lines.rms) ≡ (has_thread tr t && has_rm tr r)
   there_is tr parts t r stands = λ i. (nat_lt t (sym (ap (λ o. o.threads) stands.origin) i) && nat_lt r (stands.rms i))
 
-  -- where nothing happens, what the book says stays
+  -- if nothing happens, what the book says stays
   pub nothing_follows : (tr : Trace) (parts : Parts R L) (manager : Manager L) → Stands see tr parts → book_in manager ≡ book_in parts.manager
       → log_in manager ≡ log_in parts.manager
       → Follows tr Nothing parts (record {

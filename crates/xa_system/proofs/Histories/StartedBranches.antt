@@ -1,4 +1,5 @@
--- Each branch that was started is on a line that the system has, and each that a script is of is at a resource manager that it has.
+-- Each branch that was started is on a line that the system has, and each that a script is of is at
+-- a resource manager that it has.
 use Rattle.std.proofs.Common.{◌≡◌, ◌<◌, Bool, true, false, refl, sym, subst, List, [], ◌∷◌}
 use Rattle.std.specs.Prelude.{not, ◌&&◌, ◌||◌, if◌then◌else◌, nat_eq, nat_lt, Option, Some, None}
 use Rattle.std.proofs.lemmas.Bool.{and_parts, eqb-true, ltb-true, not-false, or_parts}

@@ -45,7 +45,7 @@ tied_issued near k l c held =
 
 -- ** what a crash may leave
 
--- of a log that holds something, where a crash leaves just that
+-- of a log that holds something, where a crash leaves exactly that
 pub left_of_some : (near : Bool) (k : Book) (held : Option Content) (may : Content → Type 0) (P : Content → Type 0) → IsSomeAnd held P → IsTied near k held
     → ((c d : Content) → held ≡ Some c → may d → d ≡ c) → AreTied near k may
 left_of_some near k None may P some tied durable d left = absurd some
@@ -66,7 +66,7 @@ asked_is : (tr : Trace) (f : Fault) → ((m : ℕ) → failed_restarts_after (Fa
 asked_is tr InRestart still c = absurd (let one : suc zero ≡ zero = still zero in cc)
 asked_is tr f still c = sym (made_is (fault_change tr f) c)
 
--- what the log is asked for where it may have failed is a change of the rows that are there
+-- what the log is asked for if it may have failed is a change of the rows that are there
 pub fault_is_change : (tr : Trace) (f : Fault) (k : Book) → k ≡ book_of tr → IsRun tr → RightFault tr f → up tr ≡ true
     → IsChangeOf k.row (doubt_of (fault_change tr f))
 fault_is_change tr f k at run right is_up = subst (λ (b : Book). IsChangeOf b.row (doubt_of (fault_change tr f))) (sym at)
@@ -113,7 +113,7 @@ module _ {L : Type 0} (moment : L → Moment) where
     pub faults : (moment (log_in old)).is_in_order → (moment (log_in new)).is_honest
         → IsTied true (book_in old) (moment (log_in old)).content
         → (moment (log_in new)).fault_count ≡ faults_by result (moment (log_in old)).fault_count
-    -- whatever the log, but where the manager was down
+    -- whatever the log, except if the manager was down
     pub counts : ((moment (log_in new)).fault_count ≡ faults_by result (moment (log_in old)).fault_count)
         ⊎ (((book_in old).up ≡ false) × ((moment (log_in new)).fault_count ≡ (moment (log_in old)).fault_count))
 

@@ -6,7 +6,7 @@ use Rattle.xa_system.specs.SystemView.{Observes, SystemView}
 use Rattle.xa_system.proofs.Log.FaultCounts.{causes_chain, is_fault_event, is_other_fault}
 
 module _ {R L : Type 0} (see : Observes R L) where
-  -- where nothing has happened
+  -- if nothing has happened
   pub kept : (s : SystemView R L) → KeepsItsLog see s s
   kept s = record {
     handed = refl;

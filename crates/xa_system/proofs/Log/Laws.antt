@@ -21,7 +21,7 @@ tied_stands tr held tied = by (facts.up tr) held tied
     by true (Some c) tied = record { rows = holds_rows tr c tied.holds; incarnation_is = tied.incarnation }
     by false held tied = λ c is. may_hold_rows tr c (tied c is).holds
 
--- and what is tied is what a crash may leave, where it may be left
+-- and what is tied is what a crash may leave, if it may be left
 pub tied_left : (tr : Trace) (c : Content) → IsTied false (book_of tr) (Some c) → MayBeLeft tr c
 tied_left tr c tied = by (facts.up tr) tied
   where
@@ -29,7 +29,8 @@ tied_left tr c tied = by (facts.up tr) tied
     by true tied = record { rows = holds_rows tr c tied.holds; incarnation_is = tied.incarnation }
     by false tied = may_hold_rows tr c (tied c refl).holds
 
--- a log that is tied and near is of an incarnation that a restart may follow, and the other way round
+-- a log that is tied and near is of an incarnation that a restart may follow, and the other way
+-- round
 pub near_restarts : (tr : Trace) (held : Option Content) → IsTied true (book_of tr) held → MayRestartOver tr held
 near_restarts tr held tied = by (facts.up tr) held tied
   where

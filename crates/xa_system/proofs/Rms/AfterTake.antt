@@ -108,7 +108,7 @@ retries_then tr l k b c code same f = sym (f (λ e. absurd cc))
 
 -- ** who started a branch
 
--- where a break would lose a branch, its own thread started it
+-- if a break would lose a branch, its own thread started it
 abbrev pub IsOwned : (thread : ℕ) → Standing → (starter : ℕ) → Type 0
 IsOwned thread f starter = (broken f ≡ f) ⊎ (starter ≡ thread)
 

@@ -110,7 +110,8 @@ answer_read tr kept r count from (Some ns) e =
 
 -- ** the answer to xa_recover
 
--- where the scan and what is in doubt are the history's, so is the answer, and where the scan then stands
+-- if the scan and what is in doubt are the history's, so is the answer, and where the scan then
+-- stands
 pub same_page : (tr : Trace) (r : ℕ) (count : ℤ) (start : Bool) (s : Scan Xid) (listed : List Xid)
     → s ≡ scan_by xid_of_name (scan tr r) → listed ≡ map xid_of_name (in_doubt tr r)
     → xids.xid_page s count start listed ≡ option_map (map xid_of_name) (page_of name_cmp count (reads_from (scan tr r) start) (in_doubt tr r))

@@ -1,4 +1,5 @@
--- A resource manager that takes a call of its line gives the history's answer, and stands where the history then leaves it.
+-- A resource manager that takes a call of its line gives the history's answer, and stands where the
+-- history then leaves it.
 use Rattle.std.proofs.Common.{◌≡◌, ◌⊎◌, inl, inr, ℕ, List, map, Bool, true, false, refl, sym, ap, ◌∙◌, subst, ℤ}
 use Rattle.std.specs.Prelude.{if◌then◌else◌, ◌==◌, Option, Some, None}
 use Rattle.xa_base.specs.StateTable.{on, Kind, Kind.Start, answer, state_of}

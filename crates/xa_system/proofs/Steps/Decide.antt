@@ -141,7 +141,7 @@ module _ {R L : Type 0} (see : Sees R L) where
           (undone.kept (not_fault n (subst IsForced (sym same_n) (forced tr (step_of step) m forced_so)))))
       by_rule None e = by_cause (why None e) e (fails e)
 
--- the log is asked for a row only where some branch voted XA_OK for a commit
+-- the log is asked for a row only if some branch voted XA_OK for a commit
 pub row_is_asked : (tr : Trace) (g : Gtrid) (o : Outcome) {k : Book} → k ≡ book_of tr → AddsRow o (k.transaction g) → NeedsLog tr (Steps.Decide g o)
 row_is_asked tr g Outcomes.Commit at asked = sym (ap (λ (b : Book). (b.transaction g).has_yes) at) ∙ asked
 row_is_asked tr g Outcomes.Rollback at asked = absurd cc

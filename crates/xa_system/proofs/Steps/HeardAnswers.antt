@@ -34,7 +34,7 @@ pub first_is : {A : Type 0} (xs : List A) (x : A) → Some x ≡ slice_get xs 0 
 first_is [] x e = absurd (cc)
 first_is (y ∷ ys) x e = (ys, ap (λ z. z ∷ ys) (some_is y x (sym e)))
 
--- what is said of the first of a list, where that is at hand
+-- what is said of the first of a list, if that is at hand
 pub some_and : {A : Type 0} (P : A → Type 0) (o : Option A) (x : A) → Some x ≡ o → IsSomeAnd o P → P x
 some_and P (Some y) x e h = subst P (some_is y x (sym e)) h
 some_and P None x e h = absurd (cc)

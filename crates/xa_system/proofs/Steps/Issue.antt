@@ -60,7 +60,7 @@ call_why tr t r a = first_guard (call_guards (view_of tr) t r a)
 abbrev is_shut_to : Trace → (thread rm : ℕ) → Asked → Bool
 is_shut_to tr t r a = comes_unopened (facts.issued tr (line t r)) a
 
--- what the manager finds of a call, where it is up
+-- what the manager finds of a call, if it is up
 call_rule : (tr : Trace) (t r : ℕ) (a : Asked) → IsRun tr → (has_thread tr t && has_rm tr r) ≡ true → facts.up tr ≡ true
     → refusal_in (book_of tr) (Steps.Issue t r a) ≡ call_why tr t r a
 call_rule tr t r a run there up =

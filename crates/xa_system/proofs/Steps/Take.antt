@@ -74,7 +74,7 @@ take_none false up full e = absurd (cc)
 -- ** a Take that isn't refused
 
 module _ {R L : Type 0} (see : Sees R L) where
-  -- where nothing happened to the resource manager and the line
+  -- if nothing happened to the resource manager and the line
   take_nothing : (tr : Trace) (parts : Parts R L) (t r : ℕ) (site : Site R) (after : R) (x : Traffic)
       → slice_get parts.sites.items r ≡ Some site → HasLine parts.lines t r → Stands see tr parts
       → x ≡ line_at parts.lines t r → IsSame see.look site.rm after

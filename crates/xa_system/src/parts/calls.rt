@@ -11,8 +11,8 @@ use xa_log::DecisionLog;
 use xa_rm::ResourceManager;
 
 impl<R: ResourceManager + Drop, L: DecisionLog + Drop> Parts<R, L> {
-    /// A call is issued on a line. The reasons to refuse it are looked for in their order, at the line and at the
-    /// manager.
+    /// A call is issued on a line. The reasons to refuse it are looked for in their order, at the
+    /// line and at the manager.
     pub(super) fn issue(&mut self, thread: u32, rm: u32, call: &Call) -> Twin
         requires stands { StandsSomewhere (sees R.look L.moment) self.old }
         requires has_xid { CallHasXid call.now }
@@ -76,7 +76,8 @@ impl<R: ResourceManager + Drop, L: DecisionLog + Drop> Parts<R, L> {
         take(&mut self.sites[rm as usize].rm, line, self.alloc, thread)
     }
 
-    /// The manager hears the oldest answer that waits on a line. Where its log fails, it is down and all lines break.
+    /// The manager hears the oldest answer that waits on a line. If its log fails, it is down and
+    /// all lines break.
     pub(super) fn hear(&mut self, thread: u32, rm: u32) -> Twin
         requires { StandsSomewhere (sees R.look L.moment) self.old }
         ensures { GoesOn (sees R.look L.moment) (Steps.Hear thread rm) result self.old self.new }

@@ -10,8 +10,8 @@ use xa_log::DecisionLog;
 use xa_rm::ResourceManager;
 
 impl<R: ResourceManager + Drop, L: DecisionLog + Drop> Parts<R, L> {
-    /// Whether a recovery of so many calls may begin at a resource manager. The reasons against it are looked for in the
-    /// order of the numbers.
+    /// Whether a recovery of so many calls may begin at a resource manager. The reasons against it
+    /// are looked for in the order of the numbers.
     fn check_recovery(&self, rm: u32, count: usize) -> Result<(), Refusal>
         requires { StandsSomewhere (sees R.look L.moment) self.now }
         ensures { HindersRecovery (sees R.look L.moment) rm count self.now

@@ -25,8 +25,8 @@ fn noted(told: Result<(), RmFault>) -> Twin
 }
 
 impl<R: ResourceManager + Drop, L: DecisionLog + Drop> Parts<R, L> {
-    /// Whether a resource manager may be told anything of the branch. The reasons against it are looked for in the order
-    /// of the numbers.
+    /// Whether a resource manager may be told anything of the branch. The reasons against it are
+    /// looked for in the order of the numbers.
     fn check_script(&self, rm: u32, xid: &Xid) -> Result<(), Refusal>
         requires { StandsSomewhere (sees R.look L.moment) self.now }
         ensures why { HindersScript (sees R.look L.moment) rm (name_of xid.now) self.now

@@ -18,7 +18,7 @@ use xa_rm::ResourceManager;
 pub struct Remains<R: Drop, L: Drop> {
     /// The resource managers, in their order.
     pub rms: Vec<R>,
-    /// The log; none, where it was taken out.
+    /// The log; none, if it was taken out.
     pub log: Option<L>,
 }
 
@@ -34,8 +34,9 @@ fn rms_of<R: ResourceManager + Drop>(sites: Vec<Site<R>>, mut rms: Vec<R>) -> Ve
 }
 
 impl<R: ResourceManager + Drop, L: DecisionLog + Drop> System<R, L> {
-    /// Takes the system apart, as a process ends. The next one may go on from what is left: `System::resume`. Where the
-    /// memory for the list of resource managers is refused, the system comes back as it was.
+    /// Takes the system apart, as a process ends. The next one may go on from what is left:
+    /// `System::resume`. If the memory for the list of resource managers is refused, the system
+    /// comes back as it was.
     pub fn into_parts(self) -> Result<Remains<R, L>, System<R, L>>
         ensures rms { IfOk result (λ remains. remains.rms.items ≡ self.rms) }
         ensures log { IfOk result (λ remains. remains.log ≡ log_held self.log) }

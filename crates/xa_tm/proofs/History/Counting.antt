@@ -103,7 +103,7 @@ one_out p b bs u apart e = by (has_branch bs b) (p b) refl refl
     by true false among counts = e ∙ sym (same_count (but p b) p bs (λ c. idle p b c counts))
     by false w among counts = e ∙ sym (none_less p b bs among)
 
--- nothing is counted exactly where each passes
+-- nothing is counted exactly if each passes
 pub none_counted : (g : Gtrid) (t : Branch → Bool) (bs : List Branch) → (count (λ b. gtrid_eq b.gtrid g && not (t b)) bs == 0) ≡ all_of g t bs
 none_counted g t [] = refl
 none_counted g t (x ∷ xs) = by (gtrid_eq x.gtrid g) (t x) (none_counted g t xs)

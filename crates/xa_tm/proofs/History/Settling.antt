@@ -1,4 +1,5 @@
--- The number of branches that are not settled is that of a count over the branches, of each transaction that is begun.
+-- The number of branches that are not settled is that of a count over the branches, of each
+-- transaction that is begun.
 use Rattle.std.proofs.Common.{◌≡◌, inl, inr, ◌+◌, ◌-◌, List, [], ◌∷◌, Bool, true, false, not, ◌&&◌, ◌||◌, Option, Some, None, is_some, refl, sym, ap, ◌∙◌, subst, arith}
 use Rattle.std.specs.Prelude.{if◌then◌else◌}
 use Rattle.std.proofs.lemmas.Bool.{or_right}

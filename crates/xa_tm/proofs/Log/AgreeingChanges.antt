@@ -1,4 +1,5 @@
--- A log that agrees with the book, except for the change in doubt, may be held by it after that change.
+-- A log that agrees with the book, except for the change in doubt, may be held by it after that
+-- change.
 use Rattle.std.proofs.Common.{◌≡◌, length, map, ◌⊎◌, inl, inr, ◌+◌, ◌-◌, List, [], ◌∷◌, Bool, true, false, not, ◌&&◌, ◌||◌, cond, Option, Some, None, is_some, refl, sym, ap, ◌∙◌, subst, arith, Ordering, Equal}
 use Rattle.std.specs.Prelude.{if◌then◌else◌, unwrap_or}
 use Rattle.std.specs.Global.{Vec}

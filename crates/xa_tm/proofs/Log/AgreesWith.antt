@@ -149,7 +149,7 @@ module _ (k n : Ledger) (c : Content) (reads : Reads n c) where
       (and_from _ _ (subst (λ x. rows_agree_with x k.row_count n.row_count ≡ true) same a.rows)
       (subst (λ x. records_agree_with x k.records n.records ≡ true) same a.records)) (subst (λ x. change_agrees_with x k n ≡ true) same a.change)
 
-  -- rows were added, where there were none
+  -- rows were added, if there were none
   added : (v : Vec Decision) (b : Content) → k.doubt ≡ AddRows v → HoldsBook (as_book k) b → IsChangeOf (row_at k.rows) (Adds (map decided_row v.items))
       → SameRowsAndRecords c (with_rows (map decided_row v.items) b) → Changed (AddRows v)
   added v b doubt h of s = record {
@@ -204,7 +204,7 @@ module _ (k n : Ledger) (c : Content) (reads : Reads n c) where
       row q = dropped_back gs (kept_row k.rows q) (kept_row n.rows q) q
           (sym (reads.row q) ∙ ap (λ m. get m q) s.decisions ∙ dropped_at gs b q ∙ ap (row_without gs q) (h.rows q))
 
-  -- a record was made, where there was none
+  -- a record was made, if there was none
   noted : (b : Branch) (how : How) (d : Content) → k.doubt ≡ AddRecord b how → HoldsBook (as_book k) d → contains_key d.heuristics b ≡ false
       → c.decisions ≡ d.decisions → c.heuristics ≡ insert d.heuristics b how → Changed (AddRecord b how)
   noted b how d doubt h lacks ds hs = record {

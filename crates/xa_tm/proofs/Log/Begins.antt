@@ -33,7 +33,7 @@ is_less Less e = refl
 is_less Equal e = absurd cc
 is_less Greater e = absurd cc
 
--- what ascends behind an item stands behind it
+-- what ascends after an item stands after it
 behind_all : {X : Type 0} {R : X → X → Ordering} → IsTotalOrder R → (p : X) (xs : List X) → ascends_behind R (Some p) xs ≡ true
     → AllByRecursion (λ x. R p x ≡ Less) xs
 behind_all total p [] up = tt

@@ -53,7 +53,7 @@ row_map_most (x ∷ xs) =
     by true e most = omega (arith, e, most)
     by false e most = omega (arith, e, most)
 
--- rows are of different transactions where a map of as many has them
+-- rows are of different transactions if a map of as many has them
 map_apart : (xs : List Row) → len (row_map xs) ≡ length xs → ApartRows xs
 map_apart [] e = tt
 map_apart (x ∷ xs) e =

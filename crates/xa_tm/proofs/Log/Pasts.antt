@@ -1,4 +1,5 @@
--- A manager can start over a log whose rows and records are of its incarnation or earlier ones, and over no other.
+-- A manager can start over a log whose rows and records are of its incarnation or earlier ones, and
+-- over no other.
 use Rattle.std.proofs.Common.{◌≡◌, ℕ, ◌<◌, ◌≤◌, ◌+◌, List, [], ◌∷◌, map, Bool, true, false, ◌&&◌, ◌||◌, Option, Some, None, refl, sym, ap, ◌∙◌, arith, is_lt, Ordering, Less, IsSomeAnd, subst}
 use Rattle.std.specs.Prelude.{nat_lt, nat_le}
 use Rattle.std.specs.FinMap.{contains_key-keys, entries, entries_sorted, keys}

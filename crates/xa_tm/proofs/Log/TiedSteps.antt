@@ -35,7 +35,7 @@ pub tied_written : (near : Bool) (k l : Book) (xs : List (Gtrid × Waiting)) (ol
 tied_written near k l xs old new up still_up same of row rows recs number makes tied = tied_made near k l up still_up same (Adds xs) old new
     (holds_changed k l (Adds xs) of (added_heuristics xs) row rows recs number) makes tied
 
--- where no row is written, the log stays as it is
+-- if no row is written, the log stays as it is
 pub tied_plain : (near : Bool) (k : Book) (g : Gtrid) (o : Outcome) (log : Option Content) → (is_commit (Some o) && (k.transaction g).has_yes) ≡ false
     → IsTied near k log → IsTied near (after k (Decided g o)) log
 tied_plain near k g Outcomes.Rollback log none tied = tied_same near k (after k (Decided g Outcomes.Rollback)) log

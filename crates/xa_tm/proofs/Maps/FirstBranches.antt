@@ -1,4 +1,5 @@
--- The first branch of a transaction of which there is an entry, and how the entries of its branches are taken out one by one.
+-- The first branch of a transaction of which there is an entry, and how the entries of its branches
+-- are taken out one by one.
 use Rattle.std.proofs.lemmas.Bool.{true≢false}
 use Rattle.std.proofs.Common.{◌≡◌, ℕ, List, [], ◌∷◌, filter, Bool, true, false, not, ◌&&◌, cond, Option, Some, None, IsSome, is_some, refl, subst, sym, ap, ◌∙◌, arith, Ordering, nat_cmp}
 use Rattle.std.specs.Prelude.{if◌then◌else◌, unwrap_or, IfSome}
@@ -28,7 +29,7 @@ least g = record { gtrid = g; thread = 0; rm = 0 }
 abbrev IsFrom : Gtrid → BTreeMap Branch BranchNotes → List (Branch × BranchNotes) → Type 0
 IsFrom g m r = IsRangeOf branch_cmp (Included (least g)) Unbounded m r
 
--- what is neither before nor behind two of a kind, is of that kind
+-- what is neither before nor after two of a kind, is of that kind
 same_first : (a b s t : ℕ) (z w : Ordering) → is_gt (ordering_then (ordering_then (nat_cmp a b) (nat_cmp s t)) z) ≡ false
     → is_gt (ordering_then (ordering_then (nat_cmp b a) (nat_cmp t s)) w) ≡ false → a ≡ b
 same_first a b s t z w up down = grind arith
@@ -76,7 +77,8 @@ module _ (g : Gtrid) (m : BTreeMap Branch BranchNotes) (r : List (Branch × Bran
 
 -- ** one by one
 
--- of the branches of the transaction some are lost, and of all others none; the next is one that is left
+-- of the branches of the transaction some are lost, and of all others none; the next is one that is
+-- left
 pub record HasLost (old new : Ledger) (g : Gtrid) (next : Option Branch) : Type 0 where
   pub same : new ≡ record old { branches = new.branches }
   pub apart : (q : Branch) → gtrid_eq g q.gtrid ≡ false → get branch_cmp new.branches q ≡ get branch_cmp old.branches q

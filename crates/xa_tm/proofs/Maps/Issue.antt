@@ -25,7 +25,8 @@ use Rattle.xa_tm.specs.Refusing.{at_rest, refusal_in, view_in}
 use Rattle.xa_model.proofs.Replies.Guards.{bar_of, issue_rule, none_refused, peel}
 use Rattle.xa_tm.proofs.History.OneMore.{book_is}
 
--- a call is refused for what the call itself is refused for, on a line of the system and while the manager is up
+-- a call is refused for what the call itself is refused for, on a line of the system and while the
+-- manager is up
 pub issue_refusal : (v : View) (t r : ℕ) (asked : Asked)
     → refusal_of v at_rest (Steps.Issue t r asked)
     ≡ refusal_by (has_line v t r) ((Refusals.ManagerDown, not v.up) ∷ call_guards v t r asked)

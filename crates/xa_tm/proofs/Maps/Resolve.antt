@@ -72,7 +72,7 @@ count_kept f (x ∷ xs) = by (f x) (count_kept f xs)
     by None tail = tail
     by (Some c) tail = ap suc tail
 
--- a listed transaction stays live exactly where it is claimed
+-- a listed transaction stays live exactly if it is claimed
 stays_live : (l b m r h c : Bool) → l ≡ true → (b && not (m || (((l && (b && not (c || (m || h)))) || r) || h))) ≡ ((b && not (m || (r || h))) && c)
 stays_live false b m r h c e = absurd (cc)
 stays_live true false m r h c e = refl

@@ -49,7 +49,7 @@ any_kept t q none (e ∷ es) up = by (is_at (branch_cmp q) e.0) (t e) refl refl 
     by false true apart is rest = ap (λ b. b || list_any (eq_by_cmp branch_cmp q) (keys_of (filter t es))) apart ∙ rest
     by false false apart is rest = rest
 
--- a branch is known where its start is noted
+-- a branch is known if its start is noted
 pub known_has : (m : BTreeMap Branch BranchNotes) → IsOrdered branch_cmp m → (q : Branch) → contains (known_in m) q ≡ (notes_at m q).is_started
 known_has m up q = contains-from_list branches_total (started_keys m.entries) q ∙ any_kept (λ e. e.1.is_started) q refl m.entries up
 

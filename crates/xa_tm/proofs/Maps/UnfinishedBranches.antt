@@ -1,4 +1,5 @@
--- Branches of a line that are left to finish, by the map of branches and by the set of those that are known.
+-- Branches of a line that are left to finish, by the map of branches and by the set of those that
+-- are known.
 use Rattle.std.proofs.Common.{◌≡◌, ℕ, List, [], ◌∷◌, filter, Bool, true, false, not, ◌&&◌, ◌||◌, cond, refl, sym, ap, ◌∙◌}
 use Rattle.std.specs.Prelude.{nat_eq}
 use Rattle.std.specs.BTreeMap.{IsOrdered}

@@ -63,7 +63,7 @@ nothing_stays (g ∷ gs) q = by (gtrid_eq g q) (nothing_stays gs q)
     by true rest = refl
     by false rest = rest
 
--- the first row of a transaction stays, where it has no other
+-- the first row of a transaction stays, if it has no other
 pub among_first : (x : Gtrid × Waiting) (xs : List (Gtrid × Waiting)) (q : Gtrid) (r : Option Waiting) → has_gtrid (names_of xs) x.0 ≡ false
     → row_among xs q (if gtrid_eq x.0 q then Some x.1 else r) ≡ row_among (x ∷ xs) q r
 among_first x xs q r apart = by (gtrid_eq x.0 q) refl

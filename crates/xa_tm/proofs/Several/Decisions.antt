@@ -226,12 +226,12 @@ pub some_written : (k : Book) (o : Outcome) (gs : List Gtrid) (ds : List Decisio
 some_written k o gs [] all some none = some refl
 some_written k o gs (d ∷ ds) all some none = let no : decided_row d ∷ map decided_row ds ≡ [] = all ∙ ap (rows_for k) none in absurd (cc)
 
--- where a row is written, the manager is up
+-- if a row is written, the manager is up
 pub written_up : (k : Book) (o : Outcome) (gs : List Gtrid) → EachOnce (IsOpenIn k) gs → (written_by o k gs ≡ [] → ⊥) → k.up ≡ true
 written_up k o [] free some = absurd (some refl)
 written_up k o (g ∷ gs) free some = free.0.up
 
--- the book where no row is written
+-- the book if no row is written
 pub decided_unwritten : (near : Bool) (k : Book) (o : Outcome) (gs : List Gtrid) (log : Option Content) → written_by o k gs ≡ []
     → IsTied near k log → IsTied near (after_all k (map (λ g. Decided g o) gs)) log
 decided_unwritten near k o gs log none tied =

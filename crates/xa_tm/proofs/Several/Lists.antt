@@ -19,7 +19,7 @@ use Rattle.xa_tm.specs.Swaps.{each_once}
 abbrev pub past_end : Gtrid
 past_end = record { incarnation = 0; sequence = 0 }
 
--- what stands behind, as a slice gives it
+-- what stands after, as a slice gives it
 pub rest_of : (gs : List Gtrid) (m : ℕ) → take (length gs - m) (drop m gs) ≡ drop m gs
 rest_of gs m = take_all (length gs - m) (drop m gs) (let long = length-drop m gs in omega (arith, long))
 

@@ -23,7 +23,7 @@ use Rattle.xa_tm.proofs.Log.Asks.{is_fault}
 use Rattle.xa_tm.proofs.Log.TiedSteps.{done_up}
 use Rattle.xa_tm.proofs.Several.Lists.{named_push}
 
--- the refusal where these have passed, of which each is refused again
+-- the refusal if these have passed, of which each is refused again
 abbrev pub turn : (Gtrid → Step) → (Book → Gtrid → Refusal) → Book → (before : List Gtrid) → List Gtrid → Option Refusal
 turn step again k before [] = None
 turn step again k before (g ∷ gs) =
@@ -220,7 +220,7 @@ decide_open Outcomes.Rollback k g e =
 abbrev pub done_again : Book → Gtrid → Refusal
 done_again k g = if (k.transaction g).begun then Refusals.NotDecided else Refusals.UnknownTransaction
 
--- the refusal of Done where the transaction has this row
+-- the refusal of Done if the transaction has this row
 abbrev done_by : Book → Gtrid → (up begun older : Bool) → Option Waiting → Option Refusal
 done_by l h u b older row = if not u then Some Refusals.ManagerDown
     else (if not (b || (older && is_some row)) then Some Refusals.UnknownTransaction

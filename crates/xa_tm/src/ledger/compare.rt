@@ -18,7 +18,7 @@ use xa_base::{Branch, Gtrid, How};
 use xa_log::{Decision, LogRows};
 
 impl Ledger {
-    /// Whether a transaction has a row that names just these branches.
+    /// Whether a transaction has a row that names exactly these branches.
     fn names_just(&self, g: Gtrid, branches: &[Branch]) -> bool
         ensures { result ≡ names_just (kept_row self.now.rows g) branches.now }
     {
@@ -38,8 +38,8 @@ impl Ledger {
         }
     }
 
-    /// Whether a transaction has the row there that the first of these decisions on it makes; where there is no such
-    /// decision, whether it has the same row here and there.
+    /// Whether a transaction has the row there that the first of these decisions on it makes; if
+    /// there is no such decision, whether it has the same row here and there.
     fn is_row_decided(&self, read: &Ledger, decisions: &[Decision], g: Gtrid) -> bool
         ensures { result ≡ decided_agrees decisions.now (kept_row read.now.rows g) g
             (same_row (kept_row self.now.rows g) (kept_row read.now.rows g)) }
@@ -52,8 +52,8 @@ impl Ledger {
         self.has_same_row(read, g)
     }
 
-    /// Whether the row of a transaction is gone there, where it is one of these; where it isn't, whether it has the same
-    /// row here and there.
+    /// Whether the row of a transaction is gone there, if it is one of these; if it isn't, whether
+    /// it has the same row here and there.
     fn is_row_dropped(&self, read: &Ledger, first: Gtrid, others: &[Gtrid], g: Gtrid) -> bool
         ensures { result ≡ dropped_agrees (first ∷ others.now) (kept_row read.now.rows g) g
             (same_row (kept_row self.now.rows g) (kept_row read.now.rows g)) }
@@ -238,7 +238,8 @@ impl Ledger {
         }
     }
 
-    /// Whether the row of each of these transactions is as read, with the change in doubt or without it.
+    /// Whether the row of each of these transactions is as read, with the change in doubt or
+    /// without it.
     fn rows_agree_at(
         &self,
         read: &Ledger,
@@ -278,7 +279,8 @@ impl Ledger {
             && self.ends_agree_at(read, &read.branches, is_made)
     }
 
-    /// Whether all that was read of a log is what the book has, with the change in doubt or without it.
+    /// Whether all that was read of a log is what the book has, with the change in doubt or without
+    /// it.
     fn agrees(&self, read: &Ledger, is_made: bool) -> bool
         ensures { result ≡ agrees is_made self.now read.now }
     {
@@ -310,7 +312,7 @@ fn is_decided(decisions: &[Decision], g: Gtrid) -> bool
     decisions.iter().any(|decision| decision.gtrid == g)
 }
 
-/// Whether a number is greater than another by just so much.
+/// Whether a number is greater than another by exactly so much.
 pub(super) fn is_more_by(number: u64, other: u64, by: u64) -> bool
     ensures { result ≡ nat_eq number (other + by) }
 {

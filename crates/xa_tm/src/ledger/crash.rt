@@ -72,7 +72,7 @@ impl Ledger {
     }
 }
 
-/// Whether a branch's line breaks where a part crashes.
+/// Whether a branch's line breaks if a part crashes.
 fn is_broken(part: Part, b: Branch) -> bool
     ensures { result ≡ breaks_in Bool.true (Crashed part) (line_of b) }
 {

@@ -13,7 +13,7 @@ use std::alloc::AllocError;
 use xa_base::{Branch, Gtrid, Outcome};
 
 impl Ledger {
-    /// Notes a decision, but for the row that it writes.
+    /// Notes a decision, except for the row that it writes.
     pub(crate) fn decided(&mut self, g: Gtrid, outcome: Outcome)
         requires room { HasTransaction self.old g }
         requires undecided { (transaction_at self.old.transactions g).outcome ≡ None }
@@ -28,7 +28,7 @@ impl Ledger {
         set_transaction(&mut self.transactions, g, transaction.decided(outcome));
     }
 
-    /// Decides a transaction where no row is written.
+    /// Decides a transaction if no row is written.
     pub(crate) fn decide(&mut self, g: Gtrid, outcome: Outcome) -> Result<(), AllocError>
         requires undecided { (transaction_at self.old.transactions g).outcome ≡ None }
         requires no_row { (is_commit (Some outcome)
@@ -51,7 +51,8 @@ impl Ledger {
         self.row_count = self.row_count.saturating_sub(1);
     }
 
-    /// The branches of a transaction that voted XA_OK, in the order of their identifiers. Only its own are looked at.
+    /// The branches of a transaction that voted XA_OK, in the order of their identifiers. Only its
+    /// own are looked at.
     pub(crate) fn voters(&self, g: Gtrid) -> Result<Vec<Branch>, AllocError>
         requires { g.sequence < 2 ^ 64 - 1 }
         ensures all { IfOk result (λ list. waiting_of list ≡ voted_yes (as_book self.now) g) }

@@ -35,7 +35,8 @@ impl Ledger {
         Ok(())
     }
 
-    /// Makes room for a decision and for its row, and adds the decision to the others where it writes one.
+    /// Makes room for a decision and for its row, and adds the decision to the others if it writes
+    /// one.
     fn prepare_decision(
         &mut self,
         g: Gtrid,
@@ -60,7 +61,8 @@ impl Ledger {
         }
     }
 
-    /// Makes room for the row of a commit, and adds its decision to the others, with the branches that the row names.
+    /// Makes room for the row of a commit, and adds its decision to the others, with the branches
+    /// that the row names.
     fn prepare_row(&mut self, g: Gtrid, decisions: &mut Vec<Decision>) -> Result<(), AllocError>
         requires { g.sequence < 2 ^ 64 - 1 }
         ensures others { self.new ≡ record self.old { rows = self.new.rows } }
@@ -81,8 +83,8 @@ impl Ledger {
         Ok(())
     }
 
-    /// Makes room for these decisions and for their rows, and gives those that write one, with the branches that their
-    /// rows name.
+    /// Makes room for these decisions and for their rows, and gives those that write one, with the
+    /// branches that their rows name.
     pub(crate) fn prepare_decisions(
         &mut self,
         alloc: Global,
@@ -104,7 +106,7 @@ impl Ledger {
         Ok(decisions)
     }
 
-    /// Notes these decisions, but for the rows that they write.
+    /// Notes these decisions, except for the rows that they write.
     fn decided_all(&mut self, gtrids: &[Gtrid], outcome: Outcome)
         requires room { HaveRoom self.old.transactions gtrids.now }
         requires open { EachOnce (IsOpenIn (as_book self.old)) gtrids.now }

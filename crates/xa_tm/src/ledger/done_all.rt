@@ -27,7 +27,8 @@ impl Ledger {
         }
     }
 
-    /// The refusal of the first Done of these transactions that is refused, each after the ones before it.
+    /// The refusal of the first Done of these transactions that is refused, each after the ones
+    /// before it.
     pub(crate) fn check_done_all(&self, gtrids: &[Gtrid]) -> Result<(), Refusal>
         ensures { result_err result ≡ refusal_in_turn (λ g. Steps.Done g) (λ g. Done g)
             (as_book self.now) gtrids.now }

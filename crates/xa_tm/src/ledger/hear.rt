@@ -21,7 +21,7 @@ use crate::notes::{BranchNotes, Transaction};
 use xa_base::{Branch, Call, Memory, Page};
 
 impl Ledger {
-    /// Puts what is noted of a branch and of its transaction, where there is room.
+    /// Puts what is noted of a branch and of its transaction, if there is room.
     pub(crate) fn put(&mut self, b: Branch, notes: BranchNotes, transaction: Transaction)
         requires branch { HasBranch self.old b }
         requires transaction { HasTransaction self.old b.gtrid }
@@ -39,7 +39,7 @@ impl Ledger {
         set_transaction(&mut self.transactions, b.gtrid, transaction);
     }
 
-    /// Notes an answer of a branch, where there is room.
+    /// Notes an answer of a branch, if there is room.
     pub(crate) fn hear(&mut self, b: Branch, news: News)
         requires branch { HasBranch self.old b }
         requires transaction { HasTransaction self.old b.gtrid }
@@ -79,7 +79,7 @@ impl Ledger {
         }
     }
 
-    /// Puts the last page of a resource manager, where it came on the first thread's line.
+    /// Puts the last page of a resource manager, if it came on the first thread's line.
     fn turn_page(&mut self, thread: u32, rm: u32, page: &Page) -> Result<(), Memory>
         ensures others { self.new ≡ record self.old { pages = self.new.pages } }
         ensures ok { OnOk result ((r : ℕ) → names_at self.new.pages r ≡
@@ -96,7 +96,7 @@ impl Ledger {
     }
 }
 
-/// One more, where there is one.
+/// One more, if there is one.
 fn one_more(count: u64, is_more: bool) -> u64
     requires { count < 2 ^ 64 - 1 }
     ensures { result ≡ (if is_more then count + 1 else count) }

@@ -39,7 +39,8 @@ impl Ledger {
         })
     }
 
-    /// The refusal of a call on a line, but for those that the line and the resource manager find.
+    /// The refusal of a call on a line, except for those that the line and the resource manager
+    /// find.
     pub(crate) fn check_issue(&self, thread: u32, rm: u32, call: &Call) -> Result<(), Refusal>
         ensures { result_err result ≡ refusal_in (as_book self.now)
             (Steps.Issue thread rm (map_call name_of call.now)) }
@@ -53,7 +54,8 @@ impl Ledger {
         self.check_call(thread, rm, call)
     }
 
-    /// The same on a line of the system, while the manager is up: what the call itself is refused for.
+    /// The same on a line of the system, while the manager is up: what the call itself is refused
+    /// for.
     fn check_call(&self, thread: u32, rm: u32, call: &Call) -> Result<(), Refusal>
         ensures { result_err result ≡ first_guard
             (call_guards (view_in (as_book self.now)) thread rm (map_call name_of call.now)) }
@@ -82,7 +84,8 @@ impl Ledger {
         }
     }
 
-    /// Notes a call that is issued: xa_start makes a branch, and xa_commit in one phase hands a transaction over.
+    /// Notes a call that is issued: xa_start makes a branch, and xa_commit in one phase hands a
+    /// transaction over.
     pub(crate) fn note_issued(&mut self, call: &Call) -> Result<(), AllocError>
         requires { IsSound (as_book self.old) }
         ensures ok { OnOk result
@@ -127,7 +130,8 @@ impl Ledger {
         Ok(())
     }
 
-    /// The refusal of a call on a branch that is its own thread's alone: of xa_end, and the first of others.
+    /// The refusal of a call on a branch that is its own thread's alone: of xa_end, and the first
+    /// of others.
     fn check_own(&self, thread: u32, rm: u32, b: Branch) -> Result<(), Refusal>
         ensures { result_err result ≡ first_guard
             (call_guards (view_in (as_book self.now)) thread rm (Calls.End (Ours b) false)) }

@@ -104,7 +104,7 @@ fn load_records(
 }
 
 impl Ledger {
-    /// The book of a start over these rows, but for its incarnation.
+    /// The book of a start over these rows, except for its incarnation.
     pub(crate) fn load(
         alloc: Global,
         threads: u32,

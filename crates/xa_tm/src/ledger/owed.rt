@@ -33,7 +33,8 @@ fn add_own(
 }
 
 impl Ledger {
-    /// The identifiers of the branches at a resource manager that rows of earlier incarnations wait for, in their order.
+    /// The identifiers of the branches at a resource manager that rows of earlier incarnations wait
+    /// for, in their order.
     pub(crate) fn owed(&self, rm: u32) -> Result<Vec<Xid>, AllocError>
         ensures { IfOk result (λ list. AreOwed (as_book self.now) rm list.items) }
     {

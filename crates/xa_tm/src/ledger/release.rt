@@ -101,7 +101,8 @@ impl Ledger {
     }
 }
 
-/// Where the branches of a transaction end: before those of the transaction of the next number, if there is one.
+/// Where the branches of a transaction end: before those of the transaction of the next number, if
+/// there is one.
 fn end_of(g: Gtrid) -> Bound<Branch>
     ensures forward { IsForward (IsLeBy branch_cmp) (IsLtBy branch_cmp)
         (Included (record { gtrid = g; thread = 0; rm = 0 })) result }

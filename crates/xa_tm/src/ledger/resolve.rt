@@ -1,4 +1,5 @@
-//! The calls that end the branches which a recovery page lists (XA, section 2.3, Transaction Completion and Recovery).
+//! The calls that end the branches which a recovery page lists (XA, section 2.3, Transaction
+//! Completion and Recovery).
 
 ghost use Rattle.std.specs.Prelude.{◌≡◌, map, length, Option, Some, is_some, IfOk};
 ghost use Rattle.xa_model.specs.Replies.History.{name_of};
@@ -37,7 +38,8 @@ impl Ledger {
         Call::Rollback { xid: xid.copy() }
     }
 
-    /// The call that ends what a page lists: nothing of a live transaction, or of another manager's.
+    /// The call that ends what a page lists: nothing of a live transaction, or of another
+    /// manager's.
     fn call_for(&self, xid: &Xid) -> Option<Call>
         ensures { result ≡ call_for (as_book self.now) xid.now }
     {
@@ -84,7 +86,8 @@ impl Ledger {
             .count()
     }
 
-    /// The call that ends what a page lists once all that is open is rolled back: nothing of a claimed transaction.
+    /// The call that ends what a page lists once all that is open is rolled back: nothing of a
+    /// claimed transaction.
     fn open_call_for(&self, xid: &Xid) -> Option<Call>
         ensures { result ≡ open_call_for (as_book self.now) xid.now }
     {
@@ -100,8 +103,8 @@ impl Ledger {
         }
     }
 
-    /// The calls that end the branches of a resource manager's last page, in its order, once all that is open is rolled
-    /// back.
+    /// The calls that end the branches of a resource manager's last page, in its order, once all
+    /// that is open is rolled back.
     pub(crate) fn open_calls(&self, rm: u32) -> Result<Vec<Call>, AllocError>
         ensures { IfOk result (λ calls.
             map waiting_call calls.items ≡ map Some (resolved_open_in (as_book self.now) rm)) }

@@ -1,5 +1,5 @@
-//! What is open of the transactions that a recovery page lists is rolled back, and all that the page lists is ended
-//! (XA, section 2.3, Transaction Completion and Recovery).
+//! What is open of the transactions that a recovery page lists is rolled back, and all that the
+//! page lists is ended (XA, section 2.3, Transaction Completion and Recovery).
 
 ghost use Rattle.std.specs.Prelude.{◌≡◌, ◌&&◌, map, Option, Some, IfOk, OnOk, OnErr, IsSome, if◌then◌else◌};
 ghost use Rattle.std.specs.BTreeMap.{get};
@@ -54,7 +54,8 @@ fn roll_back_all(map: &mut BTreeMap<Gtrid, Transaction>, gtrids: &[Gtrid])
 }
 
 impl Ledger {
-    /// Whether a transaction is open: begun in this incarnation, and neither claimed, committed nor handed over.
+    /// Whether a transaction is open: begun in this incarnation, and neither claimed, committed nor
+    /// handed over.
     fn is_open(&self, g: Gtrid) -> bool
         ensures { result ≡ open_in (as_book self.now) g }
     {
@@ -89,8 +90,8 @@ impl Ledger {
             .collect(self.alloc)
     }
 
-    /// Rolls back what is open of a resource manager's last page, and gives the calls that end the branches of that page
-    /// then, in its order.
+    /// Rolls back what is open of a resource manager's last page, and gives the calls that end the
+    /// branches of that page then, in its order.
     ///
     /// All room is made before anything is rolled back.
     pub(crate) fn resolve_open(&mut self, rm: u32) -> Result<Vec<Call>, AllocError>

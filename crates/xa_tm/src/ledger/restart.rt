@@ -1,4 +1,5 @@
-//! How the manager's book comes up again: the numbers that the log has tell whether the change in doubt was made.
+//! How the manager's book comes up again: the numbers that the log has tell whether the change in
+//! doubt was made.
 
 ghost use Rattle.std.specs.Prelude.{◌≡◌, ◌<◌, ◌+◌, ◌-◌, ◌^◌, ◌&&◌, ◌||◌, if◌then◌else◌, nat_eq, nat_le, nat_lt, true};
 ghost use Rattle.std.specs.Prelude.{false, Bool, is_some, OnOk, ◌∷◌};
@@ -37,7 +38,7 @@ impl Ledger {
         }
     }
 
-    /// Whether the log has so many rows where the change in doubt was made.
+    /// Whether the log has so many rows if the change in doubt was made.
     fn has_rows_if_made(&self, rows: u64) -> bool
         ensures { result ≡ nat_eq rows (rows_of (as_book self.now).doubt self.now.row_count) }
     {
@@ -83,8 +84,8 @@ impl Ledger {
         }
     }
 
-    /// Whether the log may be of the incarnation before this one: at least the book's, and higher by no more than the
-    /// restarts that have failed since.
+    /// Whether the log may be of the incarnation before this one: at least the book's, and higher
+    /// by no more than the restarts that have failed since.
     fn may_reach(&self, incarnation: u64) -> bool
         ensures { result ≡ (nat_lt self.now.incarnation incarnation &&
             nat_le (incarnation - self.now.incarnation - 1) self.now.failed_restarts) }
@@ -92,7 +93,8 @@ impl Ledger {
         self.incarnation < incarnation && incarnation - self.incarnation - 1 <= self.failed_restarts
     }
 
-    /// Whether the log may have so many rows: those of the book, without or with the change in doubt.
+    /// Whether the log may have so many rows: those of the book, without or with the change in
+    /// doubt.
     fn may_have_rows(&self, rows: u64) -> bool
         ensures { result ≡ (nat_eq rows self.now.row_count
             || nat_eq rows (rows_of (as_book self.now).doubt self.now.row_count)) }
@@ -119,8 +121,8 @@ impl Ledger {
         self.may_reach(incarnation) && self.may_have_rows(rows) && self.may_have_records(records)
     }
 
-    /// Comes up over a log with these numbers, where that can be, and answers whether it could. Over a log that lies it
-    /// may not: the manager stays down, as after a restart that failed.
+    /// Comes up over a log with these numbers, if that can be, and answers whether it could. Over a
+    /// log that lies it may not: the manager stays down, as after a restart that failed.
     pub(crate) fn try_restart(&mut self, incarnation: u64, rows: u64, records: u64) -> bool
         requires room { HasRoomForDoubt self.old }
         requires down { self.old.is_up ≡ Bool.false }
@@ -143,8 +145,8 @@ impl Ledger {
         }
     }
 
-    /// The manager comes up in a new incarnation, over a log with these numbers of rows and records. Where a number isn't
-    /// the one that was noted, the change in doubt was made.
+    /// The manager comes up in a new incarnation, over a log with these numbers of rows and
+    /// records. If a number isn't the one that was noted, the change in doubt was made.
     fn restart(&mut self, incarnation: u64, rows: u64, records: u64)
         requires { HasRoomForDoubt self.old }
         ensures { as_book self.new ≡ after (as_book self.old) (Restarted incarnation rows records) }
@@ -153,7 +155,7 @@ impl Ledger {
         self.come_up(incarnation, rows, records);
     }
 
-    /// The change in doubt is known: it was made where the number of rows changed, or that of records.
+    /// The change in doubt is known: it was made if the number of rows changed, or that of records.
     fn clear_doubt(&mut self, is_row_changed: bool, is_record_changed: bool)
         requires { HasRoomForDoubt self.old }
         ensures { as_book self.new ≡
@@ -208,7 +210,8 @@ impl Ledger {
         }
     }
 
-    /// The manager is up, in a new incarnation: nothing is begun in it, and no acknowledgement is late enough.
+    /// The manager is up, in a new incarnation: nothing is begun in it, and no acknowledgement is
+    /// late enough.
     fn come_up(&mut self, incarnation: u64, rows: u64, records: u64)
         ensures { as_book self.new ≡ come_up_with incarnation rows records (as_book self.old) }
     {

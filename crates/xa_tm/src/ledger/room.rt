@@ -1,4 +1,5 @@
-//! Entries of the maps of the manager's book: first the room for one, then what stands there, which can't fail.
+//! Entries of the maps of the manager's book: first the room for one, then what stands there, which
+//! can't fail.
 
 ghost use Rattle.std.specs.Prelude.{◌≡◌, ◌<◌, ◌-◌, [], ◌∷◌, if◌then◌else◌, Bool, Option, None, IsSome, OnOk};
 ghost use Rattle.std.specs.BTreeMap.{get};
@@ -215,7 +216,7 @@ pub(crate) fn remove_transaction(map: &mut BTreeMap<Gtrid, Transaction>, g: Gtri
     map.remove(&g);
 }
 
-/// Takes away the room for a row, where there is none.
+/// Takes away the room for a row, if there is none.
 pub(crate) fn remove_row_room(map: &mut BTreeMap<Gtrid, Option<Vec<Branch>>>, g: Gtrid)
     requires { row_at map.old g ≡ None }
     ensures same { (q : _) → row_at map.new q ≡ row_at map.old q }

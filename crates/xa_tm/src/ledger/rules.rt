@@ -129,7 +129,8 @@ impl Ledger {
         Ok(())
     }
 
-    /// Whether each participant of a transaction's row is settled since the manager came up, and there is one.
+    /// Whether each participant of a transaction's row is settled since the manager came up, and
+    /// there is one.
     fn waits_for_none(&self, g: Gtrid) -> bool
         ensures { result ≡ waits_for_none (as_book self.now) ((as_book self.now).row g) }
     {
@@ -146,8 +147,8 @@ impl Ledger {
         !branches.is_empty() && branches.iter().all(|b| self.branch(*b).is_settled_lately())
     }
 
-    /// Whether a transaction's row waits for nothing more: all its branches are settled or, where it has outlived its
-    /// incarnation, its participants.
+    /// Whether a transaction's row waits for nothing more: all its branches are settled or, if it
+    /// has outlived its incarnation, its participants.
     fn is_row_settled(&self, g: Gtrid) -> bool
         ensures { result ≡ row_settled_in (as_book self.now) g }
     {

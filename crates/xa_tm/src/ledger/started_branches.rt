@@ -28,8 +28,8 @@ impl Ledger {
 }
 
 impl<L: DecisionLog + Drop> Manager<L> {
-    /// The branches whose xa_start was accepted, of all incarnations of this manager since it was made, in the order of
-    /// their identifiers. The log is not asked.
+    /// The branches whose xa_start was accepted, of all incarnations of this manager since it was
+    /// made, in the order of their identifiers. The log is not asked.
     pub fn started(&self) -> Result<Vec<Branch>, Memory>
         ensures all { IfOk result (λ list. list.items ≡ items (book_in self.now).known) }
         ensures in_order { IfOk result (λ list. IsStrictlySortedBy branch_cmp list.items) }

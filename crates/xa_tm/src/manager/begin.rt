@@ -37,8 +37,9 @@ impl<L: DecisionLog + Drop> Manager<L> {
         Ok(self.ledger.begin()?)
     }
 
-    /// The same, however many transactions were begun before: for a service, which ends when its numbers do. A run
-    /// begins with [`begin`](Manager::begin), which refuses what is behind its limit.
+    /// The same, however many transactions were begun before: for a service, which ends when its
+    /// numbers do. A run begins with [`begin`](Manager::begin), which refuses what is past its
+    /// limit.
     pub fn begin_in_service(&mut self, thread: u32) -> Result<Gtrid, Refusal>
         requires { IsSound (book_in self.old) }
         // A rule that refuses changes nothing.

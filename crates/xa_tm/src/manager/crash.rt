@@ -11,7 +11,8 @@ use xa_base::Part;
 use xa_log::DecisionLog;
 
 impl<L: DecisionLog + Drop> Manager<L> {
-    /// A part crashes: a line, a resource manager with all its lines, or the manager with all lines.
+    /// A part crashes: a line, a resource manager with all its lines, or the manager with all
+    /// lines.
     pub fn crash(&mut self, part: Part)
         ensures book { book_in self.new ≡ after (book_in self.old) (Crashed part) }
         ensures log { log_in self.new ≡ log_in self.old }

@@ -1,5 +1,5 @@
-//! A transaction is decided: the step, and what settling and abandoning share with it (XA, section 2.3, Transaction
-//! Completion and Recovery).
+//! A transaction is decided: the step, and what settling and abandoning share with it (XA, section
+//! 2.3, Transaction Completion and Recovery).
 
 ghost use Rattle.std.specs.Prelude.{◌≡◌, ◌≢◌, ◌&&◌, [], ◌∷◌, Bool, Some, None, Err, IfErr, OnOk};
 ghost use Rattle.xa_base.specs.declared.refusal.Refusal.TheVariants as Refusals;
@@ -19,7 +19,8 @@ use xa_base::{Gtrid, Outcome, Refusal};
 use xa_log::DecisionLog;
 
 impl<L: DecisionLog + Drop> Manager<L> {
-    /// Decides a transaction. A commit writes its row where some branch voted XA_OK. No other decision asks the log.
+    /// Decides a transaction. A commit writes its row if some branch voted XA_OK. No other decision
+    /// asks the log.
     pub fn decide(&mut self, g: Gtrid, outcome: Outcome) -> Result<(), Refusal>
         requires { IsSound (book_in self.old) }
         // A rule that refuses changes nothing.

@@ -1,4 +1,5 @@
-//! Several transactions are decided by one write of the log (XA, section 2.3, Transaction Completion and Recovery).
+//! Several transactions are decided by one write of the log (XA, section 2.3, Transaction
+//! Completion and Recovery).
 
 ghost use Rattle.std.specs.Prelude.{◌≡◌, ◌≢◌, ◌<◌, ◌+◌, ◌^◌, [], length, map, Some, None, Err, IfErr, OnOk};
 ghost use Rattle.std.specs.List.{AllByRecursion};
@@ -22,8 +23,9 @@ use xa_base::{Gtrid, Outcome, Refusal};
 use xa_log::{Decision, DecisionLog, LogFault};
 
 impl<L: DecisionLog + Drop> Manager<L> {
-    /// Decides these transactions, as [`decide`](Manager::decide) of each in turn. All rows are written at once: a crash,
-    /// or a failure of the log, leaves all of them or none. Where one is refused, none is decided.
+    /// Decides these transactions, as [`decide`](Manager::decide) of each in turn. All rows are
+    /// written at once: a crash, or a failure of the log, leaves all of them or none. If one is
+    /// refused, none is decided.
     pub fn decide_all(
         &mut self,
         alloc: Global,
@@ -80,7 +82,8 @@ impl<L: DecisionLog + Drop> Manager<L> {
         self.write_decisions(alloc, gtrids, outcome, decisions)
     }
 
-    /// Decides these transactions, where there is room for all, by the decisions that write their rows.
+    /// Decides these transactions, if there is room for all, by the decisions that write their
+    /// rows.
     fn write_decisions(
         &mut self,
         alloc: Global,

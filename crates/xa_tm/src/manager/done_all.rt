@@ -1,4 +1,5 @@
-//! The rows of several transactions are taken away by one write of the log, once none waits for anything more.
+//! The rows of several transactions are taken away by one write of the log, once none waits for
+//! anything more.
 
 ghost use Rattle.std.specs.Prelude.{◌≡◌, ◌≢◌, [], ◌∷◌, map, true, is_some, Bool, Some, None, Err, IfErr, OnOk};
 ghost use Rattle.std.specs.List.{AllByRecursion};
@@ -20,8 +21,9 @@ use xa_base::{Gtrid, Refusal};
 use xa_log::{DecisionLog, LogFault};
 
 impl<L: DecisionLog + Drop> Manager<L> {
-    /// Takes the rows of these transactions away, as [`done`](Manager::done) of each in turn. All go at once: a crash, or a
-    /// failure of the log, leaves all of them or none. Where one is refused, none goes.
+    /// Takes the rows of these transactions away, as [`done`](Manager::done) of each in turn. All
+    /// go at once: a crash, or a failure of the log, leaves all of them or none. If one is refused,
+    /// none goes.
     pub fn done_all(&mut self, gtrids: &[Gtrid]) -> Result<(), Refusal>
         requires { IsSound (book_in self.old) }
         // A rule that refuses changes nothing.

@@ -29,8 +29,8 @@ use xa_base::{Answer, Branch, Call, How, Refusal};
 use xa_log::{DecisionLog, LogFault};
 
 impl<L: DecisionLog + Drop> Manager<L> {
-    /// Hears an answer to a call. A heuristic code to xa_commit or xa_rollback is noted in the log first (XA, section
-    /// 2.3.3, Heuristic Branch Completion).
+    /// Hears an answer to a call. A heuristic code to xa_commit or xa_rollback is noted in the log
+    /// first (XA, section 2.3.3, Heuristic Branch Completion).
     pub fn hear(
         &mut self,
         thread: u32,
@@ -116,10 +116,10 @@ impl<L: DecisionLog + Drop> Manager<L> {
     }
 }
 
-/// Records in the log how a branch ended by itself, where it did.
+/// Records in the log how a branch ended by itself, if it did.
 fn note_end<L: DecisionLog>(log: &mut L, b: Branch, how: Option<How>) -> Result<(), LogFault>
     requires { IsSome how → FitsRow b.gtrid }
-    // The record is made where there is one to make.
+    // The record is made if there is one to make.
     ensures ok { (L.moment log.old).is_in_order → (L.moment log.new).is_honest →
         OnOk result (MakesOf (recording b how) (L.moment log.old).content
         (L.moment log.new).content) }
@@ -142,7 +142,7 @@ fn note_end<L: DecisionLog>(log: &mut L, b: Branch, how: Option<How>) -> Result<
     }
 }
 
-/// The change that a record of a branch is, where there is one to make.
+/// The change that a record of a branch is, if there is one to make.
 fn change_of(b: Branch, how: Option<How>) -> Change
     ensures { doubt_of_change result ≡ recording b how }
 {

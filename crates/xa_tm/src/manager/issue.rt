@@ -18,7 +18,8 @@ use xa_base::{Call, Refusal};
 use xa_log::DecisionLog;
 
 impl<L: DecisionLog + Drop> Manager<L> {
-    /// The refusal of a call on a line, but for those that the line and the resource manager find.
+    /// The refusal of a call on a line, except for those that the line and the resource manager
+    /// find.
     pub fn check_issue(&self, thread: u32, rm: u32, call: &Call) -> Result<(), Refusal>
         ensures { result_err result ≡ refusal_in (book_in self.now)
             (Steps.Issue thread rm (map_call name_of call.now)) }

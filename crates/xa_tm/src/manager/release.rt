@@ -12,13 +12,14 @@ use xa_log::DecisionLog;
 impl<L: DecisionLog + Drop> Manager<L> {
     /// Forgets all that is noted of a transaction that is over (`IsOver`), and says whether it was.
     ///
-    /// A transaction is over once it is decided or handed over to its one resource manager, has no row in the log
-    /// (after [`Manager::done`], or where it never had one), and each of its branches has given its last answer. One of
-    /// whose branches a heuristic outcome is recorded is not over, nor is any while the manager is down.
+    /// A transaction is over once it is decided or handed over to its one resource manager, has no
+    /// row in the log (after [`Manager::done`], or if it never had one), and each of its branches
+    /// has given its last answer. One of whose branches a heuristic outcome is recorded is not
+    /// over, nor is any while the manager is down.
     ///
-    /// Without releases the manager remembers each transaction since its start. A step that names a transaction after
-    /// its release is refused as one that was never begun; all else goes on as before
-    /// ([`released_books_go_on`](crate::laws::released_books_go_on)).
+    /// Without releases the manager remembers each transaction since its start. A step that names a
+    /// transaction after its release is refused as one that was never begun; all else goes on as
+    /// before ([`released_books_go_on`](crate::laws::released_books_go_on)).
     pub fn release(&mut self, g: Gtrid) -> bool
         ensures over { result ≡ true → IsOver (book_in self.old) g }
         ensures released { result ≡ true → book_in self.new ≡ book_without g (book_in self.old) }

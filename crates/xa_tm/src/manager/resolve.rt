@@ -1,4 +1,5 @@
-//! The calls that end what a resource manager has in doubt (XA, section 2.3, Transaction Completion and Recovery).
+//! The calls that end what a resource manager has in doubt (XA, section 2.3, Transaction Completion
+//! and Recovery).
 
 ghost use Rattle.std.specs.Prelude.{◌≡◌, Some, IfErr, OnOk, map, length, IfOk};
 ghost use Rattle.xa_base.specs.declared.refusal.Refusal.TheVariants as Refusals;
@@ -15,7 +16,8 @@ use xa_base::{Call, Refusal, Xid};
 use xa_log::DecisionLog;
 
 impl<L: DecisionLog + Drop> Manager<L> {
-    /// The calls that end the branches of a resource manager's last page, in its order: all of them or none.
+    /// The calls that end the branches of a resource manager's last page, in its order: all of them
+    /// or none.
     pub fn resolve(&self, rm: u32) -> Result<Vec<Call>, Refusal>
         ensures ok { IfOk result (λ calls.
             map waiting_call calls.items ≡ map Some (resolved_in (book_in self.now) rm)) }
@@ -24,8 +26,9 @@ impl<L: DecisionLog + Drop> Manager<L> {
         Ok(self.ledger.resolving_calls(rm)?)
     }
 
-    /// The identifiers of the branches at a resource manager that rows of earlier incarnations wait for, in their order: what is
-    /// owed there until the rows are done, whether the resource manager lists it or not.
+    /// The identifiers of the branches at a resource manager that rows of earlier incarnations wait
+    /// for, in their order: what is owed there until the rows are done, whether the resource
+    /// manager lists it or not.
     pub fn owed(&self, rm: u32) -> Result<Vec<Xid>, Refusal>
         ensures ok { IfOk result (λ list. AreOwed (book_in self.now) rm list.items) }
         ensures err { IfErr result (λ n. n ≡ Refusals.Memory) }
@@ -40,9 +43,10 @@ impl<L: DecisionLog + Drop> Manager<L> {
         self.ledger.resolving_len(rm)
     }
 
-    /// Rolls back what is open of the transactions that a resource manager's last page lists: begun in this incarnation,
-    /// and neither claimed, committed nor handed over. Gives the calls that then end the branches of that page, in its
-    /// order: all of them, or none and nothing is rolled back. The log is not asked.
+    /// Rolls back what is open of the transactions that a resource manager's last page lists: begun
+    /// in this incarnation, and neither claimed, committed nor handed over. Gives the calls that
+    /// then end the branches of that page, in its order: all of them, or none and nothing is rolled
+    /// back. The log is not asked.
     pub fn resolve_open(&mut self, rm: u32) -> Result<Vec<Call>, Refusal>
         ensures calls { IfOk result (λ calls.
             map waiting_call calls.items ≡ map Some (resolved_open_in (book_in self.old) rm)) }

@@ -16,7 +16,8 @@ use crate::manager::Manager;
 use xa_base::Refusal;
 use xa_log::{DecisionLog, LogFault};
 
-/// What a restart of the manager finds: the incarnation that it gives, and how many rows of either kind its log has.
+/// What a restart of the manager finds: the incarnation that it gives, and how many rows of either
+/// kind its log has.
 #[derive(Clone, Copy, Debug, PartialEq, Eq)]
 pub struct Found {
     pub incarnation: u64,
@@ -25,12 +26,14 @@ pub struct Found {
 }
 
 impl<L: DecisionLog + Drop> Manager<L> {
-    /// Comes up again: the log's rows tell whether the change in doubt was made, and its incarnation is raised.
+    /// Comes up again: the log's rows tell whether the change in doubt was made, and its
+    /// incarnation is raised.
     ///
-    /// The rows are read before the incarnation is raised, and all room is made before the log is asked for either.
+    /// The rows are read before the incarnation is raised, and all room is made before the log is
+    /// asked for either.
     pub fn restart(&mut self) -> Result<Found, Refusal>
         requires { IsSound (book_in self.old) }
-        // It comes up only where it is down.
+        // It comes up only if it is down.
         ensures busy { (book_in self.old).up ≡ Bool.true → (result ≡ Err Refusals.Busy) ×
             (self.new ≡ self.old) }
         ensures down { OnOk result ((book_in self.old).up ≡ Bool.false) }

@@ -16,11 +16,12 @@ use xa_log::{DecisionLog, LogFault};
 /// Why a manager didn't start.
 #[derive(Clone, Copy, Debug, PartialEq, Eq, Error)]
 pub enum StartFault {
-    /// The log failed, or has a row or a record of a later incarnation than its own, or out of order. The incarnation
-    /// may have been raised.
+    /// The log failed, or has a row or a record of a later incarnation than its own, or out of
+    /// order. The incarnation may have been raised.
     #[error("the decision log failed, or has a row of no earlier incarnation")]
     Log,
-    /// A request for memory was refused, but for one within the log, which is its failure. The log is as it was.
+    /// A request for memory was refused, except for one within the log, which is its failure. The
+    /// log is as it was.
     #[error("out of memory")]
     Memory,
 }
@@ -46,10 +47,11 @@ impl From<AllocError> for StartFault {
 }
 
 impl<L: DecisionLog + Drop> Manager<L> {
-    /// A manager over a log, up in the next incarnation, that knows the log's rows and records and nothing else.
+    /// A manager over a log, up in the next incarnation, that knows the log's rows and records and
+    /// nothing else.
     ///
-    /// The rows are read first, then all room for them is made, and only then the incarnation is raised: where memory is
-    /// refused for that room, the log has only been read.
+    /// The rows are read first, then all room for them is made, and only then the incarnation is
+    /// raised: if memory is refused for that room, the log has only been read.
     pub fn new(alloc: Global, threads: u32, rms: u32, log: L) -> Result<Manager<L>, StartFault>
         ensures started { IfOk result (IsStarted threads rms) }
         ensures over { IfOk result (IsStartedOver L.moment threads rms (L.moment log)) }
@@ -62,7 +64,8 @@ impl<L: DecisionLog + Drop> Manager<L> {
         Manager::over(alloc, threads, rms, read)
     }
 
-    /// The same, over a log whose rows were read before: all room for them is made, and then the incarnation is raised.
+    /// The same, over a log whose rows were read before: all room for them is made, and then the
+    /// incarnation is raised.
     pub fn over(
         alloc: Global,
         threads: u32,

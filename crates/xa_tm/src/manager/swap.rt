@@ -33,7 +33,8 @@ impl<L: Drop> Manager<L> {
 }
 
 impl<L: DecisionLog + Drop> Manager<Slot<L>> {
-    /// Takes the log out, where the manager is down and holds one. Until another is put in, a restart is refused.
+    /// Takes the log out, if the manager is down and holds one. Until another is put in, a restart
+    /// is refused.
     pub fn take_log(&mut self) -> Option<L>
         ensures up { (book_in self.old).up ≡ Bool.true → (result ≡ None) × (self.new ≡ self.old) }
         ensures empty { log_held (log_in self.old) ≡ None → (result ≡ None) ×
@@ -49,15 +50,16 @@ impl<L: DecisionLog + Drop> Manager<Slot<L>> {
         self.log.take()
     }
 
-    /// Puts a log in, where the manager is down and its log is out. Its rows and records are read: they are those that
-    /// the manager's log had before the change in doubt, or with it. A fault gives the log back, and comes in this order:
+    /// Puts a log in, if the manager is down and its log is out. Its rows and records are read:
+    /// they are those that the manager's log had before the change in doubt, or with it. A fault
+    /// gives the log back, and comes in this order:
     ///
     /// - [`SwapFault::Up`]: the manager is up or holds a log;
     /// - [`SwapFault::Memory`]: a request for memory was refused;
     /// - [`SwapFault::Log`]: the log failed for another cause;
     /// - [`SwapFault::OtherRows`]: its rows and records are others.
     pub fn give_log(&mut self, mut log: L) -> Result<(), (SwapFault, L)>
-        // Where no log can be put in, the one handed in isn't looked at.
+        // If no log can be put in, the one handed in isn't looked at.
         ensures up { (book_in self.old).up ≡ Bool.true → (result ≡ Err (SwapFault.Up, log)) ×
             (self.new ≡ self.old) }
         ensures held { IsSome (log_held (log_in self.old)) → (result ≡ Err (SwapFault.Up, log)) ×
