@@ -4,7 +4,7 @@
 //! whole systems, and under ten processes of the manager one after another with steps by chance.
 //! All tests that compile the database stand here: each program that has it in it takes some
 //! minutes to prove and to build before its first function. Logs in files of the host are left to
-//! the built program, which `tools/try-files` and `tools/try-program` try.
+//! the built program, which `tests/files` and `tests/program` try.
 #![tactic(auto)]
 
 #[cfg(test)]

@@ -2,7 +2,7 @@
 //! resource manager; lines and boards on real threads; the worker threads; logs over which no
 //! system is made; and calls that are refused memory. Each log is in memory. What a step of a
 //! system replies is said by its clauses, and shown by the files of `examples/`, which
-//! `tools/try-program` plays over the built program, as it does sessions of a driver and files of
+//! `tests/program` plays over the built program, as it does sessions of a driver and files of
 //! jobs.
 #![tactic(auto)]
 

@@ -1,6 +1,6 @@
 //! A system with a branch, made also if a request for memory is refused, or two in a row: a step
 //! that is refused for that is made again, and a start that is refused is begun anew.
-//! `tools/try-refusals` refuses them; a test says on standard error what it met. If memory is ample
+//! `tests/refusals` refuses them; a test says on standard error what it met. If memory is ample
 //! a test that meets anything fails.
 
 use crate::systems::{do_step, new_system, one_rm};
@@ -25,7 +25,7 @@ pub(crate) const BRANCH: Branch = Branch {
     rm: 0,
 };
 
-/// Tells what a test met. Only if `tools/try-refusals` refuses memory may it meet anything.
+/// Tells what a test met. Only if `tests/refusals` refuses memory may it meet anything.
 pub(crate) fn met(rt: &(impl Abort + Eprint + Env), what: &str) {
     let _ = rt.eprintln(what);
     assert!(rt;
