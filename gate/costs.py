@@ -13,25 +13,10 @@ from .machine import BYTES_A_JOB, jobs_for, processors
 SQUARES, SECONDS = 200_000, 0.0115
 # Minutes of one processor, from nothing: of --quick, of what the whole gate does of it, and of all proofs of rt ci with the tests.
 QUICK, QUICK_PART, PROOFS = 8, 4, 94
-# Processor seconds of an edit, and of all edits of the crates in which one takes much longer.
-EDIT = 5
-EDITS = {
-    "xa_session": 327,
-    "xa_sql_log": 261,
-    "xa_server": 190,
-    "xa_system": 173,
-    "xa_workers": 162,
-    "xa_scenario": 124,
-    "xa_commands": 116,
-    "xa_display": 66,
-}
+# Processor seconds of an edit.
+EDIT = 6
 # Minutes at the end, in which processors are idle: where the program is built anew, and where all is kept.
 LAST, LAST_KEPT = 3, 1
-
-
-def seconds_of_edits(crate, count):
-    """Of so many of its edits."""
-    return EDITS.get(crate.name, EDIT * count)
 
 
 def seconds_of_squares():
@@ -68,7 +53,7 @@ class Costs:
 
     def whole(self):
         """By the lines of the crates that are left."""
-        edits = sum(seconds_of_edits(it, len(edits_of(it)[0])) for it in self.left)
+        edits = EDIT * sum(len(edits_of(it)[0]) for it in self.left)
         parts = [self.part(self.left, self.crates) * PROOFS, edits / 60]
         minutes = ((QUICK_PART + sum(parts)) / jobs_for(BYTES_A_JOB) + (LAST if self.left else LAST_KEPT)) * slowness()
         kept = f"of {len(self.crates)} crates {len(self.crates) - len(self.left)} have passed here as they are"
