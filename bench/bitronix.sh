@@ -3,7 +3,7 @@
 jars=/usr/share/java
 classes=$jars/btm.jar:$jars/slf4j-api.jar:$jars/slf4j-nop.jar:$jars/geronimo-jta-1.2-spec.jar:$jars/geronimo-jms_1.1_spec.jar
 
-# Compiles its program where all is there that it needs.
+# Compiles its program if all is there that it needs.
 if has "a Java development kit" default-jdk command -v javac &&
     has "$jars/btm.jar" libbtm-java test -e "$jars/btm.jar" &&
     has "$jars/geronimo-jta-1.2-spec.jar" libgeronimo-jta-1.2-spec-java test -e "$jars/geronimo-jta-1.2-spec.jar" &&
@@ -13,7 +13,7 @@ if has "a Java development kit" default-jdk command -v javac &&
     sides=2
 fi
 
-# bitronix JOURNAL TRANSACTIONS THREADS..: its figures at so many threads each time, where it is there.
+# bitronix JOURNAL TRANSACTIONS THREADS..: its figures at so many threads each time, if it is there.
 bitronix() {
     [ "$sides" = 2 ] || return 0
     journal=$1

@@ -2,7 +2,7 @@
 # 'CASE|WHO|FIGURE' for each figure, and calls show. Ours comes first of those of a case, and then what it is divided by.
 
 runs=${BENCH_RUNS:-3}
-# 2 where another's program stands beside ours.
+# 2 if another's program stands beside ours.
 sides=1
 
 stop() {
@@ -10,7 +10,7 @@ stop() {
     exit 2
 }
 
-# has WHAT PACKAGE COMMAND..: whether the command goes well. Where it doesn't, tells what is missing.
+# has WHAT PACKAGE COMMAND..: whether the command goes well. If it doesn't, tells what is missing.
 has() {
     what=$1
     package=$2
@@ -36,7 +36,7 @@ sources() {
     ' crates.txt
 }
 
-# build CRATE: proves and builds its program, where there is none or a source is newer.
+# build CRATE: proves and builds its program, if there is none or a source is newer.
 build() {
     program=crates/$1/out/$1
     if [ -x "$program" ] && [ -z "$(sources "$1" | xargs -I '{}' find '{}' \( -name out -o -name tests \) -prune \
@@ -52,7 +52,7 @@ build() {
     touch "$program"
 }
 
-# build_xatm: proves and builds the program xatm, where it isn't built. With other words ./xatm may do without a proof.
+# build_xatm: proves and builds the program xatm, if it isn't built. With other words ./xatm may do without a proof.
 build_xatm() {
     ./xatm --is-built || ./xatm --prove >&2
 }

@@ -1,7 +1,7 @@
 //! The hops of a run of jobs, and nothing else: what its threads of control, its two resource managers and its log say to each
 //! other, over rings with the order and the bytes of a line's. A resource manager only answers, the log only replies, and nothing
 //! is looked at. As there a job takes one round trip to the resource managers and one to the log, and its last calls go with the
-//! first ones of the thread's next job. A worker with nothing to do looks again, where each has a processor of its own, and yields;
+//! first ones of the thread's next job. A worker with nothing to do looks again, if each has a processor of its own, and yields;
 //! none sleeps.
 
 #[path = "ring.rs"]
@@ -18,11 +18,11 @@ use std::time::Instant;
 const JOBS: usize = 1_000;
 const RMS: usize = 2;
 
-/// The calls of a job up to its vote, and that behind the decision.
+/// The calls of a job up to its vote, and that after the decision.
 const FIRST: usize = 3;
 const LAST: usize = 1;
 
-/// How often a worker looks before it yields, where each has a processor of its own.
+/// How often a worker looks before it yields, if each has a processor of its own.
 const LOOKS: usize = 200;
 
 /// Where a thread of control asks the log.

@@ -1,5 +1,5 @@
 # Writes a scenario of so many events (-v events=10000): two-phase commits at two resource managers, one after the other. Each
-# xa_ call is one entry, or three where -v single=1. With -v undone=1 the transactions are decided and no more, to what -v outcome says.
+# xa_ call is one entry, or three if -v single=1. With -v undone=1 the transactions are decided and no more, to what -v outcome says.
 
 function entry(text) { print "    { " text " }," }
 

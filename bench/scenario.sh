@@ -3,7 +3,7 @@
 
 target=40
 
-# took FILE WORDS..: the milliseconds of a run of the file, over a new log where the words name one.
+# took FILE WORDS..: the milliseconds of a run of the file, over a new log if the words name one.
 took() {
     file=$1
     shift
@@ -13,7 +13,7 @@ took() {
     echo "$((time / 1000)).$((time / 100 % 10))"
 }
 
-# grown CASE SHAPE WORDS..: the figures of the three files of a shape. Where the first is four times the second, a run takes
+# grown CASE SHAPE WORDS..: the figures of the three files of a shape. If the first is four times the second, a run takes
 # time in the measure of its events.
 grown() {
     case=$1

@@ -1,6 +1,6 @@
 # Prints the lines 'CASE|WHO|FIGURE' of some runs as a table: a row for each who of a case, a column for each run, and the
 # middle of them. Below each row of a case but the first stands the first divided by it, run by run, unless it ends in ', cold'.
-# Where the file `ratios` is named, each of these ratios is added to it too: 'BENCHMARK|CASE|WHO|OURS|THEIRS|RATIO', each the middle.
+# If the file `ratios` is named, each of these ratios is added to it too: 'BENCHMARK|CASE|WHO|OURS|THEIRS|RATIO', each the middle.
 
 # 1234567 as 1,234,567; and 12.34 as 12.3.
 function shown(figure,   text, groups) {

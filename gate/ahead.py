@@ -21,7 +21,7 @@ class Ahead:
     So often, in seconds (looks), it asks whether there is room for one more: busy says how many processors were busy since it was last
     asked, free how many bytes are left."""
 
-    # One is begun where there is room for it and for one proof more; all are ended where less than this is left.
+    # One is begun if there is room for it and for one proof more; all are ended once less than this is left.
     LEAST = 2_000_000_000
 
     def __init__(self, tool, running, left, looks=5, busy=None, free=free_bytes, first=()):

@@ -15,7 +15,7 @@ SQUARES, SECONDS = 200_000, 0.0115
 QUICK, QUICK_PART, PROOFS = 8, 4, 94
 # Processor seconds of an edit.
 EDIT = 6
-# Minutes at the end, in which processors are idle: where the program is built anew, and where all is kept.
+# Minutes at the end, in which processors are idle: if the program is built anew, and if all is kept.
 LAST, LAST_KEPT = 3, 1
 
 

@@ -8,7 +8,7 @@ import subprocess
 import sys
 import time
 
-# What a check with an edit takes, and a proof by rt ci: at most, but for those of xa_commands with an edit, which take up to 4 GB.
+# What a check with an edit takes, and a proof by rt ci: at most, except for those of xa_commands with an edit, which take up to 4 GB.
 BYTES_A_JOB, BYTES_A_PROOF = 3 << 30, 5_000_000_000
 
 
@@ -86,12 +86,12 @@ def seconds_of(session):
 
 
 def jobs_for(bytes_a_job):
-    """How many jobs there are processors and memory for, where each takes so much."""
+    """How many jobs there are processors and memory for, if each takes so much."""
     return max(1, min(processors(), free_bytes() // bytes_a_job))
 
 
 def on_signals(ends):
-    """Where a signal is to end this program, does that, and ends it with the status that a shell would give."""
+    """If a signal is to end this program, does that, and ends it with the status that a shell would give."""
 
     def stop(number, _):
         ends()

@@ -19,7 +19,7 @@ LACKS = re.compile(r"(?m)left out: .*|skipped=\d+")
 
 
 class Part:
-    """A program to run, and what to count of what it prints (count, of its status and its text). Where there is a sum of all that it
+    """A program to run, and what to count of what it prints (count, of its status and its text). If there is a sum of all that it
     rests on, it is run once, if all of it passes."""
 
     def __init__(self, name, words, folder, count, rests_on=None):

@@ -1,6 +1,6 @@
 /* Loaded before a program (LD_PRELOAD), refuses the request for memory that REFUSE_AT numbers, from 1, of those that the
  * program's own code makes, and the next ones, REFUSE_MANY in all; at the first it prints the line "refused" as an error. What
- * the C library asks for isn't counted. To the file that REFUSE_LIST names, where it does, it writes each request as two
+ * the C library asks for isn't counted. To the file that REFUSE_LIST names, if it does, it writes each request as two
  * numbers of 64 bits: the place in the program that asks, and the length.
  * It needs no headers, so that the toolchain's own compiler builds it. */
 typedef __SIZE_TYPE__ size;
