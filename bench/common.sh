@@ -1,5 +1,6 @@
-# What the benchmarks share; bench/run reads it first. A benchmark defines figures(), which measures once and prints a line
-# 'CASE|WHO|FIGURE' for each figure, and calls show. Ours comes first of those of a case, and then what it is divided by.
+# What the benchmarks share; bench/run reads it first. A benchmark defines figures(), which measures
+# once and prints a line 'CASE|WHO|FIGURE' for each figure, and calls show. Ours comes first of
+# those of a case, and then what it is divided by.
 
 runs=${BENCH_RUNS:-3}
 # 2 if another's program stands beside ours.
@@ -21,7 +22,8 @@ has() {
     fi
 }
 
-# sources CRATE: the folders with what the program of a crate is built from, its own and those of the crates it rests on.
+# sources CRATE: the folders with what the program of a crate is built from, its own and those of
+# the crates it rests on.
 sources() {
     awk -F: -v crate="$1" '
         function visit(name,   uses, count, i) {
@@ -52,7 +54,8 @@ build() {
     touch "$program"
 }
 
-# build_xatm: proves and builds the program xatm, if it isn't built. With other words ./xatm may do without a proof.
+# build_xatm: proves and builds the program xatm, if it isn't built. With other words ./xatm may do
+# without a proof.
 build_xatm() {
     ./xatm --is-built || ./xatm --prove >&2
 }
@@ -66,8 +69,8 @@ on_disk() {
     echo "files lie in $work, on a file system $kind"
 }
 
-# disk_rate: how many commits a second the disk takes, of the bytes that a commit of the log writes to its journal, in as many
-# writes. The C compiler has to be there.
+# disk_rate: how many commits a second the disk takes, of the bytes that a commit of the log writes
+# to its journal, in as many writes. The C compiler has to be there.
 disk_rate() {
     [ -x "$work/sync" ] || cc -O2 -o "$work/sync" bench/sync.c
     "$work/sync" "$work/file" 5000 3 20609
@@ -80,7 +83,8 @@ micros() {
     echo $((($(date +%s%N) - start) / 1000))
 }
 
-# show COUNT UNIT: measures as often as is wanted, with so many figures each time, and prints them side by side.
+# show COUNT UNIT: measures as often as is wanted, with so many figures each time, and prints them
+# side by side.
 show() {
     echo "$name: $2; load average $(cut -d ' ' -f 1-3 /proc/loadavg) on $(getconf _NPROCESSORS_ONLN) processors"
     run=1

@@ -1,8 +1,9 @@
-//! The hops of a run of jobs, and nothing else: what its threads of control, its two resource managers and its log say to each
-//! other, over rings with the order and the bytes of a line's. A resource manager only answers, the log only replies, and nothing
-//! is looked at. As there a job takes one round trip to the resource managers and one to the log, and its last calls go with the
-//! first ones of the thread's next job. A worker with nothing to do looks again, if each has a processor of its own, and yields;
-//! none sleeps.
+//! The hops of a run of jobs, and nothing else: what its threads of control, its two resource
+//! managers and its log say to each other, over rings with the order and the bytes of a line's. A
+//! resource manager only answers, the log only replies, and nothing is looked at. As there a job
+//! takes one round trip to the resource managers and one to the log, and its last calls go with the
+//! first ones of the thread's next job. A worker with nothing to do looks again, if each has a
+//! processor of its own, and yields; none sleeps.
 
 #[path = "ring.rs"]
 #[allow(dead_code)]
@@ -117,7 +118,8 @@ fn log(shared: &Shared) {
     });
 }
 
-/// Makes the hops of all jobs on so many threads of control. Starts and joins all workers but the log's.
+/// Makes the hops of all jobs on so many threads of control. Starts and joins all workers but the
+/// log's.
 fn run(threads: usize) {
     let processors = thread::available_parallelism().map_or(1, |count| count.get());
     let shared = Shared {

@@ -1,7 +1,8 @@
-# Calls a second that go over a line and come back answered, beside two rings in C, and beside programs that do the same and
-# of which nothing is proved.
+# Calls a second that go over a line and come back answered, beside two rings in C, and beside
+# programs that do the same and of which nothing is proved.
 
-# by_place WHO FILE: the figures of a program that tells where its hops were made, and then how many they are a second.
+# by_place WHO FILE: the figures of a program that tells where its hops were made, and then how many
+# they are a second.
 by_place() {
     awk -v who="$1" '/ in one thread$/ { place = "in one thread" } / between two threads$/ { place = "between two threads" }
         / a second$/ { print place "|" who "|" $1 }' "$2"

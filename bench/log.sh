@@ -1,11 +1,13 @@
-# Commits a second of the decision log, in a file in memory and on a disk, beside the C library sqlite3 with the same rows, and beside
-# a program that does a part of it and of which nothing is proved.
+# Commits a second of the decision log, in a file in memory and on a disk, beside the C library
+# sqlite3 with the same rows, and beside a program that does a part of it and of which nothing is
+# proved.
 
 # How many transactions are decided, and how often. They aren't done, so their rows stay.
 decided=499
 times=10
 
-# decided_with OUTCOME FOLDER: the microseconds of as many runs of the scenario, each over a new log in the folder.
+# decided_with OUTCOME FOLDER: the microseconds of as many runs of the scenario, each over a new log
+# in the folder.
 decided_with() {
     sum=0
     time=1
@@ -19,8 +21,8 @@ decided_with() {
     echo "$sum"
 }
 
-# ours PLACE FOLDER: how many commits a second the log takes. The same transactions that are rolled back write nothing to it: so what they
-# take less is the log's time.
+# ours PLACE FOLDER: how many commits a second the log takes. The same transactions that are rolled
+# back write nothing to it: so what they take less is the log's time.
 ours() {
     with=$(decided_with commit "$2")
     without=$(decided_with rollback "$2")

@@ -1,5 +1,6 @@
-//! What ring.c does, in Rust, whose calls hand items over by value, as those of a line do: so it shows what of the time is the
-//! copying of values. Each item is published by a store that is SeqCst, as the stores of a line's rings are.
+//! What ring.c does, in Rust, whose calls hand items over by value, as those of a line do: so it
+//! shows what of the time is the copying of values. Each item is published by a store that is
+//! SeqCst, as the stores of a line's rings are.
 
 use std::cell::UnsafeCell;
 use std::mem::MaybeUninit;

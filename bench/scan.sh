@@ -1,4 +1,5 @@
-# Microseconds that recovery pages take at a resource manager with many branches, and at one with few.
+# Microseconds that recovery pages take at a resource manager with many branches, and at one with
+# few.
 
 figures() {
     crates/benches/out/benches scan time > "$work/ours"

@@ -1,5 +1,6 @@
-# Milliseconds of `xatm run`, with the start of the program and the reading of the file, for scenarios of 10,000 events, which
-# is the most that one may have, and of a quarter and a half of them.
+# Milliseconds of `xatm run`, with the start of the program and the reading of the file, for
+# scenarios of 10,000 events, which is the most that one may have, and of a quarter and a half of
+# them.
 
 target=40
 
@@ -13,8 +14,8 @@ took() {
     echo "$((time / 1000)).$((time / 100 % 10))"
 }
 
-# grown CASE SHAPE WORDS..: the figures of the three files of a shape. If the first is four times the second, a run takes
-# time in the measure of its events.
+# grown CASE SHAPE WORDS..: the figures of the three files of a shape. If the first is four times
+# the second, a run takes time in the measure of its events.
 grown() {
     case=$1
     shape=$2

@@ -1,5 +1,5 @@
-# Steps a second of a system with many transactions, beside one with few. Below stands how many identifiers a second the ordered map
-# finds on which the manager's transactions and branches stand.
+# Steps a second of a system with many transactions, beside one with few. Below stands how many
+# identifiers a second the ordered map finds on which the manager's transactions and branches stand.
 
 # beside WHAT FILE: the figures that a program tells by what stands beside; the last one first.
 beside() {

@@ -1,6 +1,7 @@
-# Two-phase commits a second of `xatm threads --log` over a new log in a file, with the start of the program and the reading of
-# the jobs, beside Bitronix with its journal on the same disk. Both force each decision to the disk. Below stands the same with
-# the log in memory, and what the disk alone takes, if each write has a decision of each thread.
+# Two-phase commits a second of `xatm threads --log` over a new log in a file, with the start of the
+# program and the reading of the jobs, beside Bitronix with its journal on the same disk. Both force
+# each decision to the disk. Below stands the same with the log in memory, and what the disk alone
+# takes, if each write has a decision of each thread.
 
 # rate_of COMMAND..: how many of the jobs a second the command makes, with its start and its end.
 rate_of() {

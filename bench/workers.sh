@@ -1,5 +1,6 @@
-# Two-phase commits a second of worker threads over a log in memory, beside Bitronix without a journal. Below stands what the same
-# hops take between threads of a program of which nothing is proved, and which does nothing else.
+# Two-phase commits a second of worker threads over a log in memory, beside Bitronix without a
+# journal. Below stands what the same hops take between threads of a program of which nothing is
+# proved, and which does nothing else.
 
 # rates WHO FILE: the figures of a program that tells them by the number of threads.
 rates() {

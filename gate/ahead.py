@@ -12,16 +12,18 @@ PROVED, KEPT = re.compile(r"rt: (\w+) proved$"), re.compile(r"rt: (\w+) is kept:
 
 
 class Ahead:
-    """The last crates rest on one another, and rt ci leaves processors idle while it proves them. Meanwhile the edits of the crates
-    before them are tried, at the lowest priority: of those that this run proves, and of those that are left though rt ci has kept them.
-    Those of a crate that all others wait for are tried beside its proof (first): if that fails, so does the gate.
-    tools/edits keeps what is refused, and counts it when it is run over all. Those that are under way when rt ci ends go on, no longer at the
-    lowest priority: it waits for them, crate by crate.
+    """The last crates rest on one another, and rt ci leaves processors idle while it proves them.
+    Meanwhile the edits of the crates before them are tried, at the lowest priority: of those that
+    this run proves, and of those that are left though rt ci has kept them. Those of a crate that
+    all others wait for are tried beside its proof (first): if that fails, so does the gate.
+    tools/edits keeps what is refused, and counts it when it is run over all. Those that are under
+    way when rt ci ends go on, no longer at the lowest priority: it waits for them, crate by crate.
 
-    So often, in seconds (looks), it asks whether there is room for one more: busy says how many processors were busy since it was last
-    asked, free how many bytes are left."""
+    So often, in seconds (looks), it asks whether there is room for one more: busy says how many
+    processors were busy since it was last asked, free how many bytes are left."""
 
-    # One is begun if there is room for it and for one proof more; all are ended once less than this is left.
+    # One is begun if there is room for it and for one proof more; all are ended once less than this
+    # is left.
     LEAST = 2_000_000_000
 
     def __init__(self, tool, running, left, looks=5, busy=None, free=free_bytes, first=()):

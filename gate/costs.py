@@ -1,4 +1,5 @@
-"""About how long ./check takes here, by the processors, how many and how fast, and by what is kept."""
+"""About how long ./check takes here, by the processors, how many and how fast, and by what is
+kept."""
 
 import functools
 import os
@@ -11,11 +12,13 @@ from .machine import BYTES_A_JOB, jobs_for, processors
 
 # All that follows was measured on a machine that adds up so many squares in so many seconds.
 SQUARES, SECONDS = 200_000, 0.0115
-# Minutes of one processor, from nothing: of --quick, of what the whole gate does of it, and of all proofs of rt ci with the tests.
+# Minutes of one processor, from nothing: of --quick, of what the whole gate does of it, and of all
+# proofs of rt ci with the tests.
 QUICK, QUICK_PART, PROOFS = 8, 4, 94
 # Processor seconds of an edit.
 EDIT = 6
-# Minutes at the end, in which processors are idle: if the program is built anew, and if all is kept.
+# Minutes at the end, in which processors are idle: if the program is built anew, and if all is
+# kept.
 LAST, LAST_KEPT = 3, 1
 
 
@@ -25,7 +28,8 @@ def seconds_of_squares():
 
 
 def slowness():
-    """How many times as long all takes here: a machine that took 2.7 times as long for the squares took 2.1 times as long for rt ci."""
+    """How many times as long all takes here: a machine that took 2.7 times as long for the squares
+    took 2.1 times as long for rt ci."""
     return (1 + 2 * seconds_of_squares() / SECONDS) / 3
 
 
@@ -69,7 +73,8 @@ class Costs:
 
     @staticmethod
     def on():
-        """Of a machine that is busy now the free memory alone counts, not how long others make it wait."""
+        """Of a machine that is busy now the free memory alone counts, not how long others make it
+        wait."""
         return f"{jobs_for(BYTES_A_JOB)} at a time, if nothing else uses the {processors()} processors"
 
     def keep(self):

@@ -81,7 +81,8 @@ class CrateRun:
             self.kept.take(self.left())
 
     def run(self, room, whole, is_known):
-        """Tries those that are left, and says what each came to. What another run tries now it waits for."""
+        """Tries those that are left, and says what each came to. What another run tries now it
+        waits for."""
         if self.left():
             with self.kept.alone(room.stops):
                 self.take()

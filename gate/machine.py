@@ -8,7 +8,8 @@ import subprocess
 import sys
 import time
 
-# What a check with an edit takes, and a proof by rt ci: at most, except for those of xa_commands with an edit, which take up to 4 GB.
+# What a check with an edit takes, and a proof by rt ci: at most, except for those of xa_commands
+# with an edit, which take up to 4 GB.
 BYTES_A_JOB, BYTES_A_PROOF = 3 << 30, 5_000_000_000
 
 
@@ -45,7 +46,8 @@ class Busy:
 
 
 def put_last(leader):
-    """Gives all that runs in the session of this leader the lowest priority, and so what it starts from now on."""
+    """Gives all that runs in the session of this leader the lowest priority, and so what it starts
+    from now on."""
     nice_all(leader, 19)
 
 
@@ -80,7 +82,8 @@ def of_session(session):
 
 
 def seconds_of(session):
-    """How many processor seconds the processes of a session have taken so far, with those that have ended."""
+    """How many processor seconds the processes of a session have taken so far, with those that have
+    ended."""
     ticks = sum(sum(map(int, fields[11:15])) for _, fields in of_session(session))
     return ticks / os.sysconf("SC_CLK_TCK")
 
@@ -91,7 +94,8 @@ def jobs_for(bytes_a_job):
 
 
 def on_signals(ends):
-    """If a signal is to end this program, does that, and ends it with the status that a shell would give."""
+    """If a signal is to end this program, does that, and ends it with the status that a shell would
+    give."""
 
     def stop(number, _):
         ends()
@@ -116,7 +120,8 @@ def descendants():
 
 
 class Running:
-    """Processes all of which stop ends, with all that they started: some put those into groups of their own."""
+    """Processes all of which stop ends, with all that they started: some put those into groups of
+    their own."""
 
     # Of what has lost its parent this process becomes the parent.
     SET_CHILD_SUBREAPER = 36

@@ -19,8 +19,8 @@ LACKS = re.compile(r"(?m)left out: .*|skipped=\d+")
 
 
 class Part:
-    """A program to run, and what to count of what it prints (count, of its status and its text). If there is a sum of all that it
-    rests on, it is run once, if all of it passes."""
+    """A program to run, and what to count of what it prints (count, of its status and its text). If
+    there is a sum of all that it rests on, it is run once, if all of it passes."""
 
     def __init__(self, name, words, folder, count, rests_on=None):
         self.name, self.words, self.folder, self.count = name, words, folder, count
@@ -85,7 +85,8 @@ def at_least_one_failed(status, count):
 
 
 class Runner:
-    """Runs parts, and adds up what they come to. What they make, beside rt ci, lies in one folder, which goes with this."""
+    """Runs parts, and adds up what they come to. What they make, beside rt ci, lies in one folder,
+    which goes with this."""
 
     def __init__(self, running):
         self.running, self.passed, self.failed, self.printing = running, 0, 0, threading.Lock()
@@ -101,12 +102,14 @@ class Runner:
             print(f"check: {text}", flush=True)
 
     def shown(self, part, heard=None):
-        """Runs a part whose lines are shown as they come, and given to heard, and returns whether all of it passed."""
+        """Runs a part whose lines are shown as they come, and given to heard, and returns whether
+        all of it passed."""
         self.say(f"{part.name} begins")
         return self.run(part, shows=True, heard=heard)
 
     def run(self, part, shows=False, heard=None):
-        """Runs a part, and shows what it printed once it has failed, or as it comes. Returns whether all of it passed."""
+        """Runs a part, and shows what it printed once it has failed, or as it comes. Returns
+        whether all of it passed."""
         known = part.known()
         if known is not None:
             self.add(part, Count(known, 0), "as earlier")
