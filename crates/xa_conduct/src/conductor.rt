@@ -60,6 +60,11 @@ impl<L: DecisionLog + Drop> Conductor<L> {
         self.notes.has_quit || self.notes.is_stopped
     }
 
+    /// Whether the session is over since a branch was strange.
+    pub fn is_strange(&self) -> bool {
+        self.notes.is_strange
+    }
+
     /// The reply to a line of moves.
     pub fn turn(&mut self, line: &str) -> Result<String, Memory>
         requires { IsReady self.old.server.session }

@@ -50,6 +50,7 @@ pub(crate) struct Notes {
     /// Nothing is told any more: a request was refused, or a resource manager listed a branch of another log.
     pub is_stopped: bool,
     pub has_quit: bool,
+    pub is_strange: bool,
     ghost few_over: { length over.items ≤ 1024 },
 }
 
@@ -77,6 +78,7 @@ impl Notes {
             has_found_all: false,
             is_stopped: false,
             has_quit: false,
+            is_strange: false,
         })
     }
 

@@ -74,7 +74,8 @@ fn serve_moves<L: DecisionLog + Drop, R: Read, W: Write>(
     Ok(line.is_ended && !conductor.has_ended())
 }
 
-/// Serves a driver by moves, a line for each line, until it quits, its lines end, or nothing more can be told.
+/// Serves a driver by moves, a line for each line, until it quits, its lines end, or nothing more can be told. The conductor that is given
+/// back has the server, and says whether the session is over since a branch was strange.
 pub fn serve<L: DecisionLog + Drop, R: Read, W: Write>(
     server: Server<L>,
     alloc: Global,
@@ -83,10 +84,10 @@ pub fn serve<L: DecisionLog + Drop, R: Read, W: Write>(
     rms: u32,
     input: &mut BufReader<R>,
     output: &mut W,
-) -> Result<Server<L>, ServeFault>
+) -> Result<Conductor<L>, ServeFault>
     requires { IsReady server.session }
-    ensures ready { IfOk result (λ s. IsReady s.session) }
-    ensures acts { IfOk result (λ s. GoesOn L.moment server s) }
+    ensures ready { IfOk result (λ c. IsReady c.server.session) }
+    ensures acts { IfOk result (λ c. GoesOn L.moment server c.server) }
 {
     let Ok(greeting) = response_text(alloc, &server.greeting()) else {
         return Err(ServeFault::Memory);
@@ -98,7 +99,7 @@ pub fn serve<L: DecisionLog + Drop, R: Read, W: Write>(
     };
     for _ in 0..u64::MAX {
         if !serve_moves(&mut conductor, alloc, name, input, output)? {
-            return Ok(conductor.into_server());
+            return Ok(conductor);
         }
     }
     Err(ServeFault::Input)

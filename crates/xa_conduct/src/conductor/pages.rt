@@ -84,6 +84,7 @@ impl<L: DecisionLog + Drop> Conductor<L> {
         }
         if let Some(xid) = strange_in(&self.notes, rm, xids) {
             self.notes.is_stopped = true;
+            self.notes.is_strange = true;
             let name = xid.text(self.alloc)?;
             return Ok(format!(in self.alloc; "strange {name}")?);
         }
