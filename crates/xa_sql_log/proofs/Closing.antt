@@ -15,7 +15,7 @@ use Rattle.xa_sql_log.specs.PreparedDatabase.{Prepares}
 use Rattle.xa_sql_log.specs.Rows.{content_of}
 use Rattle.xa_sql_log.specs.Sql.{AreLogTrees, IsLasting, IsReadyWith, content_in}
 
-same_some : (x c : Content) → Some x ≡ Some c → x ≡ c
+pub same_some : (x c : Content) → Some x ≡ Some c → x ≡ c
 same_some x c is = let same : x ≡ c = cc in same
 
 pub closed_whole : (s : State) (image : Image) (c : Content) → IsLive s → IsLasting s → IsTrue s.is_open

@@ -61,7 +61,7 @@ stays_nothing old new ready taken =
     subst (λ c. IsReadyWith c new) ready.content (taken.kept ready.ready.now.schema (λ _. ready.ready))
 
 module _ (image : Image) (s : State) (opens : Opens s) (live : IsLive s) (found : FindsIn image s) where
-  tables_of : (schema : Schema) → IsSound schema s.now.trees → s.now.schema ≡ schema
+  pub tables_of : (schema : Schema) → IsSound schema s.now.trees → s.now.schema ≡ schema
   tables_of schema sound = lists_once (s.now.trees catalog_tree) s.now.schema schema (live opens.is_open).0.lists sound.lists
 
   trees_now : s.now.trees ≡ s.committed.trees
@@ -73,7 +73,7 @@ module _ (image : Image) (s : State) (opens : Opens s) (live : IsLive s) (found 
       tables_of no_tables (subst (IsSound no_tables) (sym trees_now) (empty_is_sound s.committed.trees empty.1))
 
   module _ (db : Trees) (held : ∥ HoldsDatabase image db ∥₁) where
-    trees_found : s.now.trees ≡ db
+    pub trees_found : s.now.trees ≡ db
     trees_found = trees_now ∙ ∥∥₁_elim held (Trees-set _ _) (found.holds db)
 
     old_tables : AreOldLogTrees db → s.now.schema ≡ old_schema

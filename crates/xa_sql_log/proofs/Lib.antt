@@ -17,6 +17,7 @@ pub mod HeuristicRows
 pub mod Inserts
 pub mod Inside
 pub mod SameEntries
+pub mod ShutLogs
 pub mod LabelLemmas
 pub mod Lasting
 pub mod Layouts
@@ -25,6 +26,7 @@ pub mod MadeTables
 pub mod Maps
 pub mod MetaRows
 pub mod Migrates
+pub mod NamedVersions
 pub mod Parents
 pub mod Plain
 pub mod States

@@ -32,7 +32,7 @@ use Rattle.xa_sql_log.proofs.Texts.{over, find_incarnation, find_incarnation_is,
 use Rattle.xa_sql_log.proofs.Values.{cast_int, cast_null, same_id}
 use Rattle.xa_sql_log.proofs.Inserts.{at_once}
 use Rattle.xa_sql_log.proofs.DecisionRows.{booked_as}
-use Rattle.xa_sql_log.proofs.Migrates.{no_work}
+use Rattle.xa_sql_log.proofs.NamedVersions.{no_work}
 use Rattle.xa_sql_log.proofs.States.{Did, wrote, commits_as}
 use Rattle.xa_sql_log.proofs.StatesAfter.{answered, changes_as}
 use Rattle.xa_log.proofs.Alike.{same_content}
@@ -67,12 +67,12 @@ project = col 1 0 ∷ col 1 0 ∷ lit Null ∷ col 1 2 ∷ col 0 0 ∷ []
 abbrev update : Command
 update = Update 0 (record { lets = []; body = over 0 [] project })
 
-record Sets (incarnation : ℕ) (db after : Database) : Type 0 where
-  schema : after.schema ≡ log_schema
-  meta : after.trees 0 ≡ meta_row incarnation ∷ []
-  decisions : after.trees 1 ≡ db.trees 1
-  heuristics : after.trees 3 ≡ db.trees 3
-  participants : after.trees 5 ≡ db.trees 5
+pub record Sets (incarnation : ℕ) (db after : Database) : Type 0 where
+  pub schema : after.schema ≡ log_schema
+  pub meta : after.trees 0 ≡ meta_row incarnation ∷ []
+  pub decisions : after.trees 1 ≡ db.trees 1
+  pub heuristics : after.trees 3 ≡ db.trees 3
+  pub participants : after.trees 5 ≡ db.trees 5
 
 sets : (limit : Option ℕ) (new last : ℕ) (db after : Database) (text : List ℕ) (tally : Tally) → db.schema ≡ log_schema → db.trees 0 ≡ meta_row last ∷ []
     → Does limit at_once (Int (pos new) ∷ []) db text None update (Ok (tally, after)) → Sets new db after
@@ -103,7 +103,7 @@ sets limit new last db after text tally has one h =
       participants = as_after 5 ∙ applied.tables.1.1.1.0 (eqb-false 5 0 refl);
     }
 
-set_content : (db after : Database) (new : ℕ) → IsLog db → Sets new db after
+pub set_content : (db after : Database) (new : ℕ) → IsLog db → Sets new db after
     → IsLog after × (content_of after.trees ≡ with_incarnation new (content_of db.trees))
 set_content db after new is set = (
   record {

@@ -28,6 +28,7 @@ use Rattle.xa_sql_log.proofs.Plain.{chosen, shown, plain_rows}
 use Rattle.xa_sql_log.proofs.Values.{cast_int, cast_null, same_id}
 use Rattle.xa_sql_log.proofs.Inserts.{at_once}
 use Rattle.xa_sql_log.proofs.Maps.{booked}
+use Rattle.xa_sql_log.proofs.NamedVersions.{Names, names, naming}
 use Rattle.sqlite_schema.specs.Rules.{is_key_of}
 use Rattle.xa_sql_log.specs.Labels.{MakesParticipants}
 use Rattle.xa_sql_log.specs.Tables.{old_schema, log_schema, participant_text, participant, meta, of_decision}
@@ -50,8 +51,7 @@ migrated_schema = refl
 abbrev pub set_version : List ℕ
 set_version = codes "UPDATE tm_meta SET version = 2"
 
-pub set_version_is : command_of (understood log_schema set_version)
-    ≡ Update 0 (record { lets = []; body = over 0 [] (col 1 0 ∷ col 1 0 ∷ lit Null ∷ lit (Int (pos 2)) ∷ col 1 3 ∷ []) })
+pub set_version_is : command_of (understood log_schema set_version) ≡ naming 2
 unfolding understood everything
 set_version_is = refl
 
@@ -98,58 +98,9 @@ adds text makes old new count has ran =
       heuristics = as_now 3 ∙ others.1.1.0;
     }
 
--- ---- UPDATE
-
-abbrev project : List Term
-project = col 1 0 ∷ col 1 0 ∷ lit Null ∷ lit (Int (pos 2)) ∷ col 1 3 ∷ []
-
--- to write the one row of tm_meta is work for no key
-pub no_work : (olds news : List Row) → length news ≡ 1 → works log_schema Enforced 0 0 olds news ≡ []
-unfolding everything
-no_work olds [] one = absurd (omega (arith, one))
-no_work olds (new ∷ []) one = refl
-no_work olds (new ∷ next ∷ more) one = absurd (omega (arith, one))
-
-record Sets (incarnation : ℕ) (db after : Database) : Type 0 where
-  schema : after.schema ≡ log_schema
-  meta : after.trees 0 ≡ meta_row incarnation ∷ []
-  decisions : after.trees 1 ≡ db.trees 1
-  heuristics : after.trees 3 ≡ db.trees 3
-  participants : after.trees 5 ≡ db.trees 5
-
-sets : (limit : Option ℕ) (incarnation : ℕ) (db after : Database) (text : List ℕ) (tally : Tally) → db.schema ≡ log_schema
-    → db.trees 0 ≡ old_meta_row incarnation ∷ []
-    → Does limit at_once [] db text None (Update 0 (record { lets = []; body = over 0 [] project })) (Ok (tally, after)) → Sets incarnation db after
-sets limit incarnation db after text tally has one h =
-    let command = Update 0 (record { lets = []; body = over 0 [] project }) in
-    let done = went (subst (λ s. Does limit at_once [] (record db { schema = s }) text None command (Ok (tally, after))) has h) in
-    let now = ap (λ (p : Tally × Database). p.1) (same_value (went (went done.2).2).2) in
-    let found = went done.1 in
-    let written = went found.2 in
-    let trees : done.0.trees ≡ written.0 = ap (λ (it : Written). it.trees) (same_value written.2) in
-    let row : Row = Int (pos 1) ∷ Int (pos 1) ∷ Null ∷ Int (pos 2) ∷ Int (pos incarnation) ∷ [] in
-    let rows : found.0 ≡ row ∷ [] =
-    one_permutation row found.0 (subst (λ all. IsPermutation (map (shown project []) (chosen [] [] all)) found.0) one
-    (plain_rows 0 [] project db.trees [] found.0 found.1.answer)) in
-    let none : works log_schema Enforced 0 0 (taken_by db.trees (edit_of db.trees meta (ids_of found.0) Given 1 found.0))
-    (edit_of db.trees meta (ids_of found.0) Given 1 found.0).news ≡ [] =
-    no_work _ _ (ap (λ all. length (edit_of db.trees meta (ids_of all) Given 1 all).news) rows) in
-    let applied = one_step log_schema Enforced db.trees written.0 (edit_of db.trees meta (ids_of found.0) Given 1 found.0) none written.1 in
-    let as_after = λ (at : ℕ). ap (λ (t : Trees). t at) (ap (λ (d : Database). d.trees) now ∙ trees) in
-    let edit : edited db.trees (edit_of db.trees meta (ids_of found.0) Given 1 found.0) ≡ meta_row incarnation ∷ [] =
-    ap (λ all. edited db.trees (edit_of db.trees meta (ids_of all) Given 1 all)) rows
-    ∙ rw (one, same_id (pos 1), cast_int (pos 1), cast_null, cast_int (pos 2), cast_int (pos incarnation)) refl in
-    record {
-      schema = ap (λ (d : Database). d.schema) now;
-      meta = as_after 0 ∙ applied.rows ∙ edit;
-      decisions = as_after 1 ∙ applied.tables.1.0 (eqb-false 1 0 refl);
-      heuristics = as_after 3 ∙ applied.tables.1.1.0 (eqb-false 3 0 refl);
-      participants = as_after 5 ∙ applied.tables.1.1.1.0 (eqb-false 5 0 refl);
-    }
-
 -- ---- both
 
-new_log : (db mid after : Database) → IsOldLog db → Adds db mid → Sets (old_content_of db.trees).incarnation mid after
+new_log : (db mid after : Database) → IsOldLog db → Adds db mid → Names 2 (old_content_of db.trees).incarnation mid after
     → IsNewLog (old_content_of db.trees) after
 new_log db mid after is added set =
     let none : after.trees 5 ≡ [] = set.participants ∙ added.participants in
@@ -177,9 +128,9 @@ migrates old mid new a b is first second =
     let added = adds participant_text makes_participant old mid a is.schema first in
     let w =
     runs_as set_version [] mid new log_schema added.schema
-    (Update 0 (record { lets = []; body = over 0 [] project })) set_version_is set_version_plain b second in
+    (naming 2) set_version_is set_version_plain b second in
     new_log old.now mid.now new.now is added
-    (sets mid.step_limit (old_content_of old.now.trees).incarnation mid.now new.now
+    (names 2 1 (old_content_of old.now.trees).incarnation mid.step_limit mid.now new.now
     (statement_of set_version (understood log_schema set_version)) w.tally added.schema (added.meta ∙ is.meta) w.changed)
 
 -- ---- in a transaction that is committed

@@ -36,7 +36,7 @@ did_after change a b c same made = record {
   content = made.content ∙ ap (λ (d : Database). change (content_of d.trees)) same.0.now_is;
 }
 
-ready_after : (a b : State) → IsUnchanged a b → IsOrderly a → HasLogTables b
+pub ready_after : (a b : State) → IsUnchanged a b → IsOrderly a → HasLogTables b
 ready_after a b same order = rests_order a b (λ _. inl same) order same.0.is_open
 
 -- a statement that ran, by what it makes of the log's tables

@@ -6,6 +6,7 @@ pub mod Labels
 pub mod OpenedDatabase
 pub mod PreparedDatabase
 pub mod Rows
+pub mod ShutLogs
 pub mod Sql
 pub mod SqlLaws
 pub mod Tables

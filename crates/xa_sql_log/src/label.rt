@@ -3,6 +3,7 @@
 ghost use Rattle.std.specs.Prelude.{◌≡◌, ◌≢◌, ℕ, List, None, Ok, IfErr, IfNone, IfOk, IfSome};
 ghost use Rattle.std.specs.String.{string_bytes};
 ghost use Rattle.sqlite.specs.Held.{state};
+ghost use Rattle.sqlite.specs.State.{HasCleanDisk};
 ghost use Rattle.xa_log.specs.Contract.{IsStoreFault};
 ghost use Rattle.xa_sql_log.specs.Labels.{is_label, labelled};
 ghost use Rattle.xa_sql_log.specs.OpenedDatabase.{IsBlank};
@@ -56,6 +57,7 @@ pub(crate) fn find_label<S: Alter>(
     alloc: Global,
     conn: &mut Connection<S>,
 ) -> Result<Option<String>, LogFault>
+    ensures honest { HasCleanDisk (state S.Store conn.new) → HasCleanDisk (state S.Store conn.old) }
     ensures blank { IsBlank (state S.Store conn.old) → result ≡ Ok None }
     ensures cause { IfErr result IsStoreFault }
 {

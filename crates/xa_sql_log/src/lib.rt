@@ -11,10 +11,12 @@ mod meta;
 mod participants;
 mod removals;
 mod rows;
+mod shutting;
 mod sql_log;
 mod statements;
 mod tables;
 mod version;
 
 pub use label::is_label;
+pub use shutting::LogHead;
 pub use sql_log::{LockFault, SqlLog, journal_path, memory_is_honest};

@@ -12,6 +12,7 @@ mod halves;
 mod labels;
 mod looking;
 mod opening;
+mod shutting;
 mod starts;
 
 use crate::{decisions, groups, heuristics, meta, participants, removals, rows, tables};

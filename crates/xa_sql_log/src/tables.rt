@@ -34,7 +34,7 @@ const CREATE_PARTICIPANT: &str = "CREATE TABLE participant (inc INTEGER NOT NULL
 
 const FIRST_META: &str = "INSERT INTO tm_meta (k, version, incarnation) VALUES (1, 2, 0)";
 
-const SET_VERSION: &str = "UPDATE tm_meta SET version = 2";
+pub(crate) const SET_VERSION: &str = "UPDATE tm_meta SET version = 2";
 
 /// The tables of a database, by their names.
 #[derive(Clone, Copy, Debug, PartialEq, Eq)]

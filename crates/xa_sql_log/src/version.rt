@@ -15,7 +15,7 @@ use crate::statements::of_store;
 use sqlite::{Alter, Connection, Row};
 use xa_log::LogFault;
 
-const READ_META: &str = "SELECT version, incarnation FROM tm_meta";
+pub(crate) const READ_META: &str = "SELECT version, incarnation FROM tm_meta";
 
 /// The version in the row of `tm_meta`, both of whose numbers have to fit their types.
 fn version_in(rows: &[Row]) -> Result<u64, LogFault>

@@ -13,6 +13,7 @@ ghost use Rattle.xa_sql_log.specs.HeldContents.{HoldsContent, MakesLabelled};
 ghost use Rattle.xa_sql_log.specs.Labels.{MakesParticipants, labelled};
 ghost use Rattle.xa_sql_log.specs.OpenedDatabase.{HasTables, HoldsLog, IsBlank, IsKnownDatabase};
 ghost use Rattle.xa_sql_log.specs.PreparedDatabase.{Prepares};
+ghost use Rattle.xa_sql_log.specs.ShutLogs.{HoldsShut};
 ghost use Rattle.xa_sql_log.specs.Sql.{IsLasting, IsReadyWith};
 
 use super::SqlLog;
@@ -168,7 +169,8 @@ impl<S: Start> SqlLog<FileStore<FileFrom<S>>> {
     /// that makes its tables; one that is there keeps its own.
     ///
     /// - `order`: the log is in order, if the database file was empty or the files held a log;
-    /// - `held`: it has the content that the files held, if they have been honest so far.
+    /// - `held`: it has the content that the files held, if they have been honest so far;
+    /// - `shut`: a log that was shut isn't opened.
     pub fn open_locked(
         rt: &HostRuntime,
         files: Files<FileFrom<S>>,
@@ -185,8 +187,23 @@ impl<S: Start> SqlLog<FileStore<FileFrom<S>>> {
             MakesLabelled label.now (image_at S.Start) →
             (⟦<SqlLog<FileStore<FileFrom<S>>> as DecisionLog>⟧.moment log).is_honest →
             (⟦<SqlLog<FileStore<FileFrom<S>>> as DecisionLog>⟧.moment log).content ≡ Some c) }
+        ensures shut { IfOk result (λ log. (c : Content) → HoldsShut c (image_at S.Start) →
+            (⟦<SqlLog<FileStore<FileFrom<S>>> as DecisionLog>⟧.moment log).is_honest → ⊥) }
     {
         let conn = connection_over(rt, files)?;
         SqlLog::adopt_files_as(rt.alloc(), conn, label)
+    }
+
+    /// Opens a log that is shut again, in files that were just locked, as [`SqlLog::reopen`] does.
+    pub fn reopen_locked(
+        rt: &HostRuntime,
+        files: Files<FileFrom<S>>,
+    ) -> Result<SqlLog<FileStore<FileFrom<S>>>, LogFault>
+        requires log { IsTrue (file_is_usable S.Start files.log) }
+        requires db { IsTrue (file_is_usable S.Start files.db) }
+        requires fresh_log { IsFresh true files.log }
+        requires fresh_db { IsFresh false files.db }
+    {
+        SqlLog::reopen_files(connection_over(rt, files)?)
     }
 }

@@ -1,11 +1,12 @@
-//! The label of a log in files: read without a look at its rows, and given to a log when it is made.
+//! What a log in files says of itself, read without a look at its rows; and the label that it is given when it is made.
 ghost use Rattle.std.specs.Prelude.{◌≡◌, false, Err, IsTrue, IfErr, IfOk, IsErrAnd, Ok};
 ghost use Rattle.xa_log.specs.Contract.{IsStoreFault};
 ghost use Rattle.xa_sql_log.specs.Labels.{is_label};
 
 use super::SqlLog;
 use super::files::{connection_to, copies_of, options_of, read_fault};
-use crate::label::{find_label, is_label, labelled_text};
+use crate::label::{is_label, labelled_text};
+use crate::shutting::{LogHead, find_head};
 use crate::statements::{of_store, store_fault};
 use crate::tables::make_tables;
 use sqlite::{Alter, Connection, FileFrom, FileStore, Files, Unknown};
@@ -14,27 +15,24 @@ use std::alloc::Global;
 use std::{fs, io};
 use xa_log::LogFault;
 
-/// The label of the log in a database, which is closed.
-fn label_over<S: Alter + Drop>(
+/// What the log in a database says of itself. The database is closed.
+fn head_over<S: Alter + Drop>(
     alloc: Global,
     mut conn: Connection<S>,
-) -> Result<Option<String>, LogFault>
-    ensures cause { IfErr result IsStoreFault }
-{
-    find_label(alloc, &mut conn)
+) -> Result<Option<LogHead>, LogFault> {
+    find_head(alloc, &mut conn)
 }
 
 /// The same in these files.
-fn label_in_files<D: Disk + Drop>(
+fn head_in_files<D: Disk + Drop>(
     alloc: Global,
     files: Files<D>,
-) -> Result<Option<String>, LogFault>
+) -> Result<Option<LogHead>, LogFault>
     requires log { IsTrue (D.Disk.is_usable files.log) }
     requires db { IsTrue (D.Disk.is_usable files.db) }
-    ensures cause { IfErr result IsStoreFault }
 {
     match Connection::open_files(alloc, files, options_of(0)) {
-        Ok(conn) => label_over(alloc, conn),
+        Ok(conn) => head_over(alloc, conn),
         Err((error, _files)) => Err(store_fault(error)),
     }
 }
@@ -76,13 +74,11 @@ fn is_there(found: io::Result<bool>) -> Result<bool, LogFault>
 }
 
 impl SqlLog<FileStore<FileFrom<Unknown>>> {
-    /// The label of the log in the file at a path: empty where the log has none, and nothing where no log is there. The
-    /// files are read into memory, and written neither.
-    pub fn label(rt: &HostRuntime, path: &str) -> Result<Option<String>, LogFault>
-        ensures cause { IfErr result IsStoreFault }
-    {
+    /// What the log in the file at a path says of itself, and nothing where no log is there. The files are read into memory,
+    /// and written neither. [`LogFault::Version`] comes for tables whose version and incarnation are no numbers.
+    pub fn head(rt: &HostRuntime, path: &str) -> Result<Option<LogHead>, LogFault> {
         if is_there(fs::exists(rt, path))? {
-            label_in_files(rt.alloc(), copies_of(rt, path)?)
+            head_in_files(rt.alloc(), copies_of(rt, path)?)
         } else {
             Ok(None)
         }

@@ -1,8 +1,9 @@
-use Rattle.std.proofs.Common.{Ok, Err, Result, IfOk}
+use Rattle.std.proofs.Common.{Ok, Err, Result, IfOk, inr}
 use Rattle.xa_log.proofs.Parts.{if_ok}
 use Rattle.sqlite.specs.Files.{file_state}
 use Rattle.xa_sql_log.proofs.FoundDatabase.{known_held}
 use Rattle.xa_sql_log.proofs.HeldContents.{content_held, makes_found}
+use Rattle.xa_sql_log.proofs.ShutLogs.{shut_unopened}
 use Rattle.xa_sql_log.proofs.sql_log.claiming.SqlLog+FileStore+FileFrom+S.open_locked.Goals as goal
 
 pub returns-clause-order : goal.returns-clause-order
@@ -33,4 +34,16 @@ returns-clause-held g c =
     let found = c.in_ok-conn.ensures.found early in
     content_held _ (file_state conn) opened.0 opened.1 found content holds c.args.label.now makes (file_state log.conn)
     (kept clean) (λ named blank sql. made named clean blank sql))
+    adopted.honest adopted.kept adopted.made
+
+pub returns-clause-shut : goal.returns-clause-shut
+returns-clause-shut g c =
+    let conn = c.in_ok-conn.conn in
+    let adopted = c.adopt_files_as.ensures in
+    three_ok c.adopt_files_as.result _ _ _ _
+    (λ log honest kept made content holds clean.
+    let early = honest clean in
+    let opened = c.in_ok-conn.ensures.opened early in
+    let found = c.in_ok-conn.ensures.found early in
+    shut_unopened content _ (file_state conn) (file_state log.conn) opened.0 opened.1 found holds (λ has. kept clean (inr has)))
     adopted.honest adopted.kept adopted.made
