@@ -52,7 +52,7 @@ _xatm() {
         chart) words='--output --help' && compopt -o default ;;
         threads) words='--log --help' && compopt -o default ;;
         serve) words='--name --rm --log --at-least --moves --help' ;;
-        log) words='--explain --json --make --help' && compopt -o default ;;
+        log) words='--explain --json --make --shut --open --help' && compopt -o default ;;
         help) words='run check explain chart threads serve log help' ;;
     esac
     [[ $command && $command != help && $cur != -* ]] || mapfile -t COMPREPLY < <(compgen -W "$words" -- "$cur")

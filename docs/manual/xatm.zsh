@@ -59,6 +59,8 @@ case $state in
                 _arguments '--explain[Print what the rows and records ask of an operator instead]' \
                     '--json[Print JSON, for other programs]' \
                     '--make[Make the log instead, from lines on standard input\: its names, `incarnation N`, decisions and `end`]' \
+                    '--shut[Shut the log instead\: every start refuses it, with status 8, until it is opened again]' \
+                    '--open[Open a log that is shut again instead, once it is settled that it is the right one]' \
                     '(- *)'{-h,--help}'[Print help]' \
                     ':PATH:_files'
                 ;;

@@ -7,10 +7,11 @@ use Rattle.xa_server.specs.declared.serving.ServeFault.TheVariants as services
 use Rattle.xa_files.specs.declared.fault.RunFault.TheVariants as faults
 use Rattle.xa_tm.specs.declared.manager.start.StartFault.{StartFault}
 use Rattle.xa_tm.specs.declared.manager.start.StartFault.TheVariants as starts
-use Rattle.xa_commands.specs.declared.failure.Failure.TheVariants.{CommandLine, Words, Unreadable, Run, Told, Failed, TooLong, Input, LogWords, Name, Older, RmNames, Refused, Line}
+use Rattle.xa_commands.specs.declared.failure.Failure.TheVariants.{CommandLine, Words, Unreadable, Run, Told, Failed, TooLong, Input, LogWords, Name, Older, RmNames, InUse, Refused, Half, Shut, Line}
 
--- 3 where the command line is refused, 1 where a file can't be read or a line of a log is wrong, 2 where a run is too long for a picture, the
--- requests of a driver can't be read, or the log is refused or fails, 4 where it is older than was asked for, else the status of the fault
+-- 3 if the command line is refused, 1 if a file can't be read or a line of a log is wrong, 2 if a run is too long for a picture, the requests
+-- of a driver can't be read, or the log fails; of a log 4 if it is older than was asked for, 5 if another process has it, 6 if it is none or
+-- another's, 7 if only a part of it is there, 8 if it is shut; else the status of the fault
 abbrev pub failure_status : Failure → ℕ
 failure_status (CommandLine text) = 3
 failure_status Words = 3
@@ -20,8 +21,11 @@ failure_status RmNames = 3
 failure_status (Unreadable text) = 1
 failure_status TooLong = 2
 failure_status Input = 2
-failure_status (Refused text) = 2
 failure_status (Older text) = 4
+failure_status (InUse text) = 5
+failure_status (Refused text) = 6
+failure_status (Half text) = 7
+failure_status (Shut text) = 8
 failure_status (Line number fault) = 1
 failure_status (Run fault) = fault_status fault
 failure_status (Told fault text) = fault_status fault

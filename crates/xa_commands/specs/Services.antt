@@ -14,7 +14,7 @@ use Rattle.xa_log.specs.Content.{Content}
 use Rattle.xa_log.specs.declared.log_fault.LogFault.{LogFault}
 use Rattle.xa_commands.specs.Names.{introduction, label_of}
 use Rattle.xa_commands.specs.declared.service.Served.{Served}
-use Rattle.xa_commands.specs.declared.service.Served.TheVariants.{InUse, Closed, BrokenOff}
+use Rattle.xa_commands.specs.declared.service.Served.TheVariants.{InUse, Closed, Shut, BrokenOff}
 use Rattle.xa_server.specs.NamedLines.{BreaksSessionUnder, ServesUnder}
 use Rattle.xa_server.specs.Replies.{greeting_of}
 use Rattle.xa_server.specs.declared.server.Server.{Server}
@@ -106,6 +106,7 @@ module _ {D L : Type 0} (disk : Ghosts D) (logs : DecisionLog.Ghosts L) (name : 
 abbrev pub Ends : Served → (another : Type 0) → (Result (Unit {0}) LogFault → Type 0) → (Failure → Type 0) → Type 0
 Ends InUse another P Q = another
 Ends (Closed closed) another P Q = P closed
+Ends (Shut shut) another P Q = ⊥
 Ends (BrokenOff failure) another P Q = Q failure
 
 module _ {D L : Type 0} (disk : Ghosts D) (logs : DecisionLog.Ghosts L) (image : Image) (name : List ℕ) (rm_names : List (List ℕ)) (threads rms : ℕ) where

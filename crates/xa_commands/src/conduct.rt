@@ -5,16 +5,18 @@ use crate::introduction::introduce;
 use crate::log_names::{check_rm_names, label_of, manager_named};
 use crate::logs::open_claimed;
 use crate::service::{Served, Service, closed_into};
+use crate::stores::shut_in_files;
 use sqlite::{FileStore, Start};
 use sqlite_disk::Disk;
 use std::alloc::Global;
 use std::io::{BufReader, Read, Write};
-use xa_log::{DecisionLog, LogFault};
+use xa_log::DecisionLog;
 use xa_names::ManagerName;
 use xa_server::Server;
 use xa_sql_log::SqlLog;
 
-/// Conducts a driver over a log, as the manager of this name, until the session is over, and gives the log back.
+/// Conducts a driver over a log, as the manager of this name, until the session is over, and gives the log back, and whether a
+/// branch was strange.
 fn conduct_over<L: DecisionLog + Drop, R: Read, W: Write>(
     alloc: Global,
     name: &ManagerName,
@@ -23,10 +25,11 @@ fn conduct_over<L: DecisionLog + Drop, R: Read, W: Write>(
     log: L,
     input: &mut BufReader<R>,
     out: &mut W,
-) -> Result<L, Failure> {
+) -> Result<(L, bool), Failure> {
     let server = Server::new(alloc, threads, rms, log)?;
-    let server = xa_conduct::serve(server, alloc, name, threads, rms, input, out)?;
-    Ok(server.into_log())
+    let conductor = xa_conduct::serve(server, alloc, name, threads, rms, input, out)?;
+    let is_strange = conductor.is_strange();
+    Ok((conductor.into_server().into_log(), is_strange))
 }
 
 /// The same over files, behind the line that has the names, where there are some. They are closed then.
@@ -37,10 +40,11 @@ fn conduct_named<D: Disk + Drop, R: Read, W: Write>(
     log: SqlLog<FileStore<D>>,
     input: &mut BufReader<R>,
     out: &mut W,
-) -> Result<Result<(), LogFault>, Failure> {
+) -> Result<Served, Failure> {
     introduce(alloc, name, service.rm_names, out)?;
     match conduct_over(alloc, name, service.threads, service.rms, log, input, out) {
-        Ok(log) => Ok(closed_into(log)),
+        Ok((log, true)) => Ok(Served::Shut(shut_in_files(log))),
+        Ok((log, false)) => Ok(Served::Closed(closed_into(log))),
         Err(failure) => Err(failure),
     }
 }
@@ -57,13 +61,13 @@ pub(crate) fn conduct_from<S: Start, R: Read, W: Write>(
     check_rm_names(service.rm_names, service.rms)?;
     let name = manager_named(service.name)?;
     let label = label_of(alloc, &name, service.rm_names)?;
-    let log = match open_claimed(rt, service.log, start, label.as_str()) {
+    let log = match open_claimed(rt, service.log, start, label.as_str(), service.at_least) {
         Ok(Some(log)) => log,
         Ok(None) => return Ok(Served::InUse),
         Err(failure) => return Err(failure),
     };
     match conduct_named(alloc, &name, service, log, input, out) {
-        Ok(closed) => Ok(Served::Closed(closed)),
+        Ok(served) => Ok(served),
         Err(failure) => Ok(Served::BrokenOff(failure)),
     }
 }

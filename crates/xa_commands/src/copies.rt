@@ -98,8 +98,11 @@ fn copies_of(rt: &HostRuntime, path: &str) -> io::Result<Files<Memory>>
     })
 }
 
-/// The log in a database.
-fn adopted<S: Alter + Drop>(conn: Connection<S>) -> Result<SqlLog<S>, LogFault> {
+/// The log in a database. One that is shut is opened again there.
+fn adopted<S: Alter + Drop>(conn: Connection<S>, is_shut: bool) -> Result<SqlLog<S>, LogFault> {
+    if is_shut {
+        return SqlLog::reopen(conn);
+    }
     match SqlLog::adopt(conn) {
         Ok(log) => Ok(log),
         Err((fault, _conn)) => Err(fault),
@@ -119,12 +122,13 @@ enum CopyFault {
 fn log_in_files<D: Disk + Drop>(
     alloc: Global,
     files: Files<D>,
+    is_shut: bool,
 ) -> Result<SqlLog<FileStore<D>>, CopyFault>
     requires log { IsTrue (D.Disk.is_usable files.log) }
     requires db { IsTrue (D.Disk.is_usable files.db) }
 {
     match Connection::open_files(alloc, files, Options::new(0)) {
-        Ok(conn) => match adopted(conn) {
+        Ok(conn) => match adopted(conn, is_shut) {
             Ok(log) => Ok(log),
             Err(fault) => Err(CopyFault::Log(fault)),
         },
@@ -137,13 +141,14 @@ fn log_in_files<D: Disk + Drop>(
 pub(crate) fn copied_log(
     rt: &HostRuntime,
     path: &str,
+    is_shut: bool,
 ) -> Result<SqlLog<FileStore<Memory>>, Failure> {
     let alloc = rt.alloc();
     let files = match copies_of(rt, path) {
         Ok(files) => files,
         Err(error) => return Err(system_failure(alloc, path, &error)),
     };
-    match log_in_files(alloc, files) {
+    match log_in_files(alloc, files, is_shut) {
         Ok(log) => Ok(log),
         Err(CopyFault::Store(error)) => Err(store_failure(alloc, path, &error)?),
         Err(CopyFault::Log(fault)) => Err(opening_failure(rt, path, fault)),

@@ -40,8 +40,14 @@ pub enum Failure {
     Name,
     /// The names of the resource managers are none, or not one for each.
     RmNames,
-    /// The log is another's, or only a part of it is there, as this text says.
+    /// Another process has the log, as this text says. A later try may go well.
+    InUse(String),
+    /// There is no such log, or it is another's, as this text says. No later try goes otherwise.
     Refused(String),
+    /// Only a part of the log is there, as this text says.
+    Half(String),
+    /// The log is shut, as this text says.
+    Shut(String),
     /// The log has had fewer starts than were asked for, as this text says.
     Older(String),
     /// The line of this number, of those that a log is to be made from, is wrong in this.
@@ -64,8 +70,9 @@ impl Failure {
         }
     }
 
-    /// The status that the program ends with: 1 where the file is refused, 2 where the work on it fails, 3 where the
-    /// command line is refused, 4 where the log is older than one that was asked for.
+    /// The status that the program ends with: 1 if the file is refused, 2 if the work on it fails, 3 if the command line is
+    /// refused; and of a log 4 if it is older than was asked for, 5 if another process has it, 6 if it is none or another's,
+    /// 7 if only a part of it is there, and 8 if it is shut.
     pub fn status(&self) -> u8
         ensures { result ≡ failure_status self.now }
     {
@@ -73,8 +80,12 @@ impl Failure {
             Failure::CommandLine(_) | Failure::Words | Failure::LogWords => 3,
             Failure::Name | Failure::RmNames => 3,
             Failure::Unreadable(_) | Failure::Line(_, _) => 1,
-            Failure::TooLong | Failure::Input | Failure::Refused(_) | Failure::Failed(_) => 2,
+            Failure::TooLong | Failure::Input | Failure::Failed(_) => 2,
             Failure::Older(_) => 4,
+            Failure::InUse(_) => 5,
+            Failure::Refused(_) => 6,
+            Failure::Half(_) => 7,
+            Failure::Shut(_) => 8,
             Failure::Run(fault) | Failure::Told(fault, _) => fault.status(),
         }
     }
@@ -84,9 +95,11 @@ impl Failure {
         match self {
             Failure::Words => eprintln!(rt; "xatm: command line"),
             Failure::LogWords => eprintln!(rt;
-                "xatm: command line: --explain, --json and --make don't go together"
+                "xatm: command line: --explain, --json, --make, --shut and --open don't go together"
             ),
-            Failure::Unreadable(text) | Failure::Failed(text) => eprintln!(rt; "xatm: {text}"),
+            Failure::Unreadable(text) | Failure::Failed(text) | Failure::InUse(text) => {
+                eprintln!(rt; "xatm: {text}")
+            }
             Failure::Run(fault) => eprintln!(rt; "{fault}"),
             Failure::CommandLine(text) | Failure::Told(_, text) => eprint!(rt; "{text}"),
             Failure::TooLong => eprintln!(rt; "xatm: chart: more than 200 events"),
@@ -97,6 +110,7 @@ impl Failure {
                 1 to 64 letters, digits, _ and -"
             ),
             Failure::Refused(text) | Failure::Older(text) => eprintln!(rt; "xatm: log: {text}"),
+            Failure::Half(text) | Failure::Shut(text) => eprintln!(rt; "xatm: log: {text}"),
             Failure::Line(number, fault) => eprintln!(rt; "xatm: line {number}: {fault}"),
         }
     }

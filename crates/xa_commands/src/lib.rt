@@ -22,9 +22,9 @@ mod logs;
 mod made_logs;
 mod places;
 mod service;
+mod shut_logs;
 mod stores;
 
-pub use ages::{is_older, refuse_older};
 pub use failure::Failure;
 pub use files::{Source, output_to, text_of, texts_of, told_path};
 pub use jobs::run_threads;
@@ -32,4 +32,5 @@ pub use lists::{list, list_as_json};
 pub use logs::{HostLog, broken_off, leave, open_unnamed};
 pub use made_logs::make_log;
 pub use service::{Served, Service, serve, serve_from, serve_in_files};
+pub use shut_logs::{open_log, shut_log};
 pub use stores::close_in_files;

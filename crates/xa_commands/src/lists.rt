@@ -4,6 +4,7 @@ use crate::copies::copied_log;
 use crate::failure::Failure;
 use crate::log_names::{manager_in, print_named, refuse_half};
 use crate::log_reasons::{looking_failure, no_log, opening_failure};
+use crate::logs::shut;
 use crate::places::check_place;
 use crate::stores::{Listing, incarnation_in_files, work_in_files};
 use sqlite::FileStore;
@@ -13,7 +14,7 @@ use std::io::Write;
 use xa_diagnostics::log_json;
 use xa_files::write_text;
 use xa_log::LogFault;
-use xa_sql_log::SqlLog;
+use xa_sql_log::{LogHead, SqlLog};
 
 /// Lists the log at a path, or tells what it asks of an operator (`explains`). Where there is none it fails: who looks at a log makes
 /// none. One that can't be opened, since another process runs over it or it can't be written, is looked at in a copy of its files.
@@ -23,23 +24,46 @@ pub fn list<W: Write>(
     explains: bool,
     out: &mut W,
 ) -> Result<(), Failure> {
-    check_place(rt, path)?;
-    refuse_half(rt, path)?;
     let alloc = rt.alloc();
-    let label = match SqlLog::label(rt, path) {
-        Ok(Some(label)) => label,
-        Ok(None) => return Err(no_log(rt, path)),
-        Err(fault) => return Err(opening_failure(rt, path, fault)),
-    };
-    let name = manager_in(label.as_str());
+    let head = head_of(rt, path)?;
+    let name = manager_in(head.label.as_str());
     let explained_for = if explains {
         Some(name.as_slice())
     } else {
         None
     };
-    let text = text_about(rt, path, explained_for)?;
+    let text = if head.is_shut {
+        shut_text(rt, path, explained_for)?
+    } else {
+        text_about(rt, path, explained_for)?
+    };
     let text = String::from_utf8_lossy(alloc, text.as_slice())?;
-    print_named(alloc, label.as_str(), text.as_str(), out)
+    print_named(alloc, head.label.as_str(), text.as_str(), out)
+}
+
+/// What the log at a path says of itself. If there is none, it fails.
+pub(crate) fn head_of(rt: &HostRuntime, path: &str) -> Result<LogHead, Failure> {
+    check_place(rt, path)?;
+    refuse_half(rt, path)?;
+    match SqlLog::head(rt, path) {
+        Ok(Some(head)) => Ok(head),
+        Ok(None) => Err(no_log(rt, path)),
+        Err(fault) => Err(opening_failure(rt, path, fault)),
+    }
+}
+
+/// What there is to say about a copy of a log that is shut, and that it is.
+fn shut_text(
+    rt: &HostRuntime,
+    path: &str,
+    explained_for: Option<&[u8]>,
+) -> Result<Vec<u8>, Failure> {
+    let copy = copied_log(rt, path, true)?;
+    // A copy is let go: whether it could be closed says nothing of the log.
+    let (text, _closed) = listed_text(rt.alloc(), explained_for, copy)?;
+    // A note that can't be written changes no status.
+    let _unwritten = shut(rt.alloc(), path).print(rt);
+    Ok(text)
 }
 
 /// What there is to say about a log, or about a copy of it.
@@ -61,7 +85,7 @@ fn text_about(
             }
         }
         Err(LogFault::Store) => {
-            let copy = copied_log(rt, path)?;
+            let copy = copied_log(rt, path, false)?;
             // A copy is let go: whether it could be closed says nothing of the log.
             let (text, _closed) = listed_text(alloc, explained_for, copy)?;
             // A note that can't be written changes no status.

@@ -79,7 +79,7 @@ pub(crate) fn half(alloc: Global, path: &str) -> Failure {
         file back, since a new log would roll back what is decided"
     );
     match told {
-        Ok(text) => Failure::Refused(text),
+        Ok(text) => Failure::Half(text),
         Err(error) => Failure::from(error),
     }
 }

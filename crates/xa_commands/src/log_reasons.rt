@@ -33,8 +33,9 @@ fn failed(alloc: Global, path: &str, reason: &str) -> Result<Failure, Failure> {
 
 /// The failure of a log that another process has.
 pub(crate) fn in_use(alloc: Global, path: &str) -> Failure {
-    match failed(alloc, path, "in use by another process") {
-        Ok(failure) | Err(failure) => failure,
+    match format!(in alloc; "{path}: in use by another process") {
+        Ok(text) => Failure::InUse(text),
+        Err(error) => Failure::from(error),
     }
 }
 
@@ -250,7 +251,7 @@ pub(crate) fn looking_failure(rt: &HostRuntime, path: &str, failure: Failure) ->
 /// Why a log that was opened fails.
 fn late_reason(rt: &HostRuntime, path: &str) -> Result<Failure, Failure> {
     let mut spent = Spent(false);
-    if let Ok(copy) = copied_log(rt, path) {
+    if let Ok(copy) = copied_log(rt, path, false) {
         // A copy is let go: whether it could be closed says nothing of the log.
         let _closed = work_in_files(copy, &mut spent);
     }

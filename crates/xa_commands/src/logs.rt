@@ -4,18 +4,19 @@ ghost use Rattle.std.specs.Prelude.{IfOk, IfSome};
 ghost use Rattle.sqlite_wal.specs.Files.{image_at};
 ghost use Rattle.xa_commands.specs.Services.{OpensAs};
 
+use crate::ages::is_older;
 use crate::failure::Failure;
 use crate::log_names::{half, refusal, verdict};
 use crate::log_reasons::{in_use, opening_failure, place_failure, running_failure};
 use crate::stores::close_in_files;
 use sqlite::{FileFrom, FileStore, Start, Unknown};
-use std::alloc::AllocError;
+use std::alloc::{AllocError, Global};
 use std::fs;
 use std::thread::sleep;
 use std::time::Duration;
 use xa_log::{DecisionLog, LogFault};
 use xa_names::NameFault;
-use xa_sql_log::{LockFault, SqlLog};
+use xa_sql_log::{LockFault, LogHead, SqlLog};
 
 /// A log in a file of the host.
 pub type HostLog = SqlLog<FileStore<FileFrom<Unknown>>>;
@@ -35,6 +36,10 @@ enum ClaimFault {
     Half,
     /// It has this label, and so it is another's.
     Names(String, NameFault),
+    /// It is shut.
+    Shut,
+    /// It has this incarnation, which is lower than was asked for.
+    Older(u64),
     /// It can't be opened.
     Log(LogFault),
 }
@@ -67,17 +72,46 @@ fn check_journal(rt: &HostRuntime, path: &str) -> Result<(), ClaimFault> {
 }
 
 /// Refuses a log that is another's, or of which only a part is there. Its files are locked meanwhile.
-fn check_claim(rt: &HostRuntime, path: &str, label: &str) -> Result<(), ClaimFault> {
+fn check_claim(rt: &HostRuntime, path: &str, label: &str, at_least: u64) -> Result<(), ClaimFault> {
     if SqlLog::is_half(rt, path)? {
         return Err(ClaimFault::Half);
     }
-    let Some(kept) = SqlLog::label(rt, path)? else {
-        return Ok(());
+    admit(rt.alloc(), SqlLog::head(rt, path)?, label, at_least)
+}
+
+/// Refuses a log that says this of itself to whoever has another label, or asks for more starts, and one that is shut to all.
+fn admit(
+    alloc: Global,
+    head: Option<LogHead>,
+    label: &str,
+    at_least: u64,
+) -> Result<(), ClaimFault> {
+    let Some(head) = head else {
+        return check_age(0, at_least);
     };
-    match verdict(rt.alloc(), kept.as_str(), label)? {
-        Ok(()) => Ok(()),
-        Err(fault) => Err(ClaimFault::Names(kept, fault)),
+    if let Err(fault) = verdict(alloc, head.label.as_str(), label)? {
+        return Err(ClaimFault::Names(head.label, fault));
     }
+    if head.is_shut {
+        return Err(ClaimFault::Shut);
+    }
+    check_age(head.incarnation, at_least)
+}
+
+/// Refuses a log of too low an incarnation.
+fn check_age(incarnation: u64, at_least: u64) -> Result<(), ClaimFault> {
+    if is_older(incarnation, at_least) {
+        return Err(ClaimFault::Older(incarnation));
+    }
+    Ok(())
+}
+
+/// Refuses a path without a file, if starts are asked for: a lock would make one.
+fn check_missing(rt: &HostRuntime, path: &str, at_least: u64) -> Result<(), ClaimFault> {
+    if fs::exists(rt, path).unwrap_or(true) {
+        return Ok(());
+    }
+    check_age(0, at_least)
 }
 
 /// Opens the log at a path for whoever has this label, or makes it with the label. What the log keeps is looked at under the lock
@@ -87,20 +121,47 @@ fn claim_log<S: Start>(
     path: &str,
     start: S,
     label: &str,
+    at_least: u64,
 ) -> Result<SqlLog<FileStore<FileFrom<S>>>, ClaimFault>
     ensures { IfOk result (OpensAs ⟦<SqlLog<FileStore<FileFrom<S>>> as DecisionLog>⟧.moment
         (image_at S.Start) label.now) }
 {
     check_journal(rt, path)?;
+    check_missing(rt, path, at_least)?;
     let files = match SqlLog::lock(rt, path, start) {
         Ok(files) => files,
         Err(LockFault::InUse) => return Err(ClaimFault::InUse),
         Err(LockFault::Log(fault)) => return Err(ClaimFault::Log(fault)),
     };
-    check_claim(rt, path, label)?;
+    check_claim(rt, path, label, at_least)?;
     match SqlLog::open_locked(rt, files, label) {
         Ok(log) => Ok(log),
         Err(fault) => Err(ClaimFault::Log(fault)),
+    }
+}
+
+/// The failure of a log that is shut.
+pub(crate) fn shut(alloc: Global, path: &str) -> Failure {
+    let told = format!(in alloc;
+        "{path}: it is shut: by hand, or since a resource manager listed a branch that no session \
+        over it began, which another log knows, or a newer one; once that is settled, \
+        `xatm log --open {path}` opens it"
+    );
+    match told {
+        Ok(text) => Failure::Shut(text),
+        Err(error) => Failure::from(error),
+    }
+}
+
+/// The failure of a log that is older than was asked for.
+fn older(alloc: Global, path: &str, incarnation: u64, at_least: u64) -> Failure {
+    let told = format!(in alloc;
+        "{path}: it is older than the log that was in use: its incarnation is {incarnation}, and \
+        --at-least asks for {at_least}"
+    );
+    match told {
+        Ok(text) => Failure::Older(text),
+        Err(error) => Failure::from(error),
     }
 }
 
@@ -109,12 +170,15 @@ fn claim_failure(
     rt: &HostRuntime,
     path: &str,
     label: &str,
+    at_least: u64,
     fault: ClaimFault,
 ) -> Result<Option<Failure>, Failure> {
     let alloc = rt.alloc();
     match fault {
         ClaimFault::InUse => Ok(None),
         ClaimFault::Half => Ok(Some(half(alloc, path))),
+        ClaimFault::Shut => Ok(Some(shut(alloc, path))),
+        ClaimFault::Older(incarnation) => Ok(Some(older(alloc, path, incarnation, at_least))),
         ClaimFault::Names(kept, fault) => Ok(Some(refusal(
             alloc,
             path,
@@ -133,6 +197,7 @@ pub(crate) fn open_claimed<S: Start>(
     path: &str,
     start: S,
     label: &str,
+    at_least: u64,
 ) -> Result<Option<SqlLog<FileStore<FileFrom<S>>>>, Failure>
     ensures { IfOk result (λ opened. IfSome opened (OpensAs
         ⟦<SqlLog<FileStore<FileFrom<S>>> as DecisionLog>⟧.moment (image_at S.Start) label.now)) }
@@ -140,11 +205,11 @@ pub(crate) fn open_claimed<S: Start>(
     if let Some(failure) = place_failure(rt, path)? {
         return Err(failure);
     }
-    let fault = match claim_log(rt, path, start, label) {
+    let fault = match claim_log(rt, path, start, label, at_least) {
         Ok(log) => return Ok(Some(log)),
         Err(fault) => fault,
     };
-    match claim_failure(rt, path, label, fault)? {
+    match claim_failure(rt, path, label, at_least, fault)? {
         Some(failure) => Err(failure),
         None => Ok(None),
     }
@@ -154,12 +219,20 @@ pub(crate) fn open_claimed<S: Start>(
 /// While another process has it, this waits for a second.
 pub fn open_unnamed(rt: &HostRuntime, path: &str) -> Result<HostLog, Failure> {
     for _ in 0..MOST_TRIES {
-        if let Some(log) = open_claimed(rt, path, Unknown, "")? {
+        if let Some(log) = open_claimed(rt, path, Unknown, "", 0)? {
             return Ok(log);
         }
         pause(rt);
     }
     Err(in_use(rt.alloc(), path))
+}
+
+/// What comes of a session that was told of a strange branch, by how its log was shut.
+pub(crate) fn leave_shut(rt: &HostRuntime, path: &str, was_shut: Result<(), LogFault>) -> Failure {
+    match was_shut {
+        Ok(()) => shut(rt.alloc(), path),
+        Err(fault) => opening_failure(rt, path, fault),
+    }
 }
 
 /// What comes of a run that went to its end, by how its log was closed. A log that has failed can't be: it is opened anew for that.

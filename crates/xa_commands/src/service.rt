@@ -13,7 +13,7 @@ use crate::failure::Failure;
 use crate::introduction::introduce;
 use crate::log_names::{check_rm_names, label_of, manager_named};
 use crate::log_reasons::in_use;
-use crate::logs::{MOST_TRIES, broken_off, leave, open_claimed, pause};
+use crate::logs::{MOST_TRIES, broken_off, leave, leave_shut, open_claimed, pause};
 use sqlite::{FileFrom, FileStore, Start, Unknown};
 use sqlite_disk::Disk;
 use std::alloc::Global;
@@ -31,6 +31,8 @@ pub struct Service<'b, 'a> {
     pub name: Option<&'a str>,
     pub rm_names: &'b [&'a str],
     pub log: &'a str,
+    /// The log has had so many starts at least, or is refused.
+    pub at_least: u64,
     pub threads: u32,
     pub rms: u32,
 }
@@ -42,6 +44,8 @@ pub enum Served {
     InUse,
     /// The session went to its end, and this says whether the log could be closed.
     Closed(Result<(), LogFault>),
+    /// The session is over since a branch was strange, and this says whether the log could be shut. Only moves end so.
+    Shut(Result<(), LogFault>),
     /// The session ended early, for this reason.
     BrokenOff(Failure),
 }
@@ -151,7 +155,7 @@ pub fn serve_from<S: Start, R: Read, W: Write>(
     check_rm_names(service.rm_names, service.rms)?;
     let name = manager_named(service.name)?;
     let label = label_of(alloc, &name, service.rm_names)?;
-    let log = match open_claimed(rt, service.log, start, label.as_str()) {
+    let log = match open_claimed(rt, service.log, start, label.as_str(), service.at_least) {
         Ok(Some(log)) => log,
         Ok(None) => return Ok(Served::InUse),
         Err(failure) => return Err(failure),
@@ -167,12 +171,14 @@ fn service_of<'b, 'a>(
     name: Option<&'a str>,
     rm_names: &'b [&'a str],
     log: &'a str,
+    at_least: u64,
     threads: u32,
     rms: u32,
 ) -> Service<'b, 'a>
     ensures name { result.name ≡ name.entry }
     ensures names { result.rm_names.now ≡ rm_names.now }
     ensures log { result.log.now ≡ log.now }
+    ensures old { result.at_least ≡ at_least }
     ensures threads { result.threads ≡ threads }
     ensures rms { result.rms ≡ rms }
 {
@@ -180,6 +186,7 @@ fn service_of<'b, 'a>(
         name,
         rm_names,
         log,
+        at_least,
         threads,
         rms,
     }
@@ -194,10 +201,11 @@ pub fn serve<'b, 'a>(
     name: Option<&'a str>,
     rm_names: &'b [&'a str],
     log: &'a str,
+    at_least: u64,
     threads: u32,
     rms: u32,
 ) -> Result<(), Failure> {
-    let service = service_of(name, rm_names, log, threads, rms);
+    let service = service_of(name, rm_names, log, at_least, threads, rms);
     let alloc = rt.alloc();
     let mut input = BufReader::new(alloc, rt.reader()).map_err(|error| Failure::Input.caused_by(
         &error,
@@ -218,6 +226,10 @@ pub fn serve<'b, 'a>(
                 let left = leave(rt, log, closed);
                 flushed.map_err(|_| Failure::Run(RunFault::Output))?;
                 return left;
+            }
+            Served::Shut(was_shut) => {
+                let _unwritten = out.flush();
+                return Err(leave_shut(rt, log, was_shut));
             }
             Served::BrokenOff(failure) => {
                 let _unwritten = out.flush();

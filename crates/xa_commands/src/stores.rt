@@ -105,6 +105,14 @@ pub fn close_in_files<D: Disk + Drop>(log: SqlLog<FileStore<D>>) -> Result<(), L
     log.close()
 }
 
+/// Shuts a log, and closes its files.
+pub(crate) fn shut_in_files<D: Disk + Drop>(log: SqlLog<FileStore<D>>) -> Result<(), LogFault> {
+    match log.shut() {
+        Ok(_files) => Ok(()),
+        Err(fault) => Err(fault),
+    }
+}
+
 /// Writes into a log what lines say.
 fn restore_over<S: Alter>(
     alloc: Global,

@@ -20,8 +20,8 @@ use std::thread::Threads;
 use std::time::Clock;
 use std::{env, io};
 use xa_commands::{
-    Failure, Source, list, list_as_json, make_log, output_to, refuse_older, run_threads, serve,
-    text_of,
+    Failure, Source, list, list_as_json, make_log, open_log, output_to, run_threads, serve,
+    shut_log, text_of,
 };
 use xa_diagnostics::FileKind;
 use xa_files::RunFault;
@@ -113,13 +113,13 @@ fn perform<T: Threads + Wait + Clock + Sync>(
             at_least,
             by_moves,
         } => {
-            refuse_older(rt, service.log, at_least)?;
             serve(
                 rt,
                 by_moves,
                 service.name,
                 service.rm_names.unwrap_or(&[]),
                 service.log,
+                at_least,
                 service.threads,
                 service.rms,
             )
@@ -136,6 +136,8 @@ fn perform<T: Threads + Wait + Clock + Sync>(
             }
         }
         Command::MakeLog { path } => make_log(rt, path),
+        Command::ShutLog { path } => shut_log(rt, path),
+        Command::OpenLog { path } => open_log(rt, path),
         Command::RefusedLog => Err(Failure::LogWords),
     }
 }
