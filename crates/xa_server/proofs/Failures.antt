@@ -27,7 +27,7 @@ use Rattle.xa_line.specs.Histories.{known}
 use Rattle.xa_log.specs.Contract.{Moment}
 use Rattle.xa_model.specs.Facts.{record_of}
 use Rattle.xa_model.specs.Replies.History.{name_of}
-use Rattle.xa_model.specs.Trace.{Call, Code, Fault, Fault.InDecide, Fault.InDone, Fault.InHear, Happening.Decided, Happening.Done, Happening.Failed, Origin, line}
+use Rattle.xa_model.specs.Trace.{Branch, Call, Code, Fault, Fault.InDecide, Fault.InDone, Fault.InHear, Happening.Decided, Happening.Done, Happening.Failed, Origin, line}
 use Rattle.xa_requests.specs.declared.request.CallName.{CallName}
 use Rattle.xa_requests.specs.declared.request.Request.{Request}
 use Rattle.xa_requests.specs.declared.request.Request.TheVariants as requests
@@ -38,7 +38,7 @@ use Rattle.xa_session.proofs.Refusals.{no_fault_in_turn, if_there}
 use Rattle.xa_session.proofs.Sessions.{never_the_log}
 use Rattle.xa_session.specs.Answering.{FailsToHear, IsFirst}
 use Rattle.xa_session.specs.Hearing.{can_hear}
-use Rattle.xa_session.specs.Session.{decide_all_refusal, done_all_refusal, has_room_for, known_waiting, line_refusal, refusal_at, unfit, unfit_for}
+use Rattle.xa_session.specs.Session.{IsExplainable, decide_all_refusal, done_all_refusal, has_room_for, known_waiting, line_refusal, refusal_at, unfit, unfit_for}
 use Rattle.xa_session.specs.Tracking.{FailedDecisionsAreFound, FailedDonesAreFound, FailedSettlementsAreFound, IsFailedStep, KeepsTrack}
 use Rattle.xa_session.specs.declared.session.Session.{Session}
 use Rattle.xa_session.specs.declared.session.answers.Unfit.{Unfit}
@@ -164,10 +164,12 @@ none_ended : {L : Type 0} (o : Option Gtrid) (mid left : Server L) → ReleasesA
 none_ended None mid left same = same
 none_ended (Some g) mid left same = same
 
--- The log failed in an answer: the answer was fit, this call waits first, and the book is as it was, with the record of the answer in doubt.
+-- The log failed in an answer: the answer was fit, this call waits first, each branch has a state that explains it, and the book is as it was,
+-- with the record of the answer in doubt.
 pub record IsFailedToHear {L : Type 0} (t r : ℕ) (code : Code) (c : Call) (now left : Server L) : Type 0 where
   pub fit : unfit now.session t r (Ret code) ≡ None
   pub first : IsFirst now.session t r c
+  pub explains : IsExplainable now.session t r (Ret code)
   pub book : book_in left.session.manager ≡ book_after (book_in now.session.manager) (doubt_of (record_of c (Ret code))) (Failed (InHear (line t r)))
 
 module _ {L : Type 0} (moment : L → Moment) (now left : Server L) (t r : ℕ) (name : CallName) (code : Code) (c : Call)
@@ -180,9 +182,13 @@ module _ {L : Type 0} (moment : L → Moment) (now left : Server L) (t r : ℕ) 
   not_heard mid n result is fault does same = record {
     fit = fit_so;
     first = first_so;
+    explains = does.explained fit_so no_state;
     book = ap (λ m. book_in m) same ∙ by (does.fails n is fit_so c first_so);
   }
     where
+      no_state : (b : Branch) → result ≡ Err (Unfits.NoSuchState b) → ⊥
+      no_state b e = let both : (let x : Result (Unit {0}) Unfit = Err (Unfits.Refused n) in x) ≡ Err (Unfits.NoSuchState b) = sym is ∙ e in cc
+
       told : (u : Unfit) → result ≡ Err u → u ≡ Unfits.Refused LogFault
       told u e = let both : (let x : Result (Unit {0}) Unfit = Err u in x) ≡ Err (Unfits.Refused n) = sym e ∙ is in cc (both, fault)
 

@@ -43,7 +43,7 @@ module _ (have_content : StartsHaveContent) (are_apart : StartRowsAreApart) (c :
     apart = are_apart c;
   }
 
-  listed : (g : Gtrid) → lists_row (start_of c).rows g ≡ is_some (get c.decisions g)
+  pub listed : (g : Gtrid) → lists_row (start_of c).rows g ≡ is_some (get c.decisions g)
   listed g = lists_is (start_of c).rows g ∙ ap is_some (has_it.rows g)
 
   pub log_decides : (f : Branch → Standing) → RowsDecide f (start_of c) → LogDecides f c

@@ -28,4 +28,7 @@ pub mod TurnLemmas
 pub mod UnchangedLemmas
 pub mod VoteLemmas
 pub mod LoggedCommits
+pub mod OlderBranches
+pub mod OwnBranches
+pub mod OwnSessions
 pub mod WorkedSessions

@@ -67,15 +67,15 @@ module _ {L : Type 0} (moment : L → Moment) where
     pub holds : Holds last
 
   module _ (laws : Laws L) (name : List ℕ) (handed : L) (o : Origin) (told : Seen) (now : Server L) (is : IsSession moment name handed o told now) where
-    old : HasOnlyOlderRows o
+    pub old : HasOnlyOlderRows o
     old = is.starts.old o is.begins
 
-    on_branches : AreOnBranches told
+    pub on_branches : AreOnBranches told
     on_branches = calls_on_branches o.threads (lines_read name is.lines) is.replies Start told is.told tt
 
     -- ** the lines of the session
 
-    line_is : (t r : ℕ) → HasLine now.session.lines t r → IsLineOf o (line t r)
+    pub line_is : (t r : ℕ) → HasLine now.session.lines t r → IsLineOf o (line t r)
     line_is t r has =
         let some = laws.explained o told now.session old is.tracks in
         let stands = is.tracks.1 some.history some.is_history some.runs in
@@ -84,14 +84,13 @@ module _ {L : Type 0} (moment : L → Moment) where
           subst (λ n. r < n) (stands.rms ∙ ap (λ (p : Origin). p.rms) begins) has.1,
         )
 
-    knows : KnowsCalls o told
+    pub knows : KnowsCalls o told
     knows l n of = (known_at now.session.lines l.thread l.rm n, laws.waiting o told now.session l.thread l.rm n is.tracks of.0 of.1)
 
     -- ** how it was left
 
-    module _ (from to : Branch → Standing) (Decided : Branch → Type 0) (was_left : Content) (before : StartsGoOn from Decided was_left)
-        (has_left : HoldsLeft moment was_left handed) (left : Server L) (keeps : KeepsLog moment now.session.manager left.session.manager)
-        (honest : (moment (log_in left.session.manager)).is_honest) (done cut : List Line) where
+    module _ (was_left : Content) (has_left : HoldsLeft moment was_left handed) (left : Server L)
+        (keeps : KeepsLog moment now.session.manager left.session.manager) (honest : (moment (log_in left.session.manager)).is_honest) where
       since_start : KeepsLog moment is.first.session.manager left.session.manager
       since_start =
           both_keep moment is.first.session.manager now.session.manager left.session.manager
@@ -100,17 +99,30 @@ module _ {L : Type 0} (moment : L → Moment) where
       honest_first : (moment (log_in is.first.session.manager)).is_honest
       honest_first = since_start.honest honest
 
-      holds : HoldsItsBook moment true left.session.manager
+      pub holds : HoldsItsBook moment true left.session.manager
       holds = since_start.holds true (is.starts.over.order has_left.order) honest (is.starts.holds has_left.order honest_first)
 
-      raised : IsRaisedFrom was_left o
+      pub raised : IsRaisedFrom was_left o
       raised =
           raised_from moment is.threads is.rms handed is.first is.starts has_left.order honest_first has_left.content has_left.has o is.begins
           was_left has_left.same.decisions has_left.same.heuristics has_left.raised
 
+      -- what is left is tied to the book
+      pub tied : (c : Content) → WasLeft moment (Some left) c → IsTied true (book_in left.session.manager) (Some c)
+      tied c was = left_tied moment true left.session.manager c holds was
+
+    module _ (from to : Branch → Standing) (Decided : Branch → Type 0) (was_left : Content) (before : StartsGoOn from Decided was_left)
+        (has_left : HoldsLeft moment was_left handed) (left : Server L) (keeps : KeepsLog moment now.session.manager left.session.manager)
+        (honest : (moment (log_in left.session.manager)).is_honest) (done cut : List Line) where
+      its_start : IsRaisedFrom was_left o
+      its_start = raised was_left has_left left keeps honest
+
+      was_tied : (c : Content) → WasLeft moment (Some left) c → IsTied true (book_in left.session.manager) (Some c)
+      was_tied c was = tied was_left has_left left keeps honest c was
+
       -- its start goes on from the sessions before it
       prior : IsBehind from Decided o
-      prior = before o raised
+      prior = before o its_start
 
       -- the start has the rows of its log
       logged_rows : (content : Option Content) (g : Gtrid) → content ≡ Some has_left.content → IsLogged content g
@@ -120,8 +132,8 @@ module _ {L : Type 0} (moment : L → Moment) where
 
       listed_there : (b : Branch) → IsLogged (moment handed).content b.gtrid → lists_row o.rows b.gtrid ≡ true
       listed_there b row =
-          lists_is o.rows b.gtrid ∙ ap is_some (raised.has.rows b.gtrid)
-          ∙ ap (λ m. is_some (get m b.gtrid)) (raised.rows ∙ sym has_left.same.decisions)
+          lists_is o.rows b.gtrid ∙ ap is_some (its_start.has.rows b.gtrid)
+          ∙ ap (λ m. is_some (get m b.gtrid)) (its_start.rows ∙ sym has_left.same.decisions)
           ∙ logged_rows (moment handed).content b.gtrid has_left.has row
 
       -- what was found decided
@@ -131,10 +143,6 @@ module _ {L : Type 0} (moment : L → Moment) where
       found_so : (b : Branch) → Found b → ((from b ≡ Prepared) × (lists_row o.rows b.gtrid ≡ true)) ⊎ Was_found b prior.log from prior.after
       found_so b (inl found) = inl (found.0, listed_there b found.1)
       found_so b (inr earlier) = inr (prior.decided b earlier)
-
-      -- what is left is tied to the book
-      tied : (c : Content) → WasLeft moment (Some left) c → IsTied true (book_in left.session.manager) (Some c)
-      tied c was = left_tied moment true left.session.manager c holds was
 
       -- a start goes on from this session
       on_from : (seen : Seen) (fails : Option Fault) → Is_session o seen fails → MayAllStand o seen (λ b. Comes seen b (broken (from b))) done cut to
@@ -153,8 +161,8 @@ module _ {L : Type 0} (moment : L → Moment) where
       left_in fails may_fail finds may = record {
         log = LeftBy o told fails;
         after = One_session prior.log from to o told fails done cut prior.after prior.finds session may;
-        next = λ c was next raised. on_from told fails session may next (finds c next (tied c was) raised);
-        holds = holds;
+        next = λ c was next raised. on_from told fails session may next (finds c next (was_tied c was) raised);
+        holds = holds was_left has_left left keeps honest;
       }
         where
           session : Is_session o told fails
@@ -167,8 +175,8 @@ module _ {L : Type 0} (moment : L → Moment) where
       left_in_answer t r code call waits failed may = record {
         log = LeftBy o told None;
         after = before_it.after;
-        next = λ c was next raised. either next (found.finds c next (subst (λ k. IsTied true k (Some c)) failed.book (tied c was)) raised);
-        holds = holds;
+        next = λ c was next raised. either next (found.finds c next (subst (λ k. IsTied true k (Some c)) failed.book (was_tied c was)) raised);
+        holds = holds was_left has_left left keeps honest;
       }
         where
           found : IsFailedAnswer o told now.session (line t r) call (Ret code)

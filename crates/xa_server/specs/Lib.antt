@@ -20,5 +20,6 @@ pub mod Sessions
 pub mod Standing
 pub mod Telling
 pub mod Tracking
+pub mod Transactions
 pub mod Votes
 pub mod WorkedSessions

@@ -12,6 +12,7 @@ ghost use Rattle.xa_server.specs.Sessions.{ServedSessionsAgree, ServedSessionsAr
 ghost use Rattle.xa_server.specs.Sessions.{ServedSessionsHaveOneHistory};
 ghost use Rattle.xa_server.specs.Tracking.{RepliesAreTracked, ServedDatabasesAgree};
 ghost use Rattle.xa_server.specs.Tracking.{ServedSessionsAreExplained, SessionsAreTracked};
+ghost use Rattle.xa_server.specs.Transactions.{ServedTransactionsAgree};
 ghost use Rattle.xa_server.specs.Votes.{CommitsAreLogged, VotedCommitsAreLogged};
 ghost use Rattle.xa_server.specs.WorkedSessions.{SessionsAreThere};
 
@@ -127,6 +128,22 @@ pub fn sessions_go_on<L: DecisionLog + Drop>()
     ensures served { ServedSessionsGoOn L.moment }
 {
     served_sessions_agree::<L>();
+    starts_find_the_log::<L>();
+    sessions_are_explained::<L>();
+    waiting_calls_are_tracked::<L>();
+}
+
+/// And each transaction agrees for itself: of the databases it is supposed only that they obey the branch state table as far as the
+/// branches of this transaction go (`AreServedFor`). One that forgot a branch of another, or at which somebody ended one against the log,
+/// is no matter to it.
+///
+/// Between two sessions its branches may be ended by hand as the log says: committed where that has the row, rolled back where it
+/// has none. A database may end a prepared branch by itself, and forget by itself that it did; and it may roll one back and forget it where
+/// the log has no row (`MayTurn`).
+pub fn served_transactions_agree<L: DecisionLog + Drop>()
+    ensures agree { ServedTransactionsAgree L.moment }
+{
+    starts_are_histories();
     starts_find_the_log::<L>();
     sessions_are_explained::<L>();
     waiting_calls_are_tracked::<L>();

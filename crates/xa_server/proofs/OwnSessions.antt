@@ -1,0 +1,238 @@
+-- Sessions one after another agree on each transaction of whose branches alone it is known that their databases obey the table.
+use Rattle.std.proofs.Common.{◌≡◌, ◌⊎◌, inl, inr, ℕ, List, [], ◌∷◌, ◌++◌, Bool, true, false, Option, Some, None, refl, sym, ap, ◌∙◌, subst}
+use Rattle.std.specs.FinMap.{get}
+use Rattle.std.specs.Prelude.{is_some}
+use Rattle.xa_base.specs.Branch.{branch_eq}
+use Rattle.xa_base.specs.StateTable.{Kind, State.S3, answer, asks_of, broken, moved, state_of}
+use Rattle.xa_base.specs.declared.answer.Answer.TheVariants.{Ret}
+use Rattle.xa_base.specs.declared.state.Standing.{Standing}
+use Rattle.xa_base.specs.declared.state.Standing.TheVariants.{Active, Committed, Completed, Forgotten, Idle, Lost, Prepared, ReadOnly, RollbackOnly, RolledBack, Unstarted}
+use Rattle.xa_log.specs.Content.{Content}
+use Rattle.xa_log.specs.Contract.{Moment}
+use Rattle.xa_model.specs.Facts.{lists_row}
+use Rattle.xa_model.specs.Promises.Agreement.{IsUndone}
+use Rattle.xa_model.specs.Trace.{Branch, Call, Code, Fault, Gtrid, How, Line, Origin, line}
+use Rattle.xa_monitor.proofs.Chains.{untold}
+use Rattle.xa_monitor.specs.Agreement.{IsLineOf, WaitsAt}
+use Rattle.xa_monitor.specs.Explained.{HasOnlyOlderRows}
+use Rattle.xa_monitor.specs.Monitor.{CanExplain, states_of}
+use Rattle.xa_monitor.specs.Seen.{HasAnswer, Seen, Seen.Answered, Seen.Start}
+use Rattle.xa_monitor.specs.Sessions.{Finds, IsSession as Is_session, Log.LeftBy, MayFail}
+use Rattle.xa_monitor.specs.Standings.{Comes, Explained, Explains, ExplainsAsked, ExplainsIf, MayStand}
+use Rattle.xa_server.proofs.Failures.{IsFailedToHear, failed_in_answer, failed_in_request}
+use Rattle.xa_server.proofs.LeftLogs.{listed, raised_once, start_of}
+use Rattle.xa_server.proofs.LogLemmas.{same_keeps}
+use Rattle.xa_server.proofs.LogStarts.{none_there}
+use Rattle.xa_server.proofs.OlderBranches.{HasNoRow.None_committed}
+use Rattle.xa_server.proofs.OwnBranches.{AllMay, Stands, all_may, broken_turn, is_explained, row_decides, same_stands, session_stands, stand_alike, stood, stood_found, stood_own, turned_stands, undone_no_row}
+use Rattle.xa_server.proofs.SessionChains.{Laws, knows, line_is, old, on_branches, raised, tied}
+use Rattle.xa_server.specs.Sessions.{HoldsLeft, IsEmptyLog, IsSession, IsSessionLeft, IsSessionLeft.AfterLine, IsSessionLeft.InAnswer, IsSessionLeft.InRequest}
+use Rattle.xa_server.specs.Transactions.{AreServedFor, AreServedFor.Between, AreServedFor.NoneYet, AreServedFor.OneMore, IsAlike, MayStandFor, MayTurn, ServedTransactionsAgree}
+use Rattle.xa_server.specs.declared.server.Server.{Server}
+use Rattle.xa_session.proofs.FailedAnswers.{fit_line}
+use Rattle.xa_session.specs.Logging.{KeepsLog, LeavesContent}
+use Rattle.xa_session.specs.Session.{known_waiting}
+use Rattle.xa_session.specs.Tracking.{IsFailedAnswer, IsRaisedFrom}
+use Rattle.xa_tm.proofs.History.OneMore.{lists_is}
+use Rattle.xa_tm.specs.BookAndLog.{IsTied}
+use Rattle.xa_tm.specs.Calls.{book_in, log_in}
+use Rattle.xa_tm.specs.Laws.{StartRowsAreApart}
+use Rattle.xa_tm.specs.Starting.{StartsHaveContent}
+
+-- ** an answer that some state explains
+
+-- what explains an answer from one standing does so from each in the same state
+again : (f from : Standing) (k : Kind) (a : Code) (to : Standing) → state_of f ≡ state_of from → Explains from k a to → (t : Standing) × Explains f k a t
+again f from k a to same x = by x.as_called x.alone x.answers
+  where
+    prepared : (f : Standing) → state_of f ≡ S3 → f ≡ Prepared
+    prepared Prepared e = refl
+    prepared _ e = cc
+
+    by : (as_called : Standing) → (as_called ≡ from) ⊎ ((from ≡ Prepared) × ((how : How) × (as_called ≡ Completed how)))
+        → answer k (state_of as_called) x.vote x.retries ≡ a → (t : Standing) × Explains f k a t
+    by c (inl e) answers = (
+      moved f k a,
+      record {
+        as_called = f;
+        alone = inl refl;
+        vote = x.vote;
+        retries = x.retries;
+        answers = ap (λ s. answer k s x.vote x.retries) (same ∙ sym (ap state_of e)) ∙ answers;
+        moves = refl;
+      },
+    )
+    by c (inr (p, ended)) answers = (
+      moved c k a,
+      record {
+        as_called = c;
+        alone = inr (prepared f (same ∙ ap state_of p), ended);
+        vote = x.vote;
+        retries = x.retries;
+        answers = answers;
+        moves = refl;
+      },
+    )
+
+asked_again : (z : Option (Kind × Branch)) (a : Code) (b : Branch) (f from to : Standing) → state_of f ≡ state_of from → ExplainsAsked z a b from to
+    → (t : Standing) × ExplainsAsked z a b f t
+asked_again None a b f from to same x = (f, refl)
+asked_again (Some (k, c)) a b f from to same x = by (branch_eq c b) x
+  where
+    by : (t : Bool) → ExplainsIf t from k a to → (s : Standing) × ExplainsIf t f k a s
+    by true x = again f from k a to same x
+    by false x = (f, refl)
+
+-- ** one session more
+
+-- where its branches stand at each start over what was left
+abbrev pub StartsStand : Gtrid → Content → (Branch → Standing) → Type 0
+StartsStand g c f = (next : Origin) → IsRaisedFrom c next → Stands g next (λ b. broken (f b))
+
+module _ {L : Type 0} (moment : L → Moment) (laws : Laws L) (name : List ℕ) (handed : L) (o : Origin) (told : Seen) (now : Server L)
+    (is : IsSession moment name handed o told now) (g : Gtrid) (c : Content) (from to : Branch → Standing) (before : StartsStand g c from)
+    (has_left : HoldsLeft moment c handed) (left : Server L) (keeps : KeepsLog moment now.session.manager left.session.manager)
+    (honest : (moment (log_in left.session.manager)).is_honest) (done cut : List Line) (d : Content)
+    (leaves : LeavesContent moment left.session.manager d) where
+  at_start : Stands g o (λ b. broken (from b))
+  at_start = before o (raised moment laws name handed o told now is c has_left left keeps honest)
+
+  is_tied : IsTied true (book_in left.session.manager) (Some d)
+  is_tied = tied moment laws name handed o told now is c has_left left keeps honest d leaves
+
+  is_old : HasOnlyOlderRows o
+  is_old = old moment laws name handed o told now is
+
+  explained : (b : Branch) → (f : Standing) × MayStand o told b f
+  explained b = let s = is.tracks.2.some b in let x = is.tracks.2.onto b s.0 s.1 in (x.0, x.1)
+
+  -- after a line, or in a step in which its log failed
+  left_in : (fails : Option Fault) → MayFail o told fails
+      → ((next : Origin) → IsTied true (book_in left.session.manager) (Some d) → IsRaisedFrom d next → Finds (LeftBy o told fails) next)
+      → MayStandFor g o told (λ b. Comes told b (broken (from b))) done cut to → StartsStand g d to
+  left_in fails may_fail finds may next from_d =
+      same_stands g next (λ b. broken (x.all b)) (λ b. broken (to b)) (λ b q. ap broken (x.agrees b q))
+      (session_stands g o from at_start told fails session (stood g o told from at_start explained) (stood_own g o told from at_start explained)
+      (stood_found g o told from at_start explained) done cut x.all x.may next (finds next is_tied from_d))
+    where
+      session : Is_session o told fails
+      session = record {
+        old = is_old;
+        keeps = is.tracks.0;
+        on_branches = on_branches moment laws name handed o told now is;
+        may_fail = may_fail;
+      }
+
+      x : AllMay g o told from at_start explained done cut to
+      x = all_may g o told from at_start explained done cut to may
+
+  -- in an answer: what the next start finds is what was left behind it, or before it, with the call under way
+  module _ (t r : ℕ) (code : Code) (call : Call) (waits : known_waiting now.session.lines t r ≡ Some call) (failed : IsFailedToHear t r code call now left) where
+    abbrev seen : Seen
+    seen = Answered told (line t r) call (Ret code)
+
+    answer_explained : (b : Branch) → (f : Standing) × MayStand o seen b f
+    answer_explained b =
+        let can : CanExplain (states_of now.session.monitor) (line t r) call (Ret code) b = failed.explains b (is.tracks.2.some b) call waits in
+        let x = is.tracks.2.onto b (state_of can.from) can.among in
+        let y = asked_again (asks_of call) code b x.0 can.from can.to x.2 can.leads in (y.0, (x.0, x.1, y.1))
+
+    found : IsFailedAnswer o told now.session (line t r) call (Ret code)
+    found = laws.answer o told now.session t r (Ret code) call is.tracks failed.fit failed.first
+
+    session : Is_session o seen None
+    session = record {
+      old = is_old;
+      keeps = found.keeps;
+      on_branches = (on_branches moment laws name handed o told now is, tt);
+      may_fail = tt;
+    }
+
+    session_before : Is_session o told None
+    session_before = record { old = is_old; keeps = session.keeps.0; on_branches = session.on_branches.0; may_fail = tt }
+
+    here : IsLineOf o (line t r)
+    here = line_is moment laws name handed o told now is t r (fit_line now.session t r (Ret code) failed.fit)
+
+    abbrev stand : Branch → Standing
+    stand = stood g o seen from at_start answer_explained
+
+    left_in_answer : MayStandFor g o seen (λ b. Comes seen b (broken (from b))) done cut to → StartsStand g d to
+    left_in_answer may next from_d = either (found.finds d next (subst (λ k. IsTied true k (Some d)) failed.book is_tied) from_d)
+      where
+        x : AllMay g o seen from at_start answer_explained done cut to
+        x = all_may g o seen from at_start answer_explained done cut to may
+
+        agree : Stands g next (λ b. broken (x.all b)) → Stands g next (λ b. broken (to b))
+        agree = same_stands g next (λ b. broken (x.all b)) (λ b. broken (to b)) (λ b q. ap broken (x.agrees b q))
+
+        either : Finds (LeftBy o seen None) next ⊎ Finds (LeftBy o told None) next → Stands g next (λ b. broken (to b))
+        either (inl finds) =
+            agree (session_stands g o from at_start seen None session stand (stood_own g o seen from at_start answer_explained)
+            (stood_found g o seen from at_start answer_explained) done cut x.all x.may next finds)
+        either (inr finds) =
+            agree (session_stands g o from at_start told None session_before stand (stood_own g o seen from at_start answer_explained)
+            (stood_found g o seen from at_start answer_explained) (done ++ line t r ∷ []) cut x.all
+            (untold o told (line t r) call (Ret code) here session.keeps.1
+            (subst (WaitsAt o told (line t r) 0) waits (laws.waiting o told now.session t r 0 is.tracks here.0 here.1))
+            (knows moment laws name handed o told now is)
+            (is_explained g o from at_start seen None session stand (stood_own g o seen from at_start answer_explained)
+            (stood_found g o seen from at_start answer_explained) done cut x.all x.may)
+            stand done cut x.all x.may) next finds)
+
+-- ** all of them
+
+module _ {L : Type 0} (moment : L → Moment) (laws : Laws L) (name : List ℕ) (g : Gtrid) where
+  one_more : (c d : Content) (from to : Branch → Standing) (handed : L) (o : Origin) (told seen : Seen) (now left : Server L) (done cut : List Line)
+      → StartsStand g c from → HoldsLeft moment c handed → IsSession moment name handed o told now → IsSessionLeft moment told now seen left
+      → (moment (log_in left.session.manager)).is_honest → MayStandFor g o seen (λ b. Comes seen b (broken (from b))) done cut to
+      → LeavesContent moment left.session.manager d → StartsStand g d to
+  one_more c d from to handed o told _ now _ done cut before has is AfterLine honest may leaves =
+      left_in moment laws name handed o told now is g c from to before has now (same_keeps moment now now refl) honest done cut d leaves None tt
+      (λ next tied from_d. laws.left o told now.session d next is.tracks tied from_d) may
+  one_more c d from to handed o told _ now _ done cut before has is (InRequest request left asks performs) honest may leaves =
+      let failed = failed_in_request moment laws.decision laws.settlement laws.done o told now left is.tracks request asks performs in
+      left_in moment laws name handed o told now is g c from to before has left performs.keeps honest done cut d leaves (Some failed.fault)
+      failed.step.may_fail (λ next tied from_d. failed.step.finds d next (subst (λ k. IsTied true k (Some d)) failed.book tied) from_d) may
+  one_more c d from to handed o told _ now _ done cut before has is (InAnswer t r n code call left waits performs) honest may leaves =
+      left_in_answer moment laws name handed o told now is g c from to before has left performs.keeps honest done cut d leaves t r code call waits
+      (failed_in_answer moment now left t r n code call waits performs) may
+
+  -- before the first session none of its branches is there
+  none_yet : (c : Content) → IsEmptyLog c → StartsStand g c (λ b. Unstarted)
+  none_yet c empty next from_c = record {
+    named = λ b q unfit. refl;
+    young = λ later b q. refl;
+    records = λ b q has. tt;
+    kept = λ row b q. tt;
+    covers = λ row b q e. absurd (cc);
+    no_row = λ none. None_committed (λ b q e. cc);
+  }
+
+  row_in_log : (c : Content) (next : Origin) → IsRaisedFrom c next → lists_row next.rows g ≡ is_some (get c.decisions g)
+  row_in_log c next from_c = lists_is next.rows g ∙ (ap is_some (from_c.has.rows g) ∙ ap (λ m. is_some (get m g)) from_c.rows)
+
+  starts_stand : (c : Content) (f : Branch → Standing) → AreServedFor moment name g c f → StartsStand g c f
+  starts_stand _ _ (NoneYet c empty) = none_yet c empty
+  starts_stand _ _ (OneMore c d from to handed o told seen now left done cut before has is is_left honest may leaves) =
+      one_more c d from to handed o told seen now left done cut (starts_stand c from before) has is is_left honest may leaves
+  starts_stand _ _ (Between c from to d before turns others) = λ next from_c.
+      turned_stands g next (is_some (get c.decisions g)) (row_in_log c next from_c) (λ b. broken (from b)) (λ b. broken (to b)) d
+      (broken_turn (is_some (get c.decisions g)) (from d) (to d) turns) (λ b q apart. ap broken (others b q apart)) (starts_stand c from before next from_c)
+
+  undone_broken : (f : Standing) → IsUndone f → IsUndone (broken f)
+  undone_broken f (inl e) = inl (ap broken e)
+  undone_broken f (inr e) = inr (ap broken e)
+
+  pub transaction_alike : StartsHaveContent → StartRowsAreApart → (c : Content) (f : Branch → Standing) → AreServedFor moment name g c f → IsAlike g f c
+  transaction_alike content apart c f served = record {
+    agree = λ b d q r e u. stand_alike g (start_of c) (λ b. broken (f b)) stands b d q r (ap broken e) (undone_broken (f d) u);
+    committed = λ b d q r e p. sym row ∙ row_decides g (start_of c) (λ b. broken (f b)) stands b d q r (ap broken e) (ap broken p);
+    undone = λ b q u. sym row ∙ undone_no_row g (start_of c) (λ b. broken (f b)) stands b q (undone_broken (f b) u);
+  }
+    where
+      stands : Stands g (start_of c) (λ b. broken (f b))
+      stands = starts_stand c f served (start_of c) (raised_once content apart c)
+
+      row : lists_row (start_of c).rows g ≡ is_some (get c.decisions g)
+      row = listed content apart c g

@@ -1,0 +1,17 @@
+use Rattle.xa_server.proofs.OwnSessions.{transaction_alike}
+use Rattle.xa_server.proofs.SessionChains.{Laws}
+use Rattle.xa_server.proofs.laws.served_transactions_agree.Goals as goal
+
+pub returns : goal.returns
+returns g c =
+    let laws : Laws g.row.L.Denot = record {
+      left = c.starts_find_the_log.ensures.left;
+      decision = c.starts_find_the_log.ensures.decision;
+      settlement = c.starts_find_the_log.ensures.settlement;
+      done = c.starts_find_the_log.ensures.done;
+      answer = c.starts_find_the_log.ensures.answer;
+      explained = c.sessions_are_explained.ensures;
+      waiting = c.waiting_calls_are_tracked.ensures;
+    } in
+    let starts = c.starts_are_histories.ensures in
+    record { agree = λ name h content f served. transaction_alike g.L.DecisionLog.moment laws name h starts.content starts.apart content f served }
