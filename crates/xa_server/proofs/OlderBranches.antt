@@ -256,6 +256,13 @@ module _ (g : Gtrid) (tr : Trace) (e : Happening) (run : IsRun tr) (r : Right tr
   past_after : (b : Branch) → b.gtrid ≡ g → IsPast (standing tr b) → IsPast (standing (Then tr e) b)
   past_after b q h = past_moves tr b _ _ (move b) (unbegun b q) h
 
+  over_after : ((b : Branch) → b.gtrid ≡ g → IsKept (standing tr b) × IsPast (standing tr b)) → (b : Branch) → b.gtrid ≡ g
+      → IsKept (standing (Then tr e) b) × IsPast (standing (Then tr e) b)
+  over_after over b q = (
+    kept_moves tr b _ _ (move b) (unbegun b q) (λ p x. subst IsPast p (over b q).1) (over b q).0,
+    past_after b q (over b q).1,
+  )
+
   -- ** its answers
 
   fault_adds : (f : Fault) → RightFault tr f → adds_row (fault_change tr f) g ≡ false
@@ -403,17 +410,18 @@ module _ (g : Gtrid) (tr : Trace) (e : Happening) (run : IsRun tr) (r : Right tr
         by (By_decision k s) = undecided (subst (Right tr) k r)
         by (By_restart i d m k x s) = let none = a.no_adds in cc
 
-    no_row_after : had_row tr g ≡ false → HasNoRow (standing tr) g → HasNoRow (standing (Then tr e)) g
-    no_row_after n (None_committed none) = None_committed (λ b q p. by b q (committed_moves tr b _ _ (move b) p))
+    none_after : had_row tr g ≡ false → ((b : Branch) → b.gtrid ≡ g → standing tr b ≡ Committed → ⊥) → (b : Branch) → b.gtrid ≡ g
+        → standing (Then tr e) b ≡ Committed → ⊥
+    none_after n none b q p = by b q (committed_moves tr b _ _ (move b) p)
       where
         by : (b : Branch) → b.gtrid ≡ g → (standing tr b ≡ Committed) ⊎ ((had_row tr b.gtrid ≡ true) ⊎ (handed_over tr b.gtrid ≡ true)) → ⊥
         by b q (inl h) = none b q h
         by b q (inr (inl h)) = let x : had_row tr g ≡ true = subst (λ y. had_row tr y ≡ true) q h in cc
         by b q (inr (inr h)) = let x : handed_over tr g ≡ true = subst (λ y. handed_over tr y ≡ true) q h in let y = a.unhanded in cc
-    no_row_after n (All_over over) = All_over (λ b q. (
-      kept_moves tr b _ _ (move b) (unbegun b q) (λ p x. subst IsPast p (over b q).1) (over b q).0,
-      past_after b q (over b q).1,
-    ))
+
+    no_row_after : had_row tr g ≡ false → HasNoRow (standing tr) g → HasNoRow (standing (Then tr e)) g
+    no_row_after n (None_committed none) = None_committed (none_after n none)
+    no_row_after n (All_over over) = All_over (over_after over)
     no_row_after n (Only_one d others) = Only_one d (λ b q apart. unstarted_moves tr b _ _ (move b) (unbegun b q) (others b q apart))
 
 -- ** through the whole history
@@ -462,3 +470,20 @@ no_row_at g (Then tr e) run earlier records none stands =
       had_none = unrowed_after g tr e run.0 run.1 earlier answers before.had_none;
       stands = no_row_after g tr e run.0 run.1 earlier answers before.had_none before.stands;
     }
+
+-- and none of its branches is committed, if none was
+pub none_at : (g : Gtrid) (tr : Trace) → IsRun tr → IsEarlier tr g
+    → ((b : Branch) → b.gtrid ≡ g → has_record (origin tr).heuristic_rows b ≡ true → IsPast (held_at (origin tr) b))
+    → lists_row (origin tr).rows g ≡ false → ((b : Branch) → b.gtrid ≡ g → held_at (origin tr) b ≡ Committed → ⊥)
+    → (b : Branch) → b.gtrid ≡ g → standing tr b ≡ Committed → ⊥
+none_at g (From o) run earlier records none start = start
+none_at g (Then tr e) run earlier records none start =
+    none_after g tr e run.0 run.1 earlier (answers_at g tr run.0 earlier records)
+    (no_row_at g tr run.0 earlier records none (None_committed start)).had_none (none_at g tr run.0 earlier records none start)
+
+-- all of its branches that wait for nothing, and none of which is undone, stay so
+pub over_at : (g : Gtrid) (tr : Trace) → IsRun tr → IsEarlier tr g
+    → ((b : Branch) → b.gtrid ≡ g → IsKept (held_at (origin tr) b) × IsPast (held_at (origin tr) b))
+    → (b : Branch) → b.gtrid ≡ g → IsKept (standing tr b) × IsPast (standing tr b)
+over_at g (From o) run earlier start = start
+over_at g (Then tr e) run earlier start = over_after g tr e run.0 run.1 earlier (over_at g tr run.0 earlier start)

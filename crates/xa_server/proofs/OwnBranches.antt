@@ -38,7 +38,7 @@ use Rattle.xa_monitor.specs.Explained.{HasOnlyOlderRows, IsExplained}
 use Rattle.xa_monitor.specs.Seen.{IsHistory, Seen, Seen.Answered, Seen.Did, Seen.Lost, Seen.Start}
 use Rattle.xa_monitor.specs.Sessions.{Finds, FindsLog, IsSession, Log.LeftBy, failed_in}
 use Rattle.xa_monitor.specs.Standings.{Comes, Explained, Explains, ExplainsAsked, ExplainsIf, MayBeFound, MayStand}
-use Rattle.xa_server.proofs.OlderBranches.{Answers, HasNoRow, HasNoRow.All_over, HasNoRow.None_committed, HasNoRow.Only_one, HasRow, IsEarlier, IsKept, IsPast, NoRowAt, answers_at, held_at, heuristic_past, no_row_at, row_at}
+use Rattle.xa_server.proofs.OlderBranches.{Answers, HasNoRow, HasNoRow.All_over, HasNoRow.None_committed, HasNoRow.Only_one, HasRow, IsEarlier, IsKept, IsPast, NoRowAt, answers_at, held_at, heuristic_past, no_row_at, none_at, over_at, row_at}
 use Rattle.xa_server.specs.Transactions.{MayStandFor, MayStandFor.AsTold, MayStandFor.CutOff, MayStandFor.EndedAlone, MayStandFor.UnderWay, MayTurn, MayTurn.CommittedByHand, MayTurn.EndsByItself, MayTurn.ForgetsByItself, MayTurn.RolledBackByHand, WasDoneFor}
 
 -- ** what is so at each start
@@ -51,6 +51,30 @@ pub record Stands (g : Gtrid) (o : Origin) (h : Branch → Standing) : Type 0 wh
   pub kept : lists_row o.rows g ≡ true → (b : Branch) → b.gtrid ≡ g → IsKept (h b)
   pub covers : lists_row o.rows g ≡ true → (b : Branch) → b.gtrid ≡ g → h b ≡ Prepared → has_branch (participants_in o.rows g) b ≡ true
   pub no_row : lists_row o.rows g ≡ false → HasNoRow h g
+
+-- it is to commit: the start has its row, or all of its branches that were there are over, none of them undone
+abbrev pub Commits : Gtrid → Origin → (Branch → Standing) → Type 0
+Commits g o h =
+    (lists_row o.rows g ≡ true) ⊎ ((g.incarnation < o.incarnation) × ((b : Branch) → b.gtrid ≡ g → IsKept (h b) × IsPast (h b)))
+
+-- it is not: the start has no row of it, none of its branches is committed, and it is begun no more
+pub record NeverCommits (g : Gtrid) (o : Origin) (h : Branch → Standing) : Type 0 where
+  pub earlier : g.incarnation < o.incarnation
+  pub no_row : lists_row o.rows g ≡ false
+  pub none : (b : Branch) → b.gtrid ≡ g → h b ≡ Committed → ⊥
+
+-- what a session passes on of a transaction
+pub record PassesOn (g : Gtrid) (o next : Origin) (before behind : Branch → Standing) : Type 0 where
+  pub stands : Stands g next behind
+  pub commits : Commits g o before → Commits g next behind
+  pub never_commits : NeverCommits g o before → NeverCommits g next behind
+
+same_commits : (g : Gtrid) (o : Origin) (h k : Branch → Standing) → ((b : Branch) → b.gtrid ≡ g → h b ≡ k b) → Commits g o h → Commits g o k
+same_commits g o h k same (inl row) = inl row
+same_commits g o h k same (inr x) = inr (x.0, λ b q. (subst IsKept (same b q) (x.1 b q).0, subst IsPast (same b q) (x.1 b q).1))
+
+same_never : (g : Gtrid) (o : Origin) (h k : Branch → Standing) → ((b : Branch) → b.gtrid ≡ g → h b ≡ k b) → NeverCommits g o h → NeverCommits g o k
+same_never g o h k same n = record { earlier = n.earlier; no_row = n.no_row; none = λ b q e. n.none b q (same b q ∙ e) }
 
 same_no_row : (g : Gtrid) (h k : Branch → Standing) → ((b : Branch) → b.gtrid ≡ g → h b ≡ k b) → HasNoRow h g → HasNoRow k g
 same_no_row g h k same (None_committed none) = None_committed (λ b q e. none b q (same b q ∙ e))
@@ -65,6 +89,14 @@ same_stands g o h k same s = record {
   kept = λ row b q. subst IsKept (same b q) (s.kept row b q);
   covers = λ row b q e. s.covers row b q (same b q ∙ e);
   no_row = λ none. same_no_row g h k same (s.no_row none);
+}
+
+pub same_passed : (g : Gtrid) (o next : Origin) (before h k : Branch → Standing) → ((b : Branch) → b.gtrid ≡ g → h b ≡ k b)
+    → PassesOn g o next before h → PassesOn g o next before k
+same_passed g o next before h k same x = record {
+  stands = same_stands g next h k same x.stands;
+  commits = λ c. same_commits g next h k same (x.commits c);
+  never_commits = λ c. same_never g next h k same (x.never_commits c);
 }
 
 -- ** so they are alike
@@ -107,6 +139,15 @@ module _ (g : Gtrid) (o : Origin) (h : Branch → Standing) (s : Stands g o h) w
           let other = one_branch d c others r (λ x. undone_begun (h c) u x) in
           undone_not (h c) u (ap h (other ∙ sym one) ∙ e)
 
+  -- what is to commit is never undone, and has its row as long as a branch is prepared
+  pub commits_kept : Commits g o h → (b : Branch) → b.gtrid ≡ g → IsUndone (h b) → ⊥
+  commits_kept (inl row) b q u = kept_not_undone (h b) (s.kept row b q) u
+  commits_kept (inr x) b q u = kept_not_undone (h b) (x.1 b q).0 u
+
+  pub commits_row : Commits g o h → (b : Branch) → b.gtrid ≡ g → h b ≡ Prepared → lists_row o.rows g ≡ true
+  commits_row (inl row) b q p = row
+  commits_row (inr x) b q p = absurd (past_not_prepared (h b) (x.1 b q).1 p)
+
   pub row_decides : (b c : Branch) → b.gtrid ≡ g → c.gtrid ≡ g → h b ≡ Committed → h c ≡ Prepared → lists_row o.rows g ≡ true
   row_decides b c q r e p = by (lists_row o.rows g) refl
     where
@@ -148,11 +189,11 @@ turned_committed row _ _ (ForgetsByItself how) r e = cc
 turned_committed row _ _ (CommittedByHand has) r e = cc
 turned_committed row _ _ (RolledBackByHand none) r e = cc
 
-turned_over : (row : Bool) (f t : Standing) → MayTurn row f t → row ≡ false → IsPast f → IsKept t
-turned_over row _ _ (EndsByItself how) r p = tt
-turned_over row _ _ (ForgetsByItself how) r p = tt
-turned_over row _ _ (CommittedByHand has) r p = tt
-turned_over row _ _ (RolledBackByHand none) r p = absurd p
+turned_over : (row : Bool) (f t : Standing) → MayTurn row f t → IsPast f → IsKept t
+turned_over row _ _ (EndsByItself how) p = tt
+turned_over row _ _ (ForgetsByItself how) p = tt
+turned_over row _ _ (CommittedByHand has) p = tt
+turned_over row _ _ (RolledBackByHand none) p = absurd p
 
 pub broken_turn : (row : Bool) (f t : Standing) → MayTurn row f t → MayTurn row (broken f) (broken t)
 broken_turn row _ _ (EndsByItself how) = EndsByItself how
@@ -170,16 +211,28 @@ module _ (g : Gtrid) (o : Origin) (row : Bool) (is : lists_row o.rows g ≡ row)
       by true e = subst (λ x. P (h x) (k x)) (branch_eq-true d b e) here
       by false e = subst (P (h b)) (sym (others b q e)) (there (h b))
 
-  turned_no_row : row ≡ false → HasNoRow h g → HasNoRow k g
-  turned_no_row r (None_committed none) =
-      None_committed (λ b q e. each (λ f t. (f ≡ Committed → ⊥) → t ≡ Committed → ⊥) (λ n x. turned_committed row (h d) (k d) turns r x) (λ f n x. n x) b q
-      (λ x. none b q x) e)
-  turned_no_row r (All_over over) = All_over (λ b q. (
-    each (λ f t. IsPast f → IsKept f → IsKept t) (λ p x. turned_over row (h d) (k d) turns r p) (λ f p x. x) b q (over b q).1 (over b q).0,
+  turned_none : row ≡ false → ((b : Branch) → b.gtrid ≡ g → h b ≡ Committed → ⊥) → (b : Branch) → b.gtrid ≡ g → k b ≡ Committed → ⊥
+  turned_none r none b q e =
+      each (λ f t. (f ≡ Committed → ⊥) → t ≡ Committed → ⊥) (λ n x. turned_committed row (h d) (k d) turns r x) (λ f n x. n x) b q (λ x. none b q x) e
+
+  all_over : ((b : Branch) → b.gtrid ≡ g → IsKept (h b) × IsPast (h b)) → (b : Branch) → b.gtrid ≡ g → IsKept (k b) × IsPast (k b)
+  all_over over b q = (
+    each (λ f t. IsPast f → IsKept f → IsKept t) (λ p x. turned_over row (h d) (k d) turns p) (λ f p x. x) b q (over b q).1 (over b q).0,
     each (λ f t. IsPast f → IsPast t) (λ p. turned_past row (h d) (k d) turns) (λ f p. p) b q (over b q).1,
-  ))
+  )
+
+  turned_no_row : row ≡ false → HasNoRow h g → HasNoRow k g
+  turned_no_row r (None_committed none) = None_committed (turned_none r none)
+  turned_no_row r (All_over over) = All_over (all_over over)
   turned_no_row r (Only_one c rest) = Only_one c (λ b q apart.
       each (λ f t. f ≡ Unstarted → t ≡ Unstarted) (λ e. absurd (turned_begun row (h d) (k d) turns e)) (λ f e. e) b q (rest b q apart))
+
+  pub turned_commits : Commits g o h → Commits g o k
+  turned_commits (inl has) = inl has
+  turned_commits (inr x) = inr (x.0, all_over x.1)
+
+  pub turned_never : NeverCommits g o h → NeverCommits g o k
+  turned_never n = record { earlier = n.earlier; no_row = n.no_row; none = turned_none (sym is ∙ n.no_row) n.none }
 
   pub turned_stands : Stands g o k
   turned_stands = record {
@@ -443,6 +496,27 @@ module _ (g : Gtrid) (last : Trace) (runs : IsRun last) (at : Stands g (origin l
       no_row = λ none. row_gone (sym listed ∙ none);
     }
 
+    earlier_next : g.incarnation < next.incarnation
+    earlier_next = let l = later_start in omega (arith, l, earlier)
+
+    over_now : ((b : Branch) → b.gtrid ≡ g → IsKept (held_at (origin last) b) × IsPast (held_at (origin last) b)) → Commits g next (standing now)
+    over_now over = inr (earlier_next, over_at g now now_runs earlier over)
+
+    row_now : lists_row (origin last).rows g ≡ true → Commits g next (standing now)
+    row_now row = by (lists_row next.rows g) refl
+      where
+        by : (t : Bool) → lists_row next.rows g ≡ t → Commits g next (standing now)
+        by true has = inl has
+        by false gone = let w = with_row row in inr (earlier_next, λ b q. (w.kept b q, w.left (sym listed ∙ gone) b q))
+
+    never_now : NeverCommits g (origin last) (held_at (origin last)) → NeverCommits g next (standing now)
+    never_now n = record {
+      earlier = earlier_next;
+      no_row = listed ∙ false_from_ne_true _ (λ has. let had = inv.row_rowed g has in
+          let none = (no_row_at g now now_runs earlier at.records n.no_row (None_committed n.none)).had_none in cc);
+      none = none_at g now now_runs earlier at.records n.no_row n.none;
+    }
+
   -- it was begun in the session, or wasn't begun yet
   module _ (own : (origin last).incarnation ≤ g.incarnation) where
     not_older : (b : Branch) → b.gtrid ≡ g → IsOlder now b → ⊥
@@ -517,6 +591,13 @@ module _ (g : Gtrid) (last : Trace) (runs : IsRun last) (at : Stands g (origin l
       by true e = earlier_stands (grind (arith, nat_tests, e))
       by false e = own_stands (grind (arith, nat_tests, e))
 
+  pub next_commits : OldOrigin (origin last) → Commits g (origin last) (held_at (origin last)) → Commits g next (standing now)
+  next_commits old (inl row) = row_now (old.rows_old g row) row
+  next_commits old (inr x) = over_now x.0 x.1
+
+  pub next_never : NeverCommits g (origin last) (held_at (origin last)) → NeverCommits g next (standing now)
+  next_never n = never_now n.earlier n
+
 -- ** a session
 
 module _ (g : Gtrid) (o : Origin) (from : Branch → Standing) (s : Stands g o (λ b. broken (from b))) (seen : Seen) (fails : Option Fault)
@@ -571,8 +652,34 @@ module _ (g : Gtrid) (o : Origin) (from : Branch → Standing) (s : Stands g o (
   stands_last : Stands g (origin last) (held_at (origin last))
   stands_last = subst (λ p. Stands g p (held_at p)) (sym (origin_failed fails x.now ∙ x.start)) start_stands
 
-  pub session_stands : (next : Origin) → Finds (LeftBy o seen fails) next → Stands g next (λ b. broken (all b))
-  session_stands next finds =
-      same_stands g next (standing (resumed last next)) (λ b. broken (all b)) (λ b q. broken_failed fails x.now b ∙ ap broken (x.there b))
-      (next_stands g last last_runs stands_last next
-      (finds_same fails x.now x.told (asks_if fails o seen session.may_fail) x.same next (finds x.told told_history x.told_runs)) last_named)
+  start_is : origin last ≡ start
+  start_is = origin_failed fails x.now ∙ x.start
+
+  old_last : OldOrigin (origin last)
+  old_last = subst OldOrigin (sym start_is) is_old
+
+  stood_so : (b : Branch) → b.gtrid ≡ g → broken (from b) ≡ held_at start b
+  stood_so b q = sym (there_at_start b ∙ own b q)
+
+  commits_last : Commits g o (λ b. broken (from b)) → Commits g (origin last) (held_at (origin last))
+  commits_last c = subst (λ p. Commits g p (held_at p)) (sym start_is) (same_commits g start (λ b. broken (from b)) (held_at start) stood_so (at c))
+    where
+      at : Commits g o (λ b. broken (from b)) → Commits g start (λ b. broken (from b))
+      at (inl row) = inl row
+      at (inr y) = inr y
+
+  never_last : NeverCommits g o (λ b. broken (from b)) → NeverCommits g (origin last) (held_at (origin last))
+  never_last n = subst (λ p. NeverCommits g p (held_at p)) (sym start_is)
+      (same_never g start (λ b. broken (from b)) (held_at start) stood_so (record { earlier = n.earlier; no_row = n.no_row; none = n.none }))
+
+  pub session_passes : (next : Origin) → Finds (LeftBy o seen fails) next → PassesOn g o next (λ b. broken (from b)) (λ b. broken (all b))
+  session_passes next finds =
+      same_passed g o next (λ b. broken (from b)) (standing (resumed last next)) (λ b. broken (all b))
+      (λ b q. broken_failed fails x.now b ∙ ap broken (x.there b)) (record {
+        stands = next_stands g last last_runs stands_last next found_log last_named;
+        commits = λ c. next_commits g last last_runs stands_last next found_log last_named old_last (commits_last c);
+        never_commits = λ n. next_never g last last_runs stands_last next found_log last_named (never_last n);
+      })
+    where
+      found_log : FindsLog last next
+      found_log = finds_same fails x.now x.told (asks_if fails o seen session.may_fail) x.same next (finds x.told told_history x.told_runs)

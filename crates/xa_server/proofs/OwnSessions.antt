@@ -1,12 +1,12 @@
 -- Sessions one after another agree on each transaction of whose branches alone it is known that their databases obey the table.
-use Rattle.std.proofs.Common.{◌≡◌, ◌⊎◌, inl, inr, ℕ, List, [], ◌∷◌, ◌++◌, Bool, true, false, Option, Some, None, refl, sym, ap, ◌∙◌, subst}
+use Rattle.std.proofs.Common.{◌≡◌, ◌<◌, ◌≤◌, ◌+◌, ◌⊎◌, inl, inr, ℕ, List, [], ◌∷◌, ◌++◌, Bool, true, false, Option, Some, None, refl, sym, ap, ◌∙◌, subst, arith}
 use Rattle.std.specs.FinMap.{get}
 use Rattle.std.specs.Prelude.{is_some}
 use Rattle.xa_base.specs.Branch.{branch_eq}
 use Rattle.xa_base.specs.StateTable.{Kind, State.S3, answer, asks_of, broken, moved, state_of}
 use Rattle.xa_base.specs.declared.answer.Answer.TheVariants.{Ret}
 use Rattle.xa_base.specs.declared.state.Standing.{Standing}
-use Rattle.xa_base.specs.declared.state.Standing.TheVariants.{Active, Committed, Completed, Forgotten, Idle, Lost, Prepared, ReadOnly, RollbackOnly, RolledBack, Unstarted}
+use Rattle.xa_base.specs.declared.state.Standing.TheVariants.{Active, Committed, Idle, RollbackOnly, Completed, Prepared, Unstarted}
 use Rattle.xa_log.specs.Content.{Content}
 use Rattle.xa_log.specs.Contract.{Moment}
 use Rattle.xa_model.specs.Facts.{lists_row}
@@ -16,18 +16,17 @@ use Rattle.xa_monitor.proofs.Chains.{untold}
 use Rattle.xa_monitor.specs.Agreement.{IsLineOf, WaitsAt}
 use Rattle.xa_monitor.specs.Explained.{HasOnlyOlderRows}
 use Rattle.xa_monitor.specs.Monitor.{CanExplain, states_of}
-use Rattle.xa_monitor.specs.Seen.{HasAnswer, Seen, Seen.Answered, Seen.Start}
+use Rattle.xa_monitor.specs.Seen.{Seen, Seen.Answered}
 use Rattle.xa_monitor.specs.Sessions.{Finds, IsSession as Is_session, Log.LeftBy, MayFail}
-use Rattle.xa_monitor.specs.Standings.{Comes, Explained, Explains, ExplainsAsked, ExplainsIf, MayStand}
+use Rattle.xa_monitor.specs.Standings.{Comes, Explains, ExplainsAsked, ExplainsIf, MayStand}
 use Rattle.xa_server.proofs.Failures.{IsFailedToHear, failed_in_answer, failed_in_request}
 use Rattle.xa_server.proofs.LeftLogs.{listed, raised_once, start_of}
 use Rattle.xa_server.proofs.LogLemmas.{same_keeps}
-use Rattle.xa_server.proofs.LogStarts.{none_there}
 use Rattle.xa_server.proofs.OlderBranches.{HasNoRow.None_committed}
-use Rattle.xa_server.proofs.OwnBranches.{AllMay, Stands, all_may, broken_turn, is_explained, row_decides, same_stands, session_stands, stand_alike, stood, stood_found, stood_own, turned_stands, undone_no_row}
+use Rattle.xa_server.proofs.OwnBranches.{AllMay, Commits, NeverCommits, PassesOn, Stands, all_may, broken_turn, commits_kept, commits_row, is_explained, row_decides, same_passed, session_passes, stand_alike, stood, stood_found, stood_own, turned_commits, turned_never, turned_stands, undone_no_row}
 use Rattle.xa_server.proofs.SessionChains.{Laws, knows, line_is, old, on_branches, raised, tied}
 use Rattle.xa_server.specs.Sessions.{HoldsLeft, IsEmptyLog, IsSession, IsSessionLeft, IsSessionLeft.AfterLine, IsSessionLeft.InAnswer, IsSessionLeft.InRequest}
-use Rattle.xa_server.specs.Transactions.{AreServedFor, AreServedFor.Between, AreServedFor.NoneYet, AreServedFor.OneMore, IsAlike, MayStandFor, MayTurn, ServedTransactionsAgree}
+use Rattle.xa_server.specs.Transactions.{AreServedFor, AreServedFor.Between, AreServedFor.NoneYet, AreServedFor.OneMore, IsAlike, IsNeverCommitted, IsToCommit, MayStandFor, WasLeftDecided, WasLeftUndecided}
 use Rattle.xa_server.specs.declared.server.Server.{Server}
 use Rattle.xa_session.proofs.FailedAnswers.{fit_line}
 use Rattle.xa_session.specs.Logging.{KeepsLog, LeavesContent}
@@ -89,6 +88,10 @@ asked_again (Some (k, c)) a b f from to same x = by (branch_eq c b) x
 abbrev pub StartsStand : Gtrid → Content → (Branch → Standing) → Type 0
 StartsStand g c f = (next : Origin) → IsRaisedFrom c next → Stands g next (λ b. broken (f b))
 
+-- the same, and what a session from this start passes on
+abbrev pub SessionPasses : Gtrid → Origin → (from : Branch → Standing) → Content → (to : Branch → Standing) → Type 0
+SessionPasses g o from d to = (next : Origin) → IsRaisedFrom d next → PassesOn g o next (λ b. broken (from b)) (λ b. broken (to b))
+
 module _ {L : Type 0} (moment : L → Moment) (laws : Laws L) (name : List ℕ) (handed : L) (o : Origin) (told : Seen) (now : Server L)
     (is : IsSession moment name handed o told now) (g : Gtrid) (c : Content) (from to : Branch → Standing) (before : StartsStand g c from)
     (has_left : HoldsLeft moment c handed) (left : Server L) (keeps : KeepsLog moment now.session.manager left.session.manager)
@@ -109,10 +112,10 @@ module _ {L : Type 0} (moment : L → Moment) (laws : Laws L) (name : List ℕ) 
   -- after a line, or in a step in which its log failed
   left_in : (fails : Option Fault) → MayFail o told fails
       → ((next : Origin) → IsTied true (book_in left.session.manager) (Some d) → IsRaisedFrom d next → Finds (LeftBy o told fails) next)
-      → MayStandFor g o told (λ b. Comes told b (broken (from b))) done cut to → StartsStand g d to
+      → MayStandFor g o told (λ b. Comes told b (broken (from b))) done cut to → SessionPasses g o from d to
   left_in fails may_fail finds may next from_d =
-      same_stands g next (λ b. broken (x.all b)) (λ b. broken (to b)) (λ b q. ap broken (x.agrees b q))
-      (session_stands g o from at_start told fails session (stood g o told from at_start explained) (stood_own g o told from at_start explained)
+      same_passed g o next (λ b. broken (from b)) (λ b. broken (x.all b)) (λ b. broken (to b)) (λ b q. ap broken (x.agrees b q))
+      (session_passes g o from at_start told fails session (stood g o told from at_start explained) (stood_own g o told from at_start explained)
       (stood_found g o told from at_start explained) done cut x.all x.may next (finds next is_tied from_d))
     where
       session : Is_session o told fails
@@ -157,21 +160,21 @@ module _ {L : Type 0} (moment : L → Moment) (laws : Laws L) (name : List ℕ) 
     abbrev stand : Branch → Standing
     stand = stood g o seen from at_start answer_explained
 
-    left_in_answer : MayStandFor g o seen (λ b. Comes seen b (broken (from b))) done cut to → StartsStand g d to
+    left_in_answer : MayStandFor g o seen (λ b. Comes seen b (broken (from b))) done cut to → SessionPasses g o from d to
     left_in_answer may next from_d = either (found.finds d next (subst (λ k. IsTied true k (Some d)) failed.book is_tied) from_d)
       where
         x : AllMay g o seen from at_start answer_explained done cut to
         x = all_may g o seen from at_start answer_explained done cut to may
 
-        agree : Stands g next (λ b. broken (x.all b)) → Stands g next (λ b. broken (to b))
-        agree = same_stands g next (λ b. broken (x.all b)) (λ b. broken (to b)) (λ b q. ap broken (x.agrees b q))
+        agree : PassesOn g o next (λ b. broken (from b)) (λ b. broken (x.all b)) → PassesOn g o next (λ b. broken (from b)) (λ b. broken (to b))
+        agree = same_passed g o next (λ b. broken (from b)) (λ b. broken (x.all b)) (λ b. broken (to b)) (λ b q. ap broken (x.agrees b q))
 
-        either : Finds (LeftBy o seen None) next ⊎ Finds (LeftBy o told None) next → Stands g next (λ b. broken (to b))
+        either : Finds (LeftBy o seen None) next ⊎ Finds (LeftBy o told None) next → PassesOn g o next (λ b. broken (from b)) (λ b. broken (to b))
         either (inl finds) =
-            agree (session_stands g o from at_start seen None session stand (stood_own g o seen from at_start answer_explained)
+            agree (session_passes g o from at_start seen None session stand (stood_own g o seen from at_start answer_explained)
             (stood_found g o seen from at_start answer_explained) done cut x.all x.may next finds)
         either (inr finds) =
-            agree (session_stands g o from at_start told None session_before stand (stood_own g o seen from at_start answer_explained)
+            agree (session_passes g o from at_start told None session_before stand (stood_own g o seen from at_start answer_explained)
             (stood_found g o seen from at_start answer_explained) (done ++ line t r ∷ []) cut x.all
             (untold o told (line t r) call (Ret code) here session.keeps.1
             (subst (WaitsAt o told (line t r) 0) waits (laws.waiting o told now.session t r 0 is.tracks here.0 here.1))
@@ -186,7 +189,7 @@ module _ {L : Type 0} (moment : L → Moment) (laws : Laws L) (name : List ℕ) 
   one_more : (c d : Content) (from to : Branch → Standing) (handed : L) (o : Origin) (told seen : Seen) (now left : Server L) (done cut : List Line)
       → StartsStand g c from → HoldsLeft moment c handed → IsSession moment name handed o told now → IsSessionLeft moment told now seen left
       → (moment (log_in left.session.manager)).is_honest → MayStandFor g o seen (λ b. Comes seen b (broken (from b))) done cut to
-      → LeavesContent moment left.session.manager d → StartsStand g d to
+      → LeavesContent moment left.session.manager d → SessionPasses g o from d to
   one_more c d from to handed o told _ now _ done cut before has is AfterLine honest may leaves =
       left_in moment laws name handed o told now is g c from to before has now (same_keeps moment now now refl) honest done cut d leaves None tt
       (λ next tied from_d. laws.left o told now.session d next is.tracks tied from_d) may
@@ -215,24 +218,89 @@ module _ {L : Type 0} (moment : L → Moment) (laws : Laws L) (name : List ℕ) 
   starts_stand : (c : Content) (f : Branch → Standing) → AreServedFor moment name g c f → StartsStand g c f
   starts_stand _ _ (NoneYet c empty) = none_yet c empty
   starts_stand _ _ (OneMore c d from to handed o told seen now left done cut before has is is_left honest may leaves) =
-      one_more c d from to handed o told seen now left done cut (starts_stand c from before) has is is_left honest may leaves
+      λ next from_d. (one_more c d from to handed o told seen now left done cut (starts_stand c from before) has is is_left honest may leaves next from_d).stands
   starts_stand _ _ (Between c from to d before turns others) = λ next from_c.
       turned_stands g next (is_some (get c.decisions g)) (row_in_log c next from_c) (λ b. broken (from b)) (λ b. broken (to b)) d
       (broken_turn (is_some (get c.decisions g)) (from d) (to d) turns) (λ b q apart. ap broken (others b q apart)) (starts_stand c from before next from_c)
+
+  -- the start of a session was raised from what was left before it
+  start_raised : (c : Content) (handed : L) (o : Origin) (told seen : Seen) (now left : Server L) → HoldsLeft moment c handed
+      → IsSession moment name handed o told now → IsSessionLeft moment told now seen left → (moment (log_in left.session.manager)).is_honest
+      → IsRaisedFrom c o
+  start_raised c handed o told _ now _ has is AfterLine honest =
+      raised moment laws name handed o told now is c has now (same_keeps moment now now refl) honest
+  start_raised c handed o told _ now _ has is (InRequest request left asks performs) honest =
+      raised moment laws name handed o told now is c has left performs.keeps honest
+  start_raised c handed o told _ now _ has is (InAnswer t r n code call left waits performs) honest =
+      raised moment laws name handed o told now is c has left performs.keeps honest
+
+  -- what was left decided is to commit
+  starts_commit : (c : Content) (f : Branch → Standing) (served : AreServedFor moment name g c f) → WasLeftDecided moment name g c f served
+      → (next : Origin) → IsRaisedFrom c next → Commits g next (λ b. broken (f b))
+  starts_commit _ _ (NoneYet c empty) was next from_c = absurd was
+  starts_commit _ _ (OneMore c d from to handed o told seen now left done cut before has is is_left honest may leaves) (inl row) next from_d =
+      inl (row_in_log d next from_d ∙ row)
+  starts_commit _ _ (OneMore c d from to handed o told seen now left done cut before has is is_left honest may leaves) (inr was) next from_d =
+      (one_more c d from to handed o told seen now left done cut (starts_stand c from before) has is is_left honest may leaves next from_d).commits
+      (starts_commit c from before was o (start_raised c handed o told seen now left has is is_left honest))
+  starts_commit _ _ (Between c from to d before turns others) was next from_c =
+      turned_commits g next (is_some (get c.decisions g)) (row_in_log c next from_c) (λ b. broken (from b)) (λ b. broken (to b)) d
+      (broken_turn (is_some (get c.decisions g)) (from d) (to d) turns) (λ b q apart. ap broken (others b q apart)) (starts_stand c from before next from_c)
+      (starts_commit c from before was next from_c)
+
+  committed_before : (f : Standing) → broken f ≡ Committed → f ≡ Committed
+  committed_before Active e = cc
+  committed_before Idle e = cc
+  committed_before RollbackOnly e = cc
+  committed_before f e = e
+
+  -- what was left undecided, with none committed, never is
+  starts_never : (c : Content) (f : Branch → Standing) (served : AreServedFor moment name g c f) → WasLeftUndecided moment name g c f served
+      → (next : Origin) → IsRaisedFrom c next → NeverCommits g next (λ b. broken (f b))
+  starts_never _ _ (NoneYet c empty) was next from_c = absurd was
+  starts_never _ _ (OneMore c d from to handed o told seen now left done cut before has is is_left honest may leaves) (inl was) next from_d = record {
+    earlier = let i = from_d.has.incarnation in let r = from_d.raised in let w = was.1 in omega (arith, i, r, w);
+    no_row = row_in_log d next from_d ∙ was.0;
+    none = λ b q e. was.2 b q (committed_before (to b) e);
+  }
+  starts_never _ _ (OneMore c d from to handed o told seen now left done cut before has is is_left honest may leaves) (inr was) next from_d =
+      (one_more c d from to handed o told seen now left done cut (starts_stand c from before) has is is_left honest may leaves next from_d).never_commits
+      (starts_never c from before was o (start_raised c handed o told seen now left has is is_left honest))
+  starts_never _ _ (Between c from to d before turns others) was next from_c =
+      turned_never g next (is_some (get c.decisions g)) (row_in_log c next from_c) (λ b. broken (from b)) (λ b. broken (to b)) d
+      (broken_turn (is_some (get c.decisions g)) (from d) (to d) turns) (λ b q apart. ap broken (others b q apart)) (starts_stand c from before next from_c)
+      (starts_never c from before was next from_c)
 
   undone_broken : (f : Standing) → IsUndone f → IsUndone (broken f)
   undone_broken f (inl e) = inl (ap broken e)
   undone_broken f (inr e) = inr (ap broken e)
 
-  pub transaction_alike : StartsHaveContent → StartRowsAreApart → (c : Content) (f : Branch → Standing) → AreServedFor moment name g c f → IsAlike g f c
-  transaction_alike content apart c f served = record {
-    agree = λ b d q r e u. stand_alike g (start_of c) (λ b. broken (f b)) stands b d q r (ap broken e) (undone_broken (f d) u);
-    committed = λ b d q r e p. sym row ∙ row_decides g (start_of c) (λ b. broken (f b)) stands b d q r (ap broken e) (ap broken p);
-    undone = λ b q u. sym row ∙ undone_no_row g (start_of c) (λ b. broken (f b)) stands b q (undone_broken (f b) u);
-  }
-    where
-      stands : Stands g (start_of c) (λ b. broken (f b))
-      stands = starts_stand c f served (start_of c) (raised_once content apart c)
+  module _ (content : StartsHaveContent) (apart : StartRowsAreApart) (c : Content) (f : Branch → Standing) (served : AreServedFor moment name g c f) where
+    from_c : IsRaisedFrom c (start_of c)
+    from_c = raised_once content apart c
 
-      row : lists_row (start_of c).rows g ≡ is_some (get c.decisions g)
-      row = listed content apart c g
+    stands : Stands g (start_of c) (λ b. broken (f b))
+    stands = starts_stand c f served (start_of c) from_c
+
+    row : lists_row (start_of c).rows g ≡ is_some (get c.decisions g)
+    row = listed content apart c g
+
+    pub transaction_alike : IsAlike g f c
+    transaction_alike = record {
+      agree = λ b d q r e u. stand_alike g (start_of c) (λ b. broken (f b)) stands b d q r (ap broken e) (undone_broken (f d) u);
+      committed = λ b d q r e p. sym row ∙ row_decides g (start_of c) (λ b. broken (f b)) stands b d q r (ap broken e) (ap broken p);
+      undone = λ b q u. sym row ∙ undone_no_row g (start_of c) (λ b. broken (f b)) stands b q (undone_broken (f b) u);
+    }
+
+    pub transaction_commits : WasLeftDecided moment name g c f served → IsToCommit g f c
+    transaction_commits was =
+        let commits = starts_commit c f served was (start_of c) from_c in
+        record {
+          never_undone = λ b q u. commits_kept g (start_of c) (λ b. broken (f b)) stands commits b q (undone_broken (f b) u);
+          row_stays = λ b q p. sym row ∙ commits_row g (start_of c) (λ b. broken (f b)) stands commits b q (ap broken p);
+        }
+
+    pub transaction_never : WasLeftUndecided moment name g c f served → IsNeverCommitted g f c
+    transaction_never was =
+        let never = starts_never c f served was (start_of c) from_c in
+        record { never_committed = λ b q e. never.none b q (ap broken e); no_row = sym row ∙ never.no_row }

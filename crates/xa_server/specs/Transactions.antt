@@ -1,6 +1,6 @@
 -- One transaction alone: sessions of a manager one after another, where nothing is supposed of the branches of any other transaction. So one
 -- branch that a database forgot, or that somebody ended against the log, is the trouble of its own transaction.
-use Rattle.std.specs.Prelude.{◌≡◌, ℕ, true, false, if◌then◌else◌, Bool, List, [], ◌∷◌, Option, Some, is_some}
+use Rattle.std.specs.Prelude.{◌≡◌, ◌≤◌, ◌⊎◌, ℕ, true, false, if◌then◌else◌, Bool, List, [], ◌∷◌, Option, Some, is_some}
 use Rattle.std.specs.FinMap.{get}
 use Rattle.xa_base.specs.Branch.{branch_eq}
 use Rattle.xa_base.specs.StateTable.{asks_of, broken}
@@ -76,3 +76,51 @@ pub record IsAlike (g : Gtrid) (f : Branch → Standing) (log : Content) : Type 
 abbrev pub ServedTransactionsAgree : {L : Type 0} → (L → Moment) → Type 0
 ServedTransactionsAgree {L} moment =
     (name : List ℕ) (g : Gtrid) (c : Content) (f : Branch → Standing) → AreServedFor moment name g c f → IsAlike g f c
+
+-- ** what the log that is left tells
+
+-- it has a row of the transaction, or none
+abbrev pub HasRowOf : Content → Gtrid → Type 0
+HasRowOf c g = is_some (get c.decisions g) ≡ true
+
+abbrev pub HasNoRowOf : Content → Gtrid → Type 0
+HasNoRowOf c g = is_some (get c.decisions g) ≡ false
+
+-- the log that one of these sessions left has the row of the transaction
+abbrev pub WasLeftDecided : {L : Type 0} (moment : L → Moment) (name : List ℕ) (g : Gtrid) (c : Content) (f : Branch → Standing)
+    → AreServedFor moment name g c f → Type 0
+WasLeftDecided moment name g _ _ (NoneYet c empty) = ⊥
+WasLeftDecided moment name g _ _ (OneMore c d from to handed o told seen now left done cut before has is is_left honest may leaves) =
+    HasRowOf d g ⊎ WasLeftDecided moment name g c from before
+WasLeftDecided moment name g _ _ (Between c from to d before turns others) = WasLeftDecided moment name g c from before
+
+-- So it is committed, whenever that session ended: none of its branches is ever rolled back or lost, and as long as one stands prepared, the
+-- log has the row.
+pub record IsToCommit (g : Gtrid) (f : Branch → Standing) (log : Content) : Type 0 where
+  pub never_undone : (b : Branch) → b.gtrid ≡ g → IsUndone (f b) → ⊥
+  pub row_stays : (b : Branch) → b.gtrid ≡ g → f b ≡ Prepared → HasRowOf log g
+
+abbrev pub LeftDecisionsStand : {L : Type 0} → (L → Moment) → Type 0
+LeftDecisionsStand {L} moment =
+    (name : List ℕ) (g : Gtrid) (c : Content) (f : Branch → Standing) (served : AreServedFor moment name g c f)
+    → WasLeftDecided moment name g c f served → IsToCommit g f c
+
+-- The log that one of these sessions left has no row of the transaction, which is begun no more, and none of its branches stood committed
+-- behind it.
+abbrev pub WasLeftUndecided : {L : Type 0} (moment : L → Moment) (name : List ℕ) (g : Gtrid) (c : Content) (f : Branch → Standing)
+    → AreServedFor moment name g c f → Type 0
+WasLeftUndecided moment name g _ _ (NoneYet c empty) = ⊥
+WasLeftUndecided moment name g _ _ (OneMore c d from to handed o told seen now left done cut before has is is_left honest may leaves) =
+    (HasNoRowOf d g × (g.incarnation ≤ d.incarnation) × ((b : Branch) → b.gtrid ≡ g → to b ≡ Committed → ⊥))
+    ⊎ WasLeftUndecided moment name g c from before
+WasLeftUndecided moment name g _ _ (Between c from to d before turns others) = WasLeftUndecided moment name g c from before
+
+-- So none of its branches ever is, and no log has a row of it.
+pub record IsNeverCommitted (g : Gtrid) (f : Branch → Standing) (log : Content) : Type 0 where
+  pub never_committed : (b : Branch) → b.gtrid ≡ g → f b ≡ Committed → ⊥
+  pub no_row : HasNoRowOf log g
+
+abbrev pub LeftUndecidedStays : {L : Type 0} → (L → Moment) → Type 0
+LeftUndecidedStays {L} moment =
+    (name : List ℕ) (g : Gtrid) (c : Content) (f : Branch → Standing) (served : AreServedFor moment name g c f)
+    → WasLeftUndecided moment name g c f served → IsNeverCommitted g f c

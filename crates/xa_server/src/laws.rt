@@ -12,7 +12,7 @@ ghost use Rattle.xa_server.specs.Sessions.{ServedSessionsAgree, ServedSessionsAr
 ghost use Rattle.xa_server.specs.Sessions.{ServedSessionsHaveOneHistory};
 ghost use Rattle.xa_server.specs.Tracking.{RepliesAreTracked, ServedDatabasesAgree};
 ghost use Rattle.xa_server.specs.Tracking.{ServedSessionsAreExplained, SessionsAreTracked};
-ghost use Rattle.xa_server.specs.Transactions.{ServedTransactionsAgree};
+ghost use Rattle.xa_server.specs.Transactions.{LeftDecisionsStand, LeftUndecidedStays, ServedTransactionsAgree};
 ghost use Rattle.xa_server.specs.Votes.{CommitsAreLogged, VotedCommitsAreLogged};
 ghost use Rattle.xa_server.specs.WorkedSessions.{SessionsAreThere};
 
@@ -140,8 +140,18 @@ pub fn sessions_go_on<L: DecisionLog + Drop>()
 /// Between two sessions its branches may be ended by hand as the log says: committed where that has the row, rolled back where it
 /// has none. A database may end a prepared branch by itself, and forget by itself that it did; and it may roll one back and forget it where
 /// the log has no row (`MayTurn`).
+///
+/// - `agree`: none of its branches is committed beside one that is rolled back or lost, and the log that is left decides of what is
+///   prepared still;
+/// - `decided`: once a log that was left has its row, none of its branches is ever rolled back or lost, and the row is there as long as one
+///   is prepared;
+/// - `undecided`: once a log that was left has none, and no branch of it is committed, none ever is.
+///
+/// So the next start tells what became of a decision whose reply never came: its log has the row, or has none.
 pub fn served_transactions_agree<L: DecisionLog + Drop>()
     ensures agree { ServedTransactionsAgree L.moment }
+    ensures decided { LeftDecisionsStand L.moment }
+    ensures undecided { LeftUndecidedStays L.moment }
 {
     starts_are_histories();
     starts_find_the_log::<L>();

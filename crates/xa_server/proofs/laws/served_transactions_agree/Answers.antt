@@ -1,4 +1,4 @@
-use Rattle.xa_server.proofs.OwnSessions.{transaction_alike}
+use Rattle.xa_server.proofs.OwnSessions.{transaction_alike, transaction_commits, transaction_never}
 use Rattle.xa_server.proofs.SessionChains.{Laws}
 use Rattle.xa_server.proofs.laws.served_transactions_agree.Goals as goal
 
@@ -14,4 +14,9 @@ returns g c =
       waiting = c.waiting_calls_are_tracked.ensures;
     } in
     let starts = c.starts_are_histories.ensures in
-    record { agree = λ name h content f served. transaction_alike g.L.DecisionLog.moment laws name h starts.content starts.apart content f served }
+    let moment = g.L.DecisionLog.moment in
+    record {
+      agree = λ name h content f served. transaction_alike moment laws name h starts.content starts.apart content f served;
+      decided = λ name h content f served was. transaction_commits moment laws name h starts.content starts.apart content f served was;
+      undecided = λ name h content f served was. transaction_never moment laws name h starts.content starts.apart content f served was;
+    }
