@@ -1,6 +1,6 @@
 -- A transaction of an earlier process in the history of a later one: what its branches do goes by its own row, its own records and its own
 -- calls, wherever the branches of other transactions stand.
-use Rattle.std.proofs.Common.{◌≡◌, ◌<◌, ◌⊎◌, inl, inr, ℕ, zero, suc, List, [], ◌∷◌, length, map, Bool, true, false, ◌||◌, refl, sym, ap, ◌∙◌, subst, arith}
+use Rattle.std.proofs.Common.{◌≡◌, ◌<◌, ◌⊎◌, inl, inr, ℕ, zero, suc, List, [], ◌∷◌, length, Bool, true, false, ◌||◌, refl, sym, ◌∙◌, subst, arith}
 use Rattle.std.proofs.lemmas.Bool.{and_parts, false_from_ne_true, or_cases}
 use Rattle.std.specs.Prelude.{if◌then◌else◌, Option, Some, None, slice_get}
 use Rattle.xa_base.proofs.BranchKeys.{branch_eq-true}
@@ -11,20 +11,20 @@ use Rattle.xa_base.specs.declared.answer.Answer.TheVariants.{Page, Ret}
 use Rattle.xa_base.specs.declared.call.Call.TheVariants as Calls
 use Rattle.xa_base.specs.declared.code.Code.TheVariants as Codes
 use Rattle.xa_base.specs.declared.state.Standing.{Standing}
-use Rattle.xa_base.specs.declared.state.Standing.TheVariants.{Active, Committed, Completed, Forgotten, Idle, Lost, Prepared, ReadOnly, RollbackOnly, RolledBack, Unstarted}
+use Rattle.xa_base.specs.declared.state.Standing.TheVariants.{Active, Committed, Completed, Forgotten, Idle, Lost, Prepared, RollbackOnly, RolledBack, Unstarted}
 use Rattle.xa_base.specs.declared.step.Outcome.TheVariants as Outcome
-use Rattle.xa_model.proofs.Invariant.{AnswerFact, Closed, DoubtFact, HeuristicFact, Inv, IsHeuristic, IsOlder}
+use Rattle.xa_model.proofs.Invariant.{AnswerFact, DoubtFact, HeuristicFact, Inv, IsHeuristic, IsOlder}
 use Rattle.xa_model.proofs.Invariant.Grows.{told_new}
 use Rattle.xa_model.proofs.Invariant.Lines.{NewTaken, NewTaken.Now, NewTaken.Was, taken_back}
-use Rattle.xa_model.proofs.Invariant.Moves.{Move, Move.Commits, Move.Completes, Move.Ends, Move.Fails, Move.Forgets, Move.In_one_phase, Move.Loses_active, Move.Loses_idle, Move.Loses_rollback_only, Move.Only_reads, Move.Prepares, Move.Refuses, Move.Rolls_back, Move.Starts, Move.Stays, committed_moves, unstarted_moves}
+use Rattle.xa_model.proofs.Invariant.Moves.{Move, Move.Ends, Move.Fails, Move.Forgets, Move.Loses_active, Move.Loses_idle, Move.Loses_rollback_only, Move.Only_reads, Move.Prepares, Move.Refuses, Move.Rolls_back, Move.Starts, Move.Stays, committed_moves, unstarted_moves}
 use Rattle.xa_model.proofs.Invariant.NewFacts.{answer_new}
 use Rattle.xa_model.proofs.Invariant.Now.{code_of, front_waits, older_closed, older_not_started, step_move}
 use Rattle.xa_model.proofs.Invariant.OneMore.{not_handed_kept}
 use Rattle.xa_model.proofs.Invariant.Preservation.{run_always}
 use Rattle.xa_model.proofs.Invariant.Records.{NewRecord, NewRecord.By_answer, NewRecord.By_doubt_too, NewRecord.Had_record, has_of, recorded_how, recorded_new}
 use Rattle.xa_model.proofs.Invariant.RowLists.{each_is, rows_made}
-use Rattle.xa_model.proofs.Invariant.Rows.{Adds, LeftRow, LeftRow.By_done, LeftRow.By_doubt, NewRow, NewRow.By_decision, NewRow.By_restart, NewRow.Had, RowNow, RowNow.Before, RowNow.Decided_now, RowNow.Restarted_now, row_back, row_lost, rowed_new, settled_lately_settled}
-use Rattle.xa_model.specs.Facts.{Change, Change.AddRecord, Change.DropRows, acknowledges, adds_row, breaks, doubt, each, each_of_some, fault_change, had_row, handed_over, has_branch, has_gtrid, has_record, has_row, held_of, heard, heuristic_rows, is_settled, is_settled_lately, lists_row, live, next_call, origin, participants, participants_in, record_of, record_of_next, recorded, row_for, says_read_only, standing, started, taken, up, was_told}
+use Rattle.xa_model.proofs.Invariant.Rows.{LeftRow, LeftRow.By_done, LeftRow.By_doubt, NewRow, NewRow.By_decision, NewRow.By_restart, NewRow.Had, RowNow, RowNow.Before, RowNow.Decided_now, RowNow.Restarted_now, row_back, row_lost, rowed_new, settled_lately_settled}
+use Rattle.xa_model.specs.Facts.{Change.AddRecord, Change.DropRows, acknowledges, adds_row, breaks, doubt, each, each_of_some, fault_change, had_row, handed_over, has_branch, has_gtrid, has_record, has_row, held_of, heard, heuristic_rows, is_settled, is_settled_lately, lists_row, live, next_call, origin, participants, participants_in, record_of, record_of_next, recorded, says_read_only, standing, started, taken, up, was_told}
 use Rattle.xa_model.specs.Protocol.{IsRowSettled, IsRun, Right, RightDecision, RightDone, RightFault, RightRow}
 use Rattle.xa_model.specs.Trace.{Answer, Branch, Call, Code, Fault, Fault.InDecide, Fault.InDone, Fault.InHear, Fault.InResolve, Fault.InRestart, Gtrid, Happening, Happening.CompletedAlone, Happening.Failed, Happening.Heard, Happening.Restarted, Happening.Took, How, Kind, Kind.Commit, Kind.End, Kind.Forget, Kind.Join, Kind.OnePhase, Kind.Prepare, Kind.Rollback, Kind.Start, Line, Origin, Recorded, Trace, Trace.From, Trace.Then, Vote, line_of}
 
@@ -46,6 +46,26 @@ IsKept RollbackOnly = ⊥
 IsKept RolledBack = ⊥
 IsKept Lost = ⊥
 IsKept _ = Unit
+
+-- its database ended it by itself, whether or not it knows that still
+abbrev pub IsEndedAlone : Standing → Type 0
+IsEndedAlone (Completed how) = Unit
+IsEndedAlone (Forgotten how) = Unit
+IsEndedAlone _ = ⊥
+
+alone_past : (f : Standing) → IsEndedAlone f → IsPast f
+alone_past (Completed how) h = tt
+alone_past (Forgotten how) h = tt
+alone_past _ h = absurd h
+
+alone_moves : (tr : Trace) (b : Branch) (f g : Standing) → Move tr b f g → IsEndedAlone f → IsEndedAlone g
+alone_moves tr b f g (Stays x) h = h
+alone_moves tr b f g (Forgets how r) h = tt
+alone_moves tr b f g (Rolls_back Idle c p q) h = absurd h
+alone_moves tr b f g (Rolls_back Prepared c p q) h = absurd h
+alone_moves tr b f g (Rolls_back RollbackOnly c p q) h = absurd h
+alone_moves tr b f g (Rolls_back _ c p q) h = absurd c
+alone_moves tr b f g _ h = absurd h
 
 past_moves : (tr : Trace) (b : Branch) (f g : Standing) → Move tr b f g → started tr b ≡ false → IsPast f → IsPast g
 past_moves tr b f g (Stays x) s h = h
@@ -85,10 +105,10 @@ past_or_prepared RollbackOnly h = absurd h
 past_or_prepared Prepared h = inr refl
 past_or_prepared _ h = inl tt
 
-pub heuristic_past : (how : How) (f : Standing) → IsHeuristic how f → IsPast f
-heuristic_past how (Completed h) e = tt
-heuristic_past how (Forgotten h) e = tt
-heuristic_past how _ e = absurd e
+heuristic_alone : (how : How) (f : Standing) → IsHeuristic how f → IsEndedAlone f
+heuristic_alone how (Completed h) e = tt
+heuristic_alone how (Forgotten h) e = tt
+heuristic_alone how _ e = absurd e
 
 -- ** a prepared branch is rolled back only where its transaction has no row
 
@@ -159,21 +179,37 @@ took_past tr l (Calls.Commit d false) (Ret Codes.NotAnXid) b inv r new t =
 took_past tr l _ _ b inv r new t = absurd (cc)
 
 -- a record is of a branch that its database ended
-record_past : (tr : Trace) (b : Branch) (how : How) (c : Call) (a : Answer)
-    → record_of c a ≡ AddRecord (record { branch = b; how = how }) → AnswerFact tr c a → IsPast (standing tr b)
-record_past tr b how c a q h = by c a q h
+record_alone : (tr : Trace) (b : Branch) (how : How) (c : Call) (a : Answer)
+    → record_of c a ≡ AddRecord (record { branch = b; how = how }) → AnswerFact tr c a → IsEndedAlone (standing tr b)
+record_alone tr b how c a q h = by c a q h
   where
     same : (d : Branch) (k : How) → AddRecord (record { branch = d; how = k }) ≡ AddRecord (record { branch = b; how = how }) → HeuristicFact tr d k
-        → IsPast (standing tr b)
+        → IsEndedAlone (standing tr b)
     same d k q h =
         let p : record { branch = d; how = k } ≡ record { branch = b; how = how } = cc in
-        subst (λ (x : Recorded). IsPast (standing tr x.branch)) p (heuristic_past k (standing tr d) h.heuristic)
+        subst (λ (x : Recorded). IsEndedAlone (standing tr x.branch)) p (heuristic_alone k (standing tr d) h.heuristic)
 
-    by : (c : Call) (a : Answer) → record_of c a ≡ AddRecord (record { branch = b; how = how }) → AnswerFact tr c a → IsPast (standing tr b)
+    by : (c : Call) (a : Answer) → record_of c a ≡ AddRecord (record { branch = b; how = how }) → AnswerFact tr c a → IsEndedAlone (standing tr b)
     by (Calls.Commit d false) (Ret (Codes.Heuristic k)) q h = same d k q h
     by (Calls.Commit d true) (Ret (Codes.Heuristic k)) q h = same d k q h
     by (Calls.Rollback d) (Ret (Codes.Heuristic k)) q h = same d k q h
     by _ _ q h = absurd (cc)
+
+record_after : (tr : Trace) (e : Happening) → IsRun tr → Right tr e → (b : Branch) → (recorded tr b ≡ true → IsEndedAlone (standing tr b))
+    → recorded (Then tr e) b ≡ true → IsEndedAlone (standing (Then tr e) b)
+record_after tr e run r b before h =
+    let k = recorded_how (Then tr e) b h in alone_moves tr b _ _ (step_move tr e b inv r) (by k.0 (recorded_new tr e b k.0 k.1))
+  where
+    inv : Inv tr
+    inv = run_always tr run
+
+    by : (how : How) → NewRecord tr e b how → IsEndedAlone (standing tr b)
+    by how (Had_record p) = before (has_of (heuristic_rows tr) b how p)
+    by how (By_answer l c w p k) =
+        let s : Right tr (Heard l c w) = subst (Right tr) p r in record_alone tr b how c w k (inv.answered l (length (heard tr l)) c w s.1)
+    by how (By_doubt_too p) =
+        let f : DoubtFact tr (AddRecord (record { branch = b; how = how })) = subst (DoubtFact tr) p inv.in_doubt in
+        heuristic_alone how (standing tr b) f.heuristic
 
 record_adds : (c : Call) (a : Answer) (g : Gtrid) → adds_row (record_of c a) g ≡ false
 record_adds (Calls.Commit d one) (Ret (Codes.Heuristic k)) g = refl
@@ -219,7 +255,7 @@ pub record Answers (tr : Trace) (g : Gtrid) : Type 0 where
   pub answered : (l : Line) (k : ℕ) (c : Call) (a : Answer) (b : Branch) → b.gtrid ≡ g → slice_get (taken tr l) k ≡ Some (c, a)
       → acknowledges b c a ≡ true → IsPast (standing tr b)
   pub acknowledged : (b : Branch) → b.gtrid ≡ g → was_told tr (acknowledges b) ≡ true → IsPast (standing tr b)
-  pub recorded_past : (b : Branch) → b.gtrid ≡ g → recorded tr b ≡ true → IsPast (standing tr b)
+  pub recorded_alone : (b : Branch) → b.gtrid ≡ g → recorded tr b ≡ true → IsEndedAlone (standing tr b)
 
 -- it has a row, or had one at the start
 pub record HasRow (tr : Trace) (g : Gtrid) : Type 0 where
@@ -299,24 +335,13 @@ module _ (g : Gtrid) (tr : Trace) (e : Happening) (run : IsRun tr) (r : Right tr
         by (inr k) =
             let s : Right tr (Heard k.0 k.1 k.2) = subst (Right tr) k.3 r in a.answered k.0 (length (heard tr k.0)) k.1 k.2 b q s.1 k.4
 
-    recorded_after : (b : Branch) → b.gtrid ≡ g → recorded (Then tr e) b ≡ true → IsPast (standing (Then tr e) b)
-    recorded_after b q h = let k = recorded_how (Then tr e) b h in past_after b q (by k.0 (recorded_new tr e b k.0 k.1))
-      where
-        by : (how : How) → NewRecord tr e b how → IsPast (standing tr b)
-        by how (Had_record p) = a.recorded_past b q (has_of (heuristic_rows tr) b how p)
-        by how (By_answer l c w p k) =
-            let s : Right tr (Heard l c w) = subst (Right tr) p r in record_past tr b how c w k (inv.answered l (length (heard tr l)) c w s.1)
-        by how (By_doubt_too p) =
-            let f : DoubtFact tr (AddRecord (record { branch = b; how = how })) = subst (DoubtFact tr) p inv.in_doubt in
-            heuristic_past how (standing tr b) f.heuristic
-
     answers_after : Answers (Then tr e) g
     answers_after = record {
       unhanded = not_handed_kept tr e g r dead a.unhanded;
       no_adds = no_adds_after e r;
       answered = answered_after;
       acknowledged = acknowledged_after;
-      recorded_past = recorded_after;
+      recorded_alone = λ b q h. record_after tr e run r b (a.recorded_alone b q) h;
     }
 
     -- ** with a row
@@ -330,7 +355,7 @@ module _ (g : Gtrid) (tr : Trace) (e : Happening) (run : IsRun tr) (r : Right tr
           told (inr h) = a.acknowledged b q h
 
           by : (recorded tr b ≡ true) ⊎ ((was_told tr (says_read_only b) || was_told tr (acknowledges b)) ≡ true) → IsPast (standing tr b)
-          by (inl h) = a.recorded_past b q h
+          by (inl h) = alone_past (standing tr b) (a.recorded_alone b q h)
           by (inr h) = told (or_cases _ _ h)
 
       done_past : RightDone tr g → (b : Branch) → b.gtrid ≡ g → IsPast (standing tr b)
@@ -430,19 +455,25 @@ module _ (g : Gtrid) (tr : Trace) (e : Happening) (run : IsRun tr) (r : Right tr
 abbrev pub held_at : Origin → Branch → Standing
 held_at o b = (held_of o b).standing
 
+-- what is recorded was ended by its database, if what the start had recorded was
+pub records_at : (tr : Trace) → IsRun tr → (b : Branch) → (has_record (origin tr).heuristic_rows b ≡ true → IsEndedAlone (held_at (origin tr) b))
+    → recorded tr b ≡ true → IsEndedAlone (standing tr b)
+records_at (From o) run b records h = records h
+records_at (Then tr e) run b records h = record_after tr e run.0 run.1 b (records_at tr run.0 b records) h
+
 pub answers_at : (g : Gtrid) (tr : Trace) → IsRun tr → IsEarlier tr g
-    → ((b : Branch) → b.gtrid ≡ g → has_record (origin tr).heuristic_rows b ≡ true → IsPast (held_at (origin tr) b)) → Answers tr g
+    → ((b : Branch) → b.gtrid ≡ g → has_record (origin tr).heuristic_rows b ≡ true → IsEndedAlone (held_at (origin tr) b)) → Answers tr g
 answers_at g (From o) run earlier records = record {
   unhanded = refl;
   no_adds = refl;
   answered = λ l k c a b q h t. absurd (get_none k (c, a) h);
   acknowledged = λ b q h. absurd (cc);
-  recorded_past = records;
+  recorded_alone = records;
 }
 answers_at g (Then tr e) run earlier records = answers_after g tr e run.0 run.1 earlier (answers_at g tr run.0 earlier records)
 
 pub row_at : (g : Gtrid) (tr : Trace) → IsRun tr → IsEarlier tr g
-    → ((b : Branch) → b.gtrid ≡ g → has_record (origin tr).heuristic_rows b ≡ true → IsPast (held_at (origin tr) b))
+    → ((b : Branch) → b.gtrid ≡ g → has_record (origin tr).heuristic_rows b ≡ true → IsEndedAlone (held_at (origin tr) b))
     → lists_row (origin tr).rows g ≡ true → ((b : Branch) → b.gtrid ≡ g → IsKept (held_at (origin tr) b))
     → ((b : Branch) → b.gtrid ≡ g → held_at (origin tr) b ≡ Prepared → has_branch (participants_in (origin tr).rows g) b ≡ true) → HasRow tr g
 row_at g (From o) run earlier records row kept covers = record {
@@ -460,7 +491,7 @@ pub record NoRowAt (tr : Trace) (g : Gtrid) : Type 0 where
   pub stands : HasNoRow (standing tr) g
 
 pub no_row_at : (g : Gtrid) (tr : Trace) → IsRun tr → IsEarlier tr g
-    → ((b : Branch) → b.gtrid ≡ g → has_record (origin tr).heuristic_rows b ≡ true → IsPast (held_at (origin tr) b))
+    → ((b : Branch) → b.gtrid ≡ g → has_record (origin tr).heuristic_rows b ≡ true → IsEndedAlone (held_at (origin tr) b))
     → lists_row (origin tr).rows g ≡ false → HasNoRow (held_at (origin tr)) g → NoRowAt tr g
 no_row_at g (From o) run earlier records none stands = record { had_none = none; stands = stands }
 no_row_at g (Then tr e) run earlier records none stands =
@@ -473,7 +504,7 @@ no_row_at g (Then tr e) run earlier records none stands =
 
 -- and none of its branches is committed, if none was
 pub none_at : (g : Gtrid) (tr : Trace) → IsRun tr → IsEarlier tr g
-    → ((b : Branch) → b.gtrid ≡ g → has_record (origin tr).heuristic_rows b ≡ true → IsPast (held_at (origin tr) b))
+    → ((b : Branch) → b.gtrid ≡ g → has_record (origin tr).heuristic_rows b ≡ true → IsEndedAlone (held_at (origin tr) b))
     → lists_row (origin tr).rows g ≡ false → ((b : Branch) → b.gtrid ≡ g → held_at (origin tr) b ≡ Committed → ⊥)
     → (b : Branch) → b.gtrid ≡ g → standing tr b ≡ Committed → ⊥
 none_at g (From o) run earlier records none start = start

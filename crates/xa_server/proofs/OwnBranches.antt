@@ -1,5 +1,5 @@
 -- The branches of one transaction through a session, over databases of which only these are known to obey the table.
-use Rattle.std.proofs.Common.{◌≡◌, ◌<◌, ◌≤◌, ◌⊎◌, inl, inr, ℕ, List, [], ◌∷◌, length, Bool, true, false, refl, sym, ap, ◌∙◌, subst, arith}
+use Rattle.std.proofs.Common.{◌≡◌, ◌<◌, ◌≤◌, ◌⊎◌, inl, inr, ℕ, List, [], ◌∷◌, Bool, true, false, refl, sym, ap, ◌∙◌, subst, arith}
 use Rattle.std.proofs.lemmas.Bool.{false_from_ne_true}
 use Rattle.std.proofs.lemmas.Bool.Decides.{nat_tests}
 use Rattle.std.specs.Prelude.{if◌then◌else◌, nat_lt, Option, Some, None}
@@ -9,37 +9,34 @@ use Rattle.xa_base.specs.Branch.{branch_eq, gtrid_eq, xid_of_branch}
 use Rattle.xa_base.specs.HeldBranch.{HeldBranch, new_branch}
 use Rattle.xa_base.specs.StateTable.{Kind, answer, asks_of, broken, moved, state_of}
 use Rattle.xa_base.specs.Xid.{Xid}
-use Rattle.xa_base.specs.declared.code.Code.TheVariants as Codes
 use Rattle.xa_base.specs.declared.state.Standing.{Standing}
-use Rattle.xa_base.specs.declared.state.Standing.TheVariants.{Active, Committed, Completed, Forgotten, Idle, Lost, Prepared, ReadOnly, RollbackOnly, RolledBack, Unstarted}
+use Rattle.xa_base.specs.declared.state.Standing.TheVariants.{Active, Committed, Completed, Forgotten, Idle, Lost, Prepared, ReadOnly, RollbackOnly, Unstarted}
 use Rattle.xa_base.specs.declared.vote.Vote.TheVariants.{Yes}
-use Rattle.xa_model.proofs.Invariant.{HasBegun, Inv, IsAtRest, IsGood, IsHeuristic, IsOlder, Old}
+use Rattle.xa_model.proofs.Invariant.{Inv, IsAtRest, IsGood, IsOlder, Old}
 use Rattle.xa_model.proofs.Invariant.AtEachMoment.{handed_over_alone}
 use Rattle.xa_model.proofs.Invariant.Now.{settled_at_rest}
 use Rattle.xa_model.proofs.Invariant.Preservation.{run_always}
-use Rattle.xa_model.proofs.Invariant.Records.{recorded_how}
 use Rattle.xa_model.proofs.NameLemmas.OwnNames.{own_name}
 use Rattle.xa_model.proofs.ProcessLemmas.Leaving.{fits_branch}
 use Rattle.xa_model.proofs.ProcessLemmas.SameLogs.{same_listed}
-use Rattle.xa_model.specs.Facts.{fits, had_row, handed_over, has_branch, has_record, has_row, held_of, heuristic_rows, incarnation, lists_row, log as rows_of, origin, participants, participants_in, recorded, says_read_only, standing, started, was_told}
+use Rattle.xa_model.specs.Facts.{fits, had_row, handed_over, has_branch, has_record, has_row, lists_row, log as rows_of, origin, participants, participants_in, recorded, says_read_only, standing, started, was_told}
 use Rattle.xa_model.specs.Facts.InDoubt.{name_of}
 use Rattle.xa_model.specs.Promises.Agreement.{IsUndone}
 use Rattle.xa_model.specs.Promises.Processes.{AllAreNamed, gone, resumed}
 use Rattle.xa_model.specs.Protocol.{IsRun, OldOrigin}
-use Rattle.xa_model.specs.Trace.{Branch, Call, Code, Fault, Gtrid, Happening.Crashed, How, Line, Name, Name.Foreign, Name.Ours, Origin, Trace, Trace.Then, line_eq, line_of}
-use Rattle.xa_base.specs.declared.step.Part.TheVariants as Part
+use Rattle.xa_model.specs.Trace.{Branch, Call, Code, Fault, Gtrid, How, Line, Name, Name.Foreign, Name.Ours, Origin, Trace, line_eq, line_of}
 use Rattle.xa_monitor.proofs.Agreeing.{from_known}
 use Rattle.xa_monitor.proofs.Books.{finds_same}
 use Rattle.xa_monitor.proofs.LaterStarts.{asks_if, broken_failed, history_back, named_failed, origin_failed, rules_back, run_failed, stands_back}
 use Rattle.xa_monitor.proofs.Names.{done_named, waiting_named}
 use Rattle.xa_monitor.proofs.UntoldCalls.{LeavesThere}
-use Rattle.xa_monitor.specs.Agreement.{IsLineOf, MayAllStand, MayAllStand.AsTold as All_as_told, MayAllStand.CutOff as All_cut_off, MayAllStand.EndedAlone as All_ended_alone, MayAllStand.UnderWay as All_under_way, WaitsAt, WasDone, is_line_among, times}
-use Rattle.xa_monitor.specs.Explained.{HasOnlyOlderRows, IsExplained}
+use Rattle.xa_monitor.specs.Agreement.{IsLineOf, MayAllStand, MayAllStand.AsTold as All_as_told, MayAllStand.CutOff as All_cut_off, MayAllStand.EndedAlone as All_ended_alone, MayAllStand.UnderWay as All_under_way, WaitsAt, is_line_among, times}
+use Rattle.xa_monitor.specs.Explained.{IsExplained}
 use Rattle.xa_monitor.specs.Seen.{IsHistory, Seen, Seen.Answered, Seen.Did, Seen.Lost, Seen.Start}
 use Rattle.xa_monitor.specs.Sessions.{Finds, FindsLog, IsSession, Log.LeftBy, failed_in}
-use Rattle.xa_monitor.specs.Standings.{Comes, Explained, Explains, ExplainsAsked, ExplainsIf, MayBeFound, MayStand}
-use Rattle.xa_server.proofs.OlderBranches.{Answers, HasNoRow, HasNoRow.All_over, HasNoRow.None_committed, HasNoRow.Only_one, HasRow, IsEarlier, IsKept, IsPast, NoRowAt, answers_at, held_at, heuristic_past, no_row_at, none_at, over_at, row_at}
-use Rattle.xa_server.specs.Transactions.{MayStandFor, MayStandFor.AsTold, MayStandFor.CutOff, MayStandFor.EndedAlone, MayStandFor.UnderWay, MayTurn, MayTurn.CommittedByHand, MayTurn.EndsByItself, MayTurn.ForgetsByItself, MayTurn.RolledBackByHand, WasDoneFor}
+use Rattle.xa_monitor.specs.Standings.{Comes, Explains, ExplainsAsked, ExplainsIf, MayBeFound, MayStand}
+use Rattle.xa_server.proofs.OlderBranches.{HasNoRow, HasNoRow.All_over, HasNoRow.None_committed, HasNoRow.Only_one, HasRow, IsEarlier, IsKept, IsPast, NoRowAt, IsEndedAlone, held_at, no_row_at, none_at, over_at, records_at, row_at}
+use Rattle.xa_server.specs.Transactions.{MayStandFor, MayStandFor.AsTold, MayStandFor.CutOff, MayStandFor.EndedAlone, MayStandFor.UnderWay, MayTurn, MayTurn.CommittedByHand, MayTurn.EndsByItself, MayTurn.ForgetsByItself, MayTurn.ForgetsItsRollback, MayTurn.RolledBackByHand, WasDoneFor}
 
 -- ** what is so at each start
 
@@ -47,7 +44,7 @@ use Rattle.xa_server.specs.Transactions.{MayStandFor, MayStandFor.AsTold, MaySta
 pub record Stands (g : Gtrid) (o : Origin) (h : Branch → Standing) : Type 0 where
   pub named : (b : Branch) → b.gtrid ≡ g → fits b ≡ false → h b ≡ Unstarted
   pub young : o.incarnation ≤ g.incarnation → (b : Branch) → b.gtrid ≡ g → h b ≡ Unstarted
-  pub records : (b : Branch) → b.gtrid ≡ g → has_record o.heuristic_rows b ≡ true → IsPast (h b)
+  pub records : (b : Branch) → b.gtrid ≡ g → has_record o.heuristic_rows b ≡ true → IsEndedAlone (h b)
   pub kept : lists_row o.rows g ≡ true → (b : Branch) → b.gtrid ≡ g → IsKept (h b)
   pub covers : lists_row o.rows g ≡ true → (b : Branch) → b.gtrid ≡ g → h b ≡ Prepared → has_branch (participants_in o.rows g) b ≡ true
   pub no_row : lists_row o.rows g ≡ false → HasNoRow h g
@@ -85,7 +82,7 @@ pub same_stands : (g : Gtrid) (o : Origin) (h k : Branch → Standing) → ((b :
 same_stands g o h k same s = record {
   named = λ b q unfit. sym (same b q) ∙ s.named b q unfit;
   young = λ later b q. sym (same b q) ∙ s.young later b q;
-  records = λ b q has. subst IsPast (same b q) (s.records b q has);
+  records = λ b q has. subst IsEndedAlone (same b q) (s.records b q has);
   kept = λ row b q. subst IsKept (same b q) (s.kept row b q);
   covers = λ row b q e. s.covers row b q (same b q ∙ e);
   no_row = λ none. same_no_row g h k same (s.no_row none);
@@ -170,36 +167,49 @@ turned row _ _ (EndsByItself how) r k = tt
 turned row _ _ (ForgetsByItself how) r k = tt
 turned row _ _ (CommittedByHand has) r k = tt
 turned row _ _ (RolledBackByHand none) r k = cc
+turned row _ _ (ForgetsItsRollback none) r k = tt
 
-turned_past : (row : Bool) (f t : Standing) → MayTurn row f t → IsPast t
-turned_past row _ _ (EndsByItself how) = tt
-turned_past row _ _ (ForgetsByItself how) = tt
-turned_past row _ _ (CommittedByHand has) = tt
-turned_past row _ _ (RolledBackByHand none) = tt
+turned_over : (row : Bool) (f t : Standing) → MayTurn row f t → IsKept f → IsPast f → IsKept t × IsPast t
+turned_over row _ _ (EndsByItself how) k p = (tt, tt)
+turned_over row _ _ (ForgetsByItself how) k p = (tt, tt)
+turned_over row _ _ (CommittedByHand has) k p = (tt, tt)
+turned_over row _ _ (RolledBackByHand none) k p = absurd p
+turned_over row _ _ (ForgetsItsRollback none) k p = absurd k
+
+turned_alone : (row : Bool) (f t : Standing) → MayTurn row f t → IsEndedAlone f → IsEndedAlone t
+turned_alone row _ _ (EndsByItself how) h = tt
+turned_alone row _ _ (ForgetsByItself how) h = tt
+turned_alone row _ _ (CommittedByHand has) h = absurd h
+turned_alone row _ _ (RolledBackByHand none) h = absurd h
+turned_alone row _ _ (ForgetsItsRollback none) h = absurd h
 
 turned_begun : (row : Bool) (f t : Standing) → MayTurn row f t → f ≡ Unstarted → ⊥
 turned_begun row _ _ (EndsByItself how) e = cc
 turned_begun row _ _ (ForgetsByItself how) e = cc
 turned_begun row _ _ (CommittedByHand has) e = cc
 turned_begun row _ _ (RolledBackByHand none) e = cc
+turned_begun row _ _ (ForgetsItsRollback none) e = cc
 
 turned_committed : (row : Bool) (f t : Standing) → MayTurn row f t → row ≡ false → t ≡ Committed → ⊥
 turned_committed row _ _ (EndsByItself how) r e = cc
 turned_committed row _ _ (ForgetsByItself how) r e = cc
 turned_committed row _ _ (CommittedByHand has) r e = cc
 turned_committed row _ _ (RolledBackByHand none) r e = cc
+turned_committed row _ _ (ForgetsItsRollback none) r e = cc
 
-turned_over : (row : Bool) (f t : Standing) → MayTurn row f t → IsPast f → IsKept t
-turned_over row _ _ (EndsByItself how) p = tt
-turned_over row _ _ (ForgetsByItself how) p = tt
-turned_over row _ _ (CommittedByHand has) p = tt
-turned_over row _ _ (RolledBackByHand none) p = absurd p
+turned_prepared : (row : Bool) (f t : Standing) → MayTurn row f t → row ≡ true → t ≡ Prepared → ⊥
+turned_prepared row _ _ (EndsByItself how) r e = cc
+turned_prepared row _ _ (ForgetsByItself how) r e = cc
+turned_prepared row _ _ (CommittedByHand has) r e = cc
+turned_prepared row _ _ (RolledBackByHand none) r e = cc
+turned_prepared row _ _ (ForgetsItsRollback none) r e = cc
 
 pub broken_turn : (row : Bool) (f t : Standing) → MayTurn row f t → MayTurn row (broken f) (broken t)
 broken_turn row _ _ (EndsByItself how) = EndsByItself how
 broken_turn row _ _ (ForgetsByItself how) = ForgetsByItself how
 broken_turn row _ _ (CommittedByHand has) = CommittedByHand has
 broken_turn row _ _ (RolledBackByHand none) = RolledBackByHand none
+broken_turn row _ _ (ForgetsItsRollback none) = ForgetsItsRollback none
 
 module _ (g : Gtrid) (o : Origin) (row : Bool) (is : lists_row o.rows g ≡ row) (h k : Branch → Standing) (d : Branch) (turns : MayTurn row (h d) (k d))
     (others : (b : Branch) → b.gtrid ≡ g → branch_eq d b ≡ false → k b ≡ h b) (s : Stands g o h) where
@@ -216,10 +226,8 @@ module _ (g : Gtrid) (o : Origin) (row : Bool) (is : lists_row o.rows g ≡ row)
       each (λ f t. (f ≡ Committed → ⊥) → t ≡ Committed → ⊥) (λ n x. turned_committed row (h d) (k d) turns r x) (λ f n x. n x) b q (λ x. none b q x) e
 
   all_over : ((b : Branch) → b.gtrid ≡ g → IsKept (h b) × IsPast (h b)) → (b : Branch) → b.gtrid ≡ g → IsKept (k b) × IsPast (k b)
-  all_over over b q = (
-    each (λ f t. IsPast f → IsKept f → IsKept t) (λ p x. turned_over row (h d) (k d) turns p) (λ f p x. x) b q (over b q).1 (over b q).0,
-    each (λ f t. IsPast f → IsPast t) (λ p. turned_past row (h d) (k d) turns) (λ f p. p) b q (over b q).1,
-  )
+  all_over over b q =
+      each (λ f t. IsKept f × IsPast f → IsKept t × IsPast t) (λ x. turned_over row (h d) (k d) turns x.0 x.1) (λ f x. x) b q (over b q)
 
   turned_no_row : row ≡ false → HasNoRow h g → HasNoRow k g
   turned_no_row r (None_committed none) = None_committed (turned_none r none)
@@ -238,10 +246,10 @@ module _ (g : Gtrid) (o : Origin) (row : Bool) (is : lists_row o.rows g ≡ row)
   turned_stands = record {
     named = λ b q unfit. still b q (s.named b q unfit);
     young = λ later b q. still b q (s.young later b q);
-    records = λ b q has. each (λ f t. IsPast f → IsPast t) (λ p. turned_past row (h d) (k d) turns) (λ f p. p) b q (s.records b q has);
+    records = λ b q has. each (λ f t. IsEndedAlone f → IsEndedAlone t) (turned_alone row (h d) (k d) turns) (λ f p. p) b q (s.records b q has);
     kept = λ r b q. each (λ f t. IsKept f → IsKept t) (λ p. turned row (h d) (k d) turns (sym is ∙ r) p) (λ f p. p) b q (s.kept r b q);
     covers = λ r b q e. s.covers r b q
-        (each (λ f t. t ≡ Prepared → f ≡ Prepared) (λ x. absurd (past_not_prepared (k d) (turned_past row (h d) (k d) turns) x)) (λ f x. x) b q e);
+        (each (λ f t. t ≡ Prepared → f ≡ Prepared) (λ x. absurd (turned_prepared row (h d) (k d) turns (sym is ∙ r) x)) (λ f x. x) b q e);
     no_row = λ none. turned_no_row (sym is ∙ none) (s.no_row none);
   }
     where
@@ -458,14 +466,14 @@ module _ (g : Gtrid) (last : Trace) (runs : IsRun last) (at : Stands g (origin l
   is_named : (b : Branch) → b.gtrid ≡ g → fits b ≡ false → standing now b ≡ Unstarted
   is_named b q unfit = ap broken (all_named b unfit).0
 
+  is_recorded : (b : Branch) → b.gtrid ≡ g → recorded now b ≡ true → IsEndedAlone (standing now b)
+  is_recorded b q has = records_at now now_runs b (at.records b q) has
+
   later_start : (origin last).incarnation < next.incarnation
   later_start = let a = (run_always last runs).since_start in let b = found.later in omega (arith, a, b)
 
   -- it was begun before the session
   module _ (earlier : IsEarlier now g) where
-    answers : Answers now g
-    answers = answers_at g now now_runs earlier at.records
-
     with_row : lists_row (origin last).rows g ≡ true → HasRow now g
     with_row row = row_at g now now_runs earlier at.records row (at.kept row) (at.covers row)
 
@@ -490,7 +498,7 @@ module _ (g : Gtrid) (last : Trace) (runs : IsRun last) (at : Stands g (origin l
     earlier_stands = record {
       named = is_named;
       young = λ later b q. absurd (let l = later_start in omega (arith, l, later, earlier));
-      records = λ b q has. answers.recorded_past b q (found_record b has);
+      records = λ b q has. is_recorded b q (found_record b has);
       kept = λ row b q. (row_there (sym listed ∙ row)).kept b q;
       covers = λ row b q e. let has = sym listed ∙ row in found.rows.participants g b ∙ (row_there has).covers has b q e;
       no_row = λ none. row_gone (sym listed ∙ none);
@@ -540,11 +548,6 @@ module _ (g : Gtrid) (last : Trace) (runs : IsRun last) (at : Stands g (origin l
         old (inl o) = let n = ap (λ (x : Gtrid). x.incarnation) q in let f = found.later in omega (arith, o, n, f, later)
         old (inr o) = let i = o.0 in let n = ap (λ (x : Gtrid). x.incarnation) q in let f = found.later in omega (arith, i, n, f, later)
 
-    record_past : (b : Branch) → b.gtrid ≡ g → recorded now b ≡ true → IsPast (standing now b)
-    record_past b q has =
-        let k = recorded_how now b has in
-        by_start (IsPast (standing now b)) b q (λ e. heuristic_past k.0 (standing now b) (inv.heuristic b k.0 k.1 e)) (unstarted_past (standing now b))
-
     is_kept : had_row now g ≡ true → (b : Branch) → b.gtrid ≡ g → IsKept (standing now b)
     is_kept had b q =
         by_start (IsKept (standing now b)) b q (λ e. good_kept (standing now b) ((inv.rows g had).good b q e)) (unstarted_kept (standing now b))
@@ -578,7 +581,7 @@ module _ (g : Gtrid) (last : Trace) (runs : IsRun last) (at : Stands g (origin l
     own_stands = record {
       named = is_named;
       young = not_yet;
-      records = λ b q has. record_past b q (found_record b has);
+      records = λ b q has. is_recorded b q (found_record b has);
       kept = λ row b q. is_kept (inv.row_rowed g (sym listed ∙ row)) b q;
       covers = λ row b q e. let has = sym listed ∙ row in found.rows.participants g b ∙ is_covered has b q e;
       no_row = λ none. has_none (sym listed ∙ none) (had_row now g) refl (handed_over now g) refl;

@@ -9,7 +9,7 @@ use Rattle.xa_base.specs.declared.state.Standing.{Standing}
 use Rattle.xa_base.specs.declared.state.Standing.TheVariants.{Active, Committed, Idle, RollbackOnly, Completed, Prepared, Unstarted}
 use Rattle.xa_log.specs.Content.{Content}
 use Rattle.xa_log.specs.Contract.{Moment}
-use Rattle.xa_model.specs.Facts.{lists_row}
+use Rattle.xa_model.specs.Facts.{has_record, lists_row}
 use Rattle.xa_model.specs.Promises.Agreement.{IsUndone}
 use Rattle.xa_model.specs.Trace.{Branch, Call, Code, Fault, Gtrid, How, Line, Origin, line}
 use Rattle.xa_monitor.proofs.Chains.{untold}
@@ -22,6 +22,7 @@ use Rattle.xa_monitor.specs.Standings.{Comes, Explains, ExplainsAsked, ExplainsI
 use Rattle.xa_server.proofs.Failures.{IsFailedToHear, failed_in_answer, failed_in_request}
 use Rattle.xa_server.proofs.LeftLogs.{listed, raised_once, start_of}
 use Rattle.xa_server.proofs.LogLemmas.{same_keeps}
+use Rattle.xa_server.proofs.LogStarts.{none_there}
 use Rattle.xa_server.proofs.OlderBranches.{HasNoRow.None_committed}
 use Rattle.xa_server.proofs.OwnBranches.{AllMay, Commits, NeverCommits, PassesOn, Stands, all_may, broken_turn, commits_kept, commits_row, is_explained, row_decides, same_passed, session_passes, stand_alike, stood, stood_found, stood_own, turned_commits, turned_never, turned_stands, undone_no_row}
 use Rattle.xa_server.proofs.SessionChains.{Laws, knows, line_is, old, on_branches, raised, tied}
@@ -206,11 +207,14 @@ module _ {L : Type 0} (moment : L → Moment) (laws : Laws L) (name : List ℕ) 
   none_yet c empty next from_c = record {
     named = λ b q unfit. refl;
     young = λ later b q. refl;
-    records = λ b q has. tt;
+    records = λ b q has. absurd (no_record b (subst (λ xs. has_record xs b ≡ true) (none_there c next empty from_c).records has));
     kept = λ row b q. tt;
     covers = λ row b q e. absurd (cc);
     no_row = λ none. None_committed (λ b q e. cc);
   }
+    where
+      no_record : (b : Branch) → has_record [] b ≡ true → ⊥
+      no_record b e = cc
 
   row_in_log : (c : Content) (next : Origin) → IsRaisedFrom c next → lists_row next.rows g ≡ is_some (get c.decisions g)
   row_in_log c next from_c = lists_is next.rows g ∙ (ap is_some (from_c.has.rows g) ∙ ap (λ m. is_some (get m g)) from_c.rows)

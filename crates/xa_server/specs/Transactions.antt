@@ -42,12 +42,14 @@ pub data MayStandFor (g : Gtrid) (o : Origin) (seen : Seen) (Told : Branch → S
 
 -- What may become of a branch behind a session, before the next one starts, where the log that was left has a row of its transaction, or has
 -- none. Its database ends it by itself, and reports that; or forgets by itself that it did. Somebody ends it by hand, as the log says: with a
--- row it is committed, without one it is rolled back, by the database itself too, and none of them has to report that.
+-- row it is committed, without one it is rolled back, by the database itself too, and none of them has to report that. And where there is no
+-- row a database may forget that it rolled the branch back, and have it prepared again.
 pub data MayTurn (has_row : Bool) : (from to : Standing) → Type 0 where
   EndsByItself : (how : How) → MayTurn has_row Prepared (Completed how)
   ForgetsByItself : (how : How) → MayTurn has_row (Completed how) (Forgotten how)
   CommittedByHand : has_row ≡ true → MayTurn has_row Prepared Committed
   RolledBackByHand : has_row ≡ false → MayTurn has_row Prepared RolledBack
+  ForgetsItsRollback : has_row ≡ false → MayTurn has_row RolledBack Prepared
 
 -- ** all of them
 

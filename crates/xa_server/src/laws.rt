@@ -138,8 +138,8 @@ pub fn sessions_go_on<L: DecisionLog + Drop>()
 /// is no matter to it.
 ///
 /// Between two sessions its branches may be ended by hand as the log says: committed where that has the row, rolled back where it
-/// has none. A database may end a prepared branch by itself, and forget by itself that it did; and it may roll one back and forget it where
-/// the log has no row (`MayTurn`).
+/// has none. A database may end a prepared branch by itself, and forget by itself that it did. Where the log has no row it may roll one
+/// back and report nothing, or forget that it rolled one back, and have it prepared again (`MayTurn`).
 ///
 /// - `agree`: none of its branches is committed beside one that is rolled back or lost, and the log that is left decides of what is
 ///   prepared still;
