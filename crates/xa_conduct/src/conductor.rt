@@ -79,7 +79,7 @@ impl<L: DecisionLog + Drop> Conductor<L> {
             [Some(Move::Recover { rm })] => self.recover(*rm),
             [Some(Move::Page { rm, xids })] => self.hear_page(*rm, xids.as_slice()),
             [Some(Move::End { rm, report })] => self.hear_end(*rm, *report),
-            [Some(Move::Due)] => self.notes.tell_due(),
+            [Some(Move::Due)] => self.tell_due(),
             [Some(Move::Fate { gtrid })] => self.notes.tell_fate(*gtrid),
             [Some(Move::Quit)] => self.quit(),
             _ => self.move_threads(moves.as_slice()),
@@ -124,6 +124,19 @@ impl<L: DecisionLog + Drop> Conductor<L> {
         plan.done(self.notes.over.as_slice())?;
         self.notes.over.clear();
         Ok(ask_all(&mut self.server, &plan))
+    }
+
+    /// Which resource managers are to be recovered. Rows leave the log that may, since a session
+    /// that is idle has no other time for that.
+    fn tell_due(&mut self) -> Result<String, Memory>
+        requires { IsReady self.old.server.session }
+        ensures ready { IsReady self.new.server.session }
+        ensures acts { GoesOn L.moment self.old.server self.new.server }
+    {
+        if !self.ask_over()? {
+            return self.stop();
+        }
+        self.notes.tell_due()
     }
 
     /// The session ends; rows leave the log first that may.

@@ -126,7 +126,13 @@ impl<L: DecisionLog + Drop> Conductor<L> {
                 xid: name_of(branch),
             },
         };
-        ask(&mut self.server, &forget)
+        match ask(&mut self.server, &forget) {
+            // Of an earlier session's branch that no page listed the session knows too little. The page that
+            // lists it is told the call.
+            Asked::Refused | Asked::Unexplained
+                if branch.gtrid.incarnation < self.notes.incarnation => Asked::Done,
+            asked => asked,
+        }
     }
 
     /// An answer was heard: what follows from it.

@@ -86,13 +86,15 @@ impl Notes {
         }
     }
 
-    /// The recovery is over. The transactions of earlier sessions of which a branch was owed there.
+    /// The recovery is over, and another one is due if a branch is owed there still, or since. The
+    /// transactions of earlier sessions of which a branch was owed there.
     pub fn end_recovery(&mut self, rm: u32) -> Result<Vec<Gtrid>, Memory> {
+        let is_owed = self.debts.iter().any(|debt| debt.branch.rm == rm);
         let Some(recovery) = self.recoveries.get_mut(rm as usize) else {
             return Ok(Vec::new(self.alloc));
         };
         recovery.stage = Stage::Idle;
-        recovery.is_due = recovery.put_off > 0;
+        recovery.is_due = recovery.put_off > 0 || is_owed;
         Ok(Vec::from_slice(self.alloc, recovery.rows.as_slice())?)
     }
 
