@@ -65,4 +65,4 @@ rms_part (rm ∷ rms) = codes " rms" ++ spaced (rm ∷ rms)
 -- nothing, if neither the coordinator nor its resource managers have names
 abbrev pub introduction : (name : List ℕ) → (rms : List (List ℕ)) → List ℕ
 introduction [] [] = []
-introduction name rms = codes "protocol 1" ++ name_part name ++ rms_part rms ++ codes "\n"
+introduction name rms = codes "protocol 1 version 1.0.0" ++ name_part name ++ rms_part rms ++ codes "\n"

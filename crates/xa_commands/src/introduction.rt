@@ -44,7 +44,7 @@ fn introduction(alloc: Global, name: &ManagerName, rms: &[&str]) -> Result<Strin
     if name.as_slice().is_empty() && rms.is_empty() {
         return Ok(String::new(alloc));
     }
-    let mut text = String::from_str(alloc, "protocol 1")?;
+    let mut text = String::from_str(alloc, "protocol 1 version 1.0.0")?;
     push_name(alloc, &mut text, name)?;
     push_rms(&mut text, rms)?;
     text.push_str("\n")?;
