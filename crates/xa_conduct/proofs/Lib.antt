@@ -1,4 +1,5 @@
 pub mod ActLemmas
 pub mod AskedLines
+pub mod BackingLemmas
 pub mod DecidedLemmas
 pub mod PlainLemmas

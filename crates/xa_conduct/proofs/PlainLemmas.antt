@@ -29,7 +29,8 @@ branch_fits b i s t r =
     and_from (is_gtrid b.gtrid) (is_number b.thread && is_number b.rm) (gtrid_fits b.gtrid i s)
     (and_from (is_number b.thread) (is_number b.rm) (number_fits b.thread t) (number_fits b.rm r))
 
-found_back : (b : Branch) → b.gtrid.incarnation < 2 ^ 64 → b.gtrid.sequence < 2 ^ 64 → b.thread < 2 ^ 32 → b.rm < 2 ^ 32
+-- it names the branch
+pub found_back : (b : Branch) → b.gtrid.incarnation < 2 ^ 64 → b.gtrid.sequence < 2 ^ 64 → b.thread < 2 ^ 32 → b.rm < 2 ^ 32
     → branch_of_xid (xid_of_branch b) ≡ Some b
 found_back b i s t r =
     ap (λ p. branch_of_pairs p (u32_pair (xid_of_branch b).bqual)) (u64_pair-bytes b.gtrid.incarnation b.gtrid.sequence i s)

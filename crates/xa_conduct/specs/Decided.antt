@@ -17,13 +17,17 @@ abbrev pub is_commit_of : Gtrid → Request → Bool
 is_commit_of g (requests.Decide gtrids outcomes.Commit) = list_any (is_same g) gtrids
 is_commit_of g _ = false
 
--- one of the requests does
-abbrev pub IsDecided : List Request → Gtrid → Type 0
-IsDecided asked g = list_any (is_commit_of g) asked ≡ true
+abbrev pub is_rollback_of : Gtrid → Request → Bool
+is_rollback_of g (requests.Decide gtrids outcomes.Rollback) = list_any (is_same g) gtrids
+is_rollback_of g _ = false
 
--- what was decided by some requests still is by these
-abbrev pub IsKept : List Request → List Request → Type 0
-IsKept old new = (g : Gtrid) → IsDecided old g → IsDecided new g
+-- one of the requests decides it for commit
+abbrev pub CommitIsAsked : List Request → Gtrid → Type 0
+CommitIsAsked asked g = list_any (is_commit_of g) asked ≡ true
+
+-- what is among some requests is still among these
+abbrev pub AsksNoLess : (old new : List Request) → Type 0
+AsksNoLess old new = (p : Request → Bool) → list_any p old ≡ true → list_any p new ≡ true
 
 -- a report that is a vote for commit
 abbrev pub is_for : Report → Bool

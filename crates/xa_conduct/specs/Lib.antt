@@ -1,6 +1,12 @@
 pub mod Acting
+pub mod Backing
 pub mod Conducted
+pub mod Debts
 pub mod Decided
+pub mod Meaning
+pub mod Moves
 pub mod Outcomes
+pub mod Over
+pub mod Pages
 pub mod Places
 pub mod Plain

@@ -1,7 +1,8 @@
 //! What a conductor notes of its threads and resource managers. Nothing here touches the server: what is to be asked of it
 //! goes into a plan. A file for what follows from a line of moves, and one for recoveries.
 
-ghost use Rattle.std.specs.Prelude.{◌≡◌, ◌≤◌, length, IfOk};
+ghost use Rattle.std.specs.Prelude.{◌≡◌, ◌≤◌, length, IfOk, Some};
+ghost use Rattle.xa_conduct.specs.Moves.{IsOfThread, thread_of};
 
 mod outcomes;
 mod recoveries;
@@ -116,7 +117,9 @@ impl Notes {
     }
 
     /// Takes a move of a thread: what is to be asked for goes into the plan.
-    fn take(&mut self, asked: &Move, plan: &mut Plan) -> Result<Reply, Memory> {
+    fn take(&mut self, asked: &Move, plan: &mut Plan) -> Result<Reply, Memory>
+        ensures { IfOk result (IsOfThread (thread_of asked.now)) }
+    {
         match asked {
             Move::Start { thread } => self.start(*thread, plan),
             Move::Join { thread, rms } => self.join(*thread, rms.as_slice(), plan),
@@ -128,7 +131,9 @@ impl Notes {
     }
 
     /// The first transaction of a thread begins. The first thread is the recovery's.
-    fn start(&mut self, thread: u32, plan: &mut Plan) -> Result<Reply, Memory> {
+    fn start(&mut self, thread: u32, plan: &mut Plan) -> Result<Reply, Memory>
+        ensures { IfOk result (IsOfThread (Some thread)) }
+    {
         if thread == 0 || !self.may_begin() {
             return Ok(Reply::NotNow);
         }
@@ -146,7 +151,9 @@ impl Notes {
     }
 
     /// Branches began.
-    fn join(&mut self, thread: u32, rms: &[u32], plan: &mut Plan) -> Result<Reply, Memory> {
+    fn join(&mut self, thread: u32, rms: &[u32], plan: &mut Plan) -> Result<Reply, Memory>
+        ensures { IfOk result (IsOfThread (Some thread)) }
+    {
         let count = self.recoveries.len();
         match self.transactions.get_mut(thread as usize) {
             Some(transaction) if transaction.may_join(rms, count) => transaction.join(rms, plan)?,
@@ -156,7 +163,9 @@ impl Notes {
     }
 
     /// The work is over, and is to be committed.
-    fn commit(&mut self, thread: u32, plan: &mut Plan) -> Result<Reply, Memory> {
+    fn commit(&mut self, thread: u32, plan: &mut Plan) -> Result<Reply, Memory>
+        ensures { IfOk result (IsOfThread (Some thread)) }
+    {
         match self.transactions.get_mut(thread as usize) {
             Some(transaction) if transaction.may_commit() => transaction.finish(plan)?,
             _ => return Ok(Reply::NotNow),
@@ -165,7 +174,9 @@ impl Notes {
     }
 
     /// It is to be rolled back.
-    fn roll_back(&mut self, thread: u32, plan: &mut Plan) -> Result<Reply, Memory> {
+    fn roll_back(&mut self, thread: u32, plan: &mut Plan) -> Result<Reply, Memory>
+        ensures { IfOk result (IsOfThread (Some thread)) }
+    {
         match self.transactions.get_mut(thread as usize) {
             Some(transaction) if transaction.may_roll_back() => transaction.roll_back(None, plan)?,
             _ => return Ok(Reply::NotNow),
@@ -174,7 +185,9 @@ impl Notes {
     }
 
     /// The calls that were told were answered so.
-    fn tell(&mut self, thread: u32, reports: &[Report], plan: &mut Plan) -> Result<Reply, Memory> {
+    fn tell(&mut self, thread: u32, reports: &[Report], plan: &mut Plan) -> Result<Reply, Memory>
+        ensures { IfOk result (IsOfThread (Some thread)) }
+    {
         let Some(transaction) = self.transactions.get_mut(thread as usize) else {
             return Ok(Reply::NotNow);
         };
@@ -183,7 +196,7 @@ impl Notes {
         }
         transaction.hear(reports, plan, &mut self.debts)?;
         for part in transaction.parts.as_slice() {
-            if part.is_owed {
+            if part.is_owed() {
                 if let Some(recovery) = self.recoveries.get_mut(part.rm as usize) {
                     recovery.is_due = true;
                 }

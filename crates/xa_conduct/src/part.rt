@@ -1,19 +1,21 @@
 //! A branch of a transaction, and what follows from the report of its call.
 
-ghost use Rattle.std.specs.Prelude.{◌≡◌, ◌<◌, ◌≤◌, true, IfOk};
-ghost use Rattle.xa_conduct.specs.Decided.{IsDecided, IsKept};
-ghost use Rattle.xa_conduct.specs.Places.{is_asked, rank};
-ghost use Rattle.xa_conduct.specs.Plain.{is_on_branch};
+ghost use Rattle.std.specs.List.{list_any};
+ghost use Rattle.std.specs.Prelude.{◌≡◌, ◌≢◌, ◌<◌, ◌≤◌, [], true, IfOk};
+ghost use Rattle.xa_conduct.specs.Backing.{IsToldSo, KeepsBacked, asks_forget, was_asked};
+ghost use Rattle.xa_conduct.specs.Debts.{OwesNoLess, is_owed_to};
+ghost use Rattle.xa_conduct.specs.Decided.{AsksNoLess, CommitIsAsked, is_rollback_of};
+ghost use Rattle.xa_conduct.specs.Meaning.{step_of};
+ghost use Rattle.xa_conduct.specs.Places.{is_asked, is_left, rank};
+ghost use Rattle.xa_conduct.specs.declared.place.Place.TheVariants as Places;
 
-use crate::debt::{Debt, Due};
-use crate::meaning::{
-    End, Vote, commit_end_of, end_at_once_of, forget_end_of, rollback_end_of, undo_end_of, vote_of,
-};
+use crate::debt::Debt;
+use crate::meaning::{Heard, Step};
 use crate::place::Place;
 use crate::plan::Plan;
 use crate::report::Report;
 use std::alloc::AllocError;
-use xa_base::{Branch, CallKind, Code, How, RbCode};
+use xa_base::{Branch, Code, How};
 
 /// A branch of the transaction.
 #[derive(Clone, Copy, Debug)]
@@ -22,59 +24,36 @@ pub(crate) struct Part {
     pub place: Place,
     /// How it ended by itself, if it did.
     pub alone: Option<How>,
-    /// Whether its end is left to the recovery.
-    pub is_owed: bool,
-}
-
-/// What the report of a branch's call means to its transaction.
-#[derive(Clone, Copy, Debug, PartialEq, Eq)]
-pub(crate) enum Heard {
-    /// Nothing more.
-    Nothing,
-    /// It can't be committed.
-    No(RbCode),
-    /// Nor can it be if its line is lost before it voted.
-    LostVote,
-    /// It was committed in one phase.
-    Committed,
-    /// It was rolled back in place of that.
-    RolledBack(RbCode),
-    /// Its line was lost in that.
-    LostAtOnce,
-    /// Its line was lost while it was ended.
-    LostEnd,
-}
-
-impl Heard {
-    /// Whether the thread's line is lost.
-    pub fn is_line_lost(self) -> bool {
-        matches!(self, Heard::LostVote | Heard::LostAtOnce | Heard::LostEnd)
-    }
-
-    /// Why the transaction can't be committed, if it can't.
-    pub fn objection(self) -> Option<RbCode> {
-        match self {
-            Heard::No(code) => Some(code),
-            Heard::LostVote => Some(RbCode::CommFail),
-            _ => None,
-        }
-    }
 }
 
 impl Part {
     /// A branch begins.
-    pub fn new(rm: u32) -> Part {
+    pub fn new(rm: u32) -> Part
+        ensures rm { result.rm ≡ rm }
+        ensures place { result.place ≡ Places.Working }
+    {
         Part {
             rm,
             place: Place::Working,
             alone: None,
-            is_owed: false,
         }
+    }
+
+    /// Whether its end is left to the recovery.
+    pub fn is_owed(&self) -> bool
+        ensures { result ≡ is_left self.now.place }
+    {
+        matches!(self.place, Place::Owed)
     }
 
     /// Its work is to end, and it is to be prepared, unless it is already.
     pub fn prepare(&mut self, branch: Branch, plan: &mut Plan) -> Result<(), AllocError>
-        ensures { IfOk result (λ _. rank self.new.place ≤ rank self.old.place) }
+        ensures same { self.new.rm ≡ self.old.rm }
+        ensures closer { IfOk result (λ _. rank self.new.place ≤ rank self.old.place) }
+        ensures more { IfOk result (λ _.
+            AsksNoLess plan.old.requests.items plan.new.requests.items) }
+        ensures backed { IfOk result (λ _. KeepsBacked plan.old.requests.items
+            plan.new.requests.items branch self.old.place self.new.place) }
     {
         if let Place::Working = self.place {
             plan.issue_end(branch)?;
@@ -86,7 +65,12 @@ impl Part {
 
     /// Its work is to end, and it is to be committed in one phase.
     pub fn commit_at_once(&mut self, branch: Branch, plan: &mut Plan) -> Result<(), AllocError>
-        ensures { IfOk result (λ _. rank self.new.place ≤ rank self.old.place) }
+        ensures same { self.new.rm ≡ self.old.rm }
+        ensures closer { IfOk result (λ _. rank self.new.place ≤ rank self.old.place) }
+        ensures more { IfOk result (λ _.
+            AsksNoLess plan.old.requests.items plan.new.requests.items) }
+        ensures backed { IfOk result (λ _. KeepsBacked plan.old.requests.items
+            plan.new.requests.items branch self.old.place self.new.place) }
     {
         if let Place::Working = self.place {
             plan.issue_end(branch)?;
@@ -98,9 +82,13 @@ impl Part {
 
     /// It is to be committed, if it is prepared. Whether it is.
     pub fn commit(&mut self, branch: Branch, plan: &mut Plan) -> Result<bool, AllocError>
-        requires { IsDecided plan.old.requests.items branch.gtrid }
-        ensures kept { IfOk result (λ _. IsKept plan.old.requests.items plan.new.requests.items) }
+        requires { CommitIsAsked plan.old.requests.items branch.gtrid }
+        ensures same { self.new.rm ≡ self.old.rm }
         ensures closer { IfOk result (λ _. rank self.new.place ≤ rank self.old.place) }
+        ensures more { IfOk result (λ _.
+            AsksNoLess plan.old.requests.items plan.new.requests.items) }
+        ensures backed { IfOk result (λ _. KeepsBacked plan.old.requests.items
+            plan.new.requests.items branch self.old.place self.new.place) }
     {
         match self.place {
             Place::Prepared => {
@@ -114,7 +102,13 @@ impl Part {
 
     /// It is to be rolled back, unless it is over: the call that waits for that, or waits already.
     pub fn undo(&mut self, branch: Branch, plan: &mut Plan) -> Result<(), AllocError>
-        ensures { IfOk result (λ _. rank self.new.place ≤ rank self.old.place) }
+        requires { list_any (is_rollback_of branch.gtrid) plan.old.requests.items ≡ true }
+        ensures same { self.new.rm ≡ self.old.rm }
+        ensures closer { IfOk result (λ _. rank self.new.place ≤ rank self.old.place) }
+        ensures more { IfOk result (λ _.
+            AsksNoLess plan.old.requests.items plan.new.requests.items) }
+        ensures backed { IfOk result (λ _. KeepsBacked plan.old.requests.items
+            plan.new.requests.items branch self.old.place self.new.place) }
     {
         match self.place {
             Place::Working => {
@@ -140,209 +134,96 @@ impl Part {
         plan: &mut Plan,
         debts: &mut Vec<Debt>,
     ) -> Result<Heard, AllocError>
-        ensures { is_asked self.old.place ≡ true →
+        ensures same { self.new.rm ≡ self.old.rm }
+        ensures closer { is_asked self.old.place ≡ true →
             IfOk result (λ _. rank self.new.place < rank self.old.place) }
+        ensures more { IfOk result (λ _.
+            AsksNoLess plan.old.requests.items plan.new.requests.items) }
+        ensures place { IfOk result (λ _.
+            self.new.place ≡ (step_of self.old.place report).place) }
+        ensures heard { IfOk result (λ heard.
+            heard ≡ (step_of self.old.place report).heard) }
+        ensures backed { IfOk result (λ _. KeepsBacked plan.old.requests.items
+            plan.new.requests.items branch self.old.place self.new.place) }
+        // The answer is of the call that was told, or its line is lost.
+        ensures tells { is_asked self.old.place ≡ true → IfOk result (λ _.
+            IsToldSo (was_asked [] plan.new.requests.items) branch self.old.place
+            (step_of self.old.place report).code) }
+        // What is left to the recovery is owed, and nothing that was owed is forgotten.
+        ensures owed { IfOk result (λ _. self.new.place ≡ Places.Owed →
+            self.old.place ≢ Places.Owed → list_any (is_owed_to branch) debts.new.items ≡ true) }
+        ensures owes { IfOk result (λ _. OwesNoLess debts.old.items debts.new.items) }
     {
-        match self.place {
-            Place::Preparing => self.hear_vote(report, branch, plan, debts),
-            Place::AtOnce => self.hear_at_once(report, branch, plan, debts),
-            Place::Committing => self.hear_end(
-                commit_end_of(report),
-                CallKind::Commit,
-                branch,
-                plan,
-                debts,
-            ),
-            Place::RollingBack => self.hear_end(
-                rollback_end_of(report),
-                CallKind::Rollback,
-                branch,
-                plan,
-                debts,
-            ),
-            Place::Undoing => self.hear_undone(report, CallKind::Rollback, branch, plan, debts),
-            Place::Refusing => self.hear_undone(report, CallKind::Prepare, branch, plan, debts),
-            Place::Forgetting => self.hear_forgotten(report, branch, plan, debts),
-            Place::Working | Place::Prepared | Place::Over => Ok(Heard::Nothing),
+        if !self.place.is_asked() {
+            return Ok(Heard::Nothing);
         }
+        let step = self.place.step_of(report);
+        self.tell(step, branch, plan)?;
+        if let Place::Owed = step.place {
+            debts.push(Debt {
+                branch,
+                due: self.place.due(),
+            })?;
+        }
+        self.place = step.place;
+        Ok(step.heard)
     }
 
-    /// Its line is lost, and its end is left to the recovery.
-    fn lose(
-        &mut self,
-        due: Due,
-        branch: Branch,
-        plan: &mut Plan,
-        debts: &mut Vec<Debt>,
-    ) -> Result<(), AllocError>
-        ensures { IfOk result (λ _. rank self.new.place ≡ 0) }
+    /// The answer that a step tells, or the loss of the line; and what is asked for then.
+    fn tell(&mut self, step: Step, branch: Branch, plan: &mut Plan) -> Result<(), AllocError>
+        ensures rm { self.new.rm ≡ self.old.rm }
+        ensures place { self.new.place ≡ self.old.place }
+        ensures more { IfOk result (λ _.
+            AsksNoLess plan.old.requests.items plan.new.requests.items) }
+        ensures told { IfOk result (λ _. IsToldSo (was_asked [] plan.new.requests.items) branch
+            self.old.place step.code) }
+        ensures forgets { IfOk result (λ _. step.place ≡ Places.Forgetting →
+            list_any (asks_forget branch) plan.new.requests.items ≡ true) }
     {
-        plan.lose(branch)?;
-        self.owe(due, branch, debts)
-    }
-
-    /// Its end is left to the recovery.
-    fn owe(&mut self, due: Due, branch: Branch, debts: &mut Vec<Debt>) -> Result<(), AllocError>
-        ensures { IfOk result (λ _. rank self.new.place ≡ 0) }
-    {
-        self.place = Place::Over;
-        self.is_owed = true;
-        debts.push(Debt { branch, due })?;
+        if self.place.has_end() {
+            plan.ended(branch)?;
+        }
+        self.report(step.code, branch, plan)?;
+        if let Place::Forgetting = step.place {
+            plan.issue_forget(branch)?;
+            return Ok(());
+        }
         Ok(())
     }
 
-    /// xa_end and xa_prepare were made.
-    fn hear_vote(
+    /// The call that waited was answered by this code; or if there is none, its line is lost.
+    fn report(
         &mut self,
-        report: Report,
+        code: Option<Code>,
         branch: Branch,
         plan: &mut Plan,
-        debts: &mut Vec<Debt>,
-    ) -> Result<Heard, AllocError>
-        ensures { IfOk result (λ _. rank self.new.place < 4) }
+    ) -> Result<(), AllocError>
+        ensures rm { self.new.rm ≡ self.old.rm }
+        ensures place { self.new.place ≡ self.old.place }
+        ensures more { IfOk result (λ _.
+            AsksNoLess plan.old.requests.items plan.new.requests.items) }
+        ensures told { IfOk result (λ _. IsToldSo (was_asked [] plan.new.requests.items) branch
+            self.old.place code) }
     {
-        plan.ended(branch)?;
-        self.place = Place::Over;
-        match vote_of(report) {
-            Some(Vote::Yes) => {
-                plan.answer(branch, CallKind::Prepare, Code::Success)?;
-                self.place = Place::Prepared;
-                Ok(Heard::Nothing)
-            }
-            Some(Vote::ReadOnly) => {
-                plan.answer(branch, CallKind::Prepare, Code::ReadOnly)?;
-                Ok(Heard::Nothing)
-            }
-            Some(Vote::No(code)) => {
-                plan.answer(branch, CallKind::Prepare, Code::RolledBack(code))?;
-                Ok(Heard::No(code))
-            }
-            Some(Vote::Lost) | None => {
-                self.lose(Due::Rollback, branch, plan, debts)?;
-                Ok(Heard::LostVote)
-            }
-        }
-    }
-
-    /// xa_end and an xa_commit in one phase were made.
-    fn hear_at_once(
-        &mut self,
-        report: Report,
-        branch: Branch,
-        plan: &mut Plan,
-        debts: &mut Vec<Debt>,
-    ) -> Result<Heard, AllocError>
-        ensures { IfOk result (λ _. rank self.new.place < 2) }
-    {
-        plan.ended(branch)?;
-        self.place = Place::Over;
-        match end_at_once_of(report) {
-            Some(Vote::Yes) => {
-                plan.answer(branch, CallKind::Commit, Code::Success)?;
-                Ok(Heard::Committed)
-            }
-            Some(Vote::No(code)) => {
-                plan.answer(branch, CallKind::Commit, Code::RolledBack(code))?;
-                Ok(Heard::RolledBack(code))
-            }
-            Some(Vote::ReadOnly) | Some(Vote::Lost) | None => {
-                self.lose(Due::Rollback, branch, plan, debts)?;
-                Ok(Heard::LostAtOnce)
-            }
-        }
-    }
-
-    /// The call that ends a prepared branch was made.
-    fn hear_end(
-        &mut self,
-        end: Option<End>,
-        kind: CallKind,
-        branch: Branch,
-        plan: &mut Plan,
-        debts: &mut Vec<Debt>,
-    ) -> Result<Heard, AllocError>
-        requires { is_on_branch kind ≡ true }
-        ensures { IfOk result (λ _. rank self.new.place < 2) }
-    {
-        self.place = Place::Over;
-        let due = match kind {
-            CallKind::Commit => Due::Commit,
-            _ => Due::Rollback,
-        };
-        match end {
-            Some(End::Done) => {
-                plan.answer(branch, kind, Code::Success)?;
-                Ok(Heard::Nothing)
-            }
-            Some(End::Later) => {
-                plan.answer(branch, kind, Code::Retry)?;
-                self.owe(due, branch, debts)?;
-                Ok(Heard::Nothing)
-            }
-            Some(End::Alone(how)) => {
-                plan.answer(branch, kind, Code::Heuristic(how))?;
-                plan.issue_forget(branch)?;
-                self.alone = Some(how);
-                self.place = Place::Forgetting;
-                Ok(Heard::Nothing)
-            }
-            Some(End::Lost) | None => {
-                self.lose(due, branch, plan, debts)?;
-                Ok(Heard::LostEnd)
-            }
-        }
-    }
-
-    /// A branch that isn't prepared was rolled back: xa_end is answered, and the call behind it.
-    fn hear_undone(
-        &mut self,
-        report: Report,
-        kind: CallKind,
-        branch: Branch,
-        plan: &mut Plan,
-        debts: &mut Vec<Debt>,
-    ) -> Result<Heard, AllocError>
-        requires { is_on_branch kind ≡ true }
-        ensures { IfOk result (λ _. rank self.new.place < 2) }
-    {
-        plan.ended(branch)?;
-        self.place = Place::Over;
-        match undo_end_of(report) {
-            Some(End::Done) => {
-                let code = match kind {
-                    CallKind::Prepare => Code::RolledBack(RbCode::Rollback),
-                    _ => Code::Success,
-                };
+        let kind = self.place.kind();
+        match code {
+            Some(code) => {
+                self.alone = how_of(code, self.alone);
                 plan.answer(branch, kind, code)?;
-                Ok(Heard::Nothing)
+                Ok(())
             }
-            _ => {
-                self.lose(Due::Rollback, branch, plan, debts)?;
-                Ok(Heard::LostEnd)
+            None => {
+                plan.lose(branch)?;
+                Ok(())
             }
         }
     }
+}
 
-    /// A branch that ended by itself was forgotten.
-    fn hear_forgotten(
-        &mut self,
-        report: Report,
-        branch: Branch,
-        plan: &mut Plan,
-        debts: &mut Vec<Debt>,
-    ) -> Result<Heard, AllocError>
-        ensures { IfOk result (λ _. rank self.new.place ≡ 0) }
-    {
-        self.place = Place::Over;
-        match forget_end_of(report) {
-            Some(End::Done) => {
-                plan.answer(branch, CallKind::Forget, Code::Success)?;
-                Ok(Heard::Nothing)
-            }
-            _ => {
-                self.lose(Due::Forget, branch, plan, debts)?;
-                Ok(Heard::LostEnd)
-            }
-        }
+/// How a branch ended by itself that was answered so, if it did.
+fn how_of(code: Code, before: Option<How>) -> Option<How> {
+    match code {
+        Code::Heuristic(how) => Some(how),
+        _ => before,
     }
 }

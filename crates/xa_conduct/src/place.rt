@@ -3,11 +3,6 @@
 ghost use Rattle.std.specs.Prelude.{◌≡◌};
 ghost use Rattle.xa_conduct.specs.Places.{is_asked};
 
-use crate::meaning::{
-    commit_end_of, end_at_once_of, forget_end_of, rollback_end_of, undo_end_of, vote_of,
-};
-use crate::report::Report;
-
 /// How far a branch has come: which of its calls wait on its line, and so, which one its driver was told to make.
 #[derive(Clone, Copy, Debug, PartialEq, Eq)]
 pub(crate) enum Place {
@@ -29,8 +24,10 @@ pub(crate) enum Place {
     Refusing,
     /// It ended by itself; xa_forget waits.
     Forgetting,
-    /// It is over, or its end is left to the recovery.
+    /// It is over.
     Over,
+    /// Its end is left to the recovery.
+    Owed,
 }
 
 impl Place {
@@ -46,20 +43,7 @@ impl Place {
             | Place::Undoing
             | Place::Refusing
             | Place::Forgetting => true,
-            Place::Working | Place::Prepared | Place::Over => false,
-        }
-    }
-
-    /// Whether there is such an answer to the call that was told.
-    pub fn takes(self, report: Report) -> bool {
-        match self {
-            Place::Preparing => vote_of(report).is_some(),
-            Place::AtOnce => end_at_once_of(report).is_some(),
-            Place::Committing => commit_end_of(report).is_some(),
-            Place::RollingBack => rollback_end_of(report).is_some(),
-            Place::Undoing | Place::Refusing => undo_end_of(report).is_some(),
-            Place::Forgetting => forget_end_of(report).is_some(),
-            Place::Working | Place::Prepared | Place::Over => false,
+            Place::Working | Place::Prepared | Place::Over | Place::Owed => false,
         }
     }
 
@@ -72,7 +56,7 @@ impl Place {
             Place::RollingBack => "rollback",
             Place::Undoing | Place::Refusing => "undo",
             Place::Forgetting => "forget",
-            Place::Working | Place::Prepared | Place::Over => "",
+            Place::Working | Place::Prepared | Place::Over | Place::Owed => "",
         }
     }
 }

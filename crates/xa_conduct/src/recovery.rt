@@ -1,6 +1,7 @@
 //! The recovery of a resource manager: page, resolve, the calls, and what is owed.
 
 ghost use Rattle.std.specs.Prelude.{◌≡◌, true};
+ghost use Rattle.xa_conduct.specs.Pages.{BeganBefore};
 ghost use Rattle.xa_conduct.specs.Plain.{is_on_branch};
 
 use crate::debt::Debt;
@@ -73,7 +74,7 @@ impl Recovery {
 #[derive(Clone, Copy, Debug, PartialEq, Eq)]
 pub(crate) enum Listed {
     /// A branch of an earlier session: the log decides.
-    Earlier,
+    Earlier(Branch),
     /// One of this session, which ends it by itself.
     Own,
     /// Another's.
@@ -83,11 +84,13 @@ pub(crate) enum Listed {
 }
 
 /// What it is that a resource manager lists, in this incarnation, in which so many transactions have begun.
-pub(crate) fn listed_as(xid: &Xid, rm: u32, incarnation: u64, begun: u64) -> Listed {
+pub(crate) fn listed_as(xid: &Xid, rm: u32, incarnation: u64, begun: u64) -> Listed
+    ensures { BeganBefore incarnation result }
+{
     match xid.branch() {
         Some(branch) if branch.rm == rm => {
             if branch.gtrid.incarnation < incarnation {
-                Listed::Earlier
+                Listed::Earlier(branch)
             } else if branch.gtrid.incarnation == incarnation && branch.gtrid.sequence <= begun {
                 Listed::Own
             } else {

@@ -1,13 +1,16 @@
 //! The transaction of a thread, and how far it has come. Nothing here touches the server: what is to be asked of it goes
 //! into a plan.
 
-ghost use Rattle.std.specs.Prelude.{◌≡◌, ◌<◌, ◌≤◌, true, length, IfOk};
+ghost use Rattle.std.specs.Prelude.{◌≡◌, ◌<◌, ◌≤◌, true, false, length, IfOk};
 ghost use Rattle.std.specs.List.{list_all, list_any};
-ghost use Rattle.xa_conduct.specs.Decided.{IsDecided, IsKept, is_for};
+ghost use Rattle.xa_conduct.specs.Backing.{standing_after};
+ghost use Rattle.xa_conduct.specs.Decided.{AsksNoLess, CommitIsAsked, is_for};
+ghost use Rattle.xa_conduct.specs.Over.{has_calls, has_left, is_over};
 ghost use Rattle.xa_conduct.specs.declared.transaction.Standing.TheVariants as Standings;
 
 use crate::debt::Debt;
-use crate::part::{Heard, Part};
+use crate::meaning::Heard;
+use crate::part::Part;
 use crate::place::Place;
 use crate::plan::Plan;
 use crate::report::Report;
@@ -127,21 +130,38 @@ impl Transaction {
     }
 
     /// Whether calls were told that are yet to be answered.
-    pub fn is_asked(&self) -> bool {
+    pub fn is_asked(&self) -> bool
+        ensures { result ≡ has_calls self.now }
+    {
         self.parts.iter().any(|part| part.place.is_asked())
     }
 
     /// Whether the transaction is over: decided, with nothing more to be answered.
-    pub fn is_over(&self) -> bool {
+    pub fn is_over(&self) -> bool
+        ensures { result ≡ is_over self.now }
+    {
         match self.standing {
             Standing::Idle | Standing::Open | Standing::Ready => false,
             Standing::Committed | Standing::RolledBack(_) | Standing::Unknown => !self.is_asked(),
         }
     }
 
+    /// Whether the end of a branch is left to the recovery.
+    fn has_left(&self) -> bool
+        ensures { result ≡ has_left self.now }
+    {
+        self.parts.iter().any(|part| part.is_owed())
+    }
+
     /// Whether it is over with a row that no branch needs any more.
-    pub fn has_spare_row(&self) -> bool {
-        self.has_row && self.is_over() && !self.parts.iter().any(|part| part.is_owed)
+    pub fn has_spare_row(&self) -> bool
+        ensures over { result ≡ true → is_over self.now ≡ true }
+        ensures left { result ≡ true → has_left self.now ≡ false }
+    {
+        if self.has_left() {
+            return false;
+        }
+        self.has_row && self.is_over()
     }
 
     /// Whether there is a branch at the resource manager.
@@ -180,7 +200,8 @@ impl Transaction {
     fn prepare(&mut self, plan: &mut Plan) -> Result<(), AllocError> {
         let gtrid = self.gtrid;
         let thread = self.thread;
-        for part in self.parts.as_mut_slice() {
+        let parts = self.parts.as_mut_slice();
+        for part in parts {
             let rm = part.rm;
             part.prepare(Branch { gtrid, thread, rm }, plan)?;
         }
@@ -195,7 +216,8 @@ impl Transaction {
         }
         let gtrid = self.gtrid;
         let thread = self.thread;
-        for part in self.parts.as_mut_slice() {
+        let parts = self.parts.as_mut_slice();
+        for part in parts {
             let rm = part.rm;
             part.commit_at_once(Branch { gtrid, thread, rm }, plan)?;
         }
@@ -215,7 +237,8 @@ impl Transaction {
         self.has_moved = true;
         self.standing = Standing::RolledBack(why);
         plan.decide(&[gtrid], Outcome::Rollback)?;
-        for part in self.parts.as_mut_slice() {
+        let parts = self.parts.as_mut_slice();
+        for part in parts {
             let rm = part.rm;
             part.undo(Branch { gtrid, thread, rm }, plan)?;
         }
@@ -225,13 +248,15 @@ impl Transaction {
     /// It is decided to commit: each prepared branch is to be committed.
     pub fn commit(&mut self, plan: &mut Plan) -> Result<(), AllocError>
         requires ready { self.old.standing ≡ Standings.Ready }
-        requires decided { IsDecided plan.old.requests.items self.old.gtrid }
-        ensures kept { IfOk result (λ _. IsKept plan.old.requests.items plan.new.requests.items) }
+        requires decided { CommitIsAsked plan.old.requests.items self.old.gtrid }
+        ensures kept { IfOk result (λ _.
+            AsksNoLess plan.old.requests.items plan.new.requests.items) }
     {
         let gtrid = self.gtrid;
         let thread = self.thread;
         self.standing = Standing::Committed;
-        for part in self.parts.as_mut_slice() {
+        let parts = self.parts.as_mut_slice();
+        for part in parts {
             let rm = part.rm;
             if part.commit(Branch { gtrid, thread, rm }, plan)? {
                 self.has_row = true;
@@ -290,7 +315,8 @@ impl Transaction {
         let thread = self.thread;
         let mut reports = reports.iter();
         let mut why = None;
-        for part in self.parts.as_mut_slice() {
+        let parts = self.parts.as_mut_slice();
+        for part in parts {
             if !part.place.is_asked() {
                 continue;
             }
@@ -314,7 +340,9 @@ impl Transaction {
 }
 
 /// How a transaction stands that stood so, once a branch at a resource manager was heard.
-fn standing_after(standing: Standing, heard: Heard, rm: u32) -> Standing {
+fn standing_after(standing: Standing, heard: Heard, rm: u32) -> Standing
+    ensures { result ≡ standing_after standing heard rm }
+{
     match heard {
         Heard::Committed => Standing::Committed,
         Heard::RolledBack(code) => Standing::RolledBack(Some((code, rm))),

@@ -55,7 +55,7 @@ fn is_mixed(how: How, standing: Standing) -> bool {
 fn add_parts(text: &mut String, alloc: Global, transaction: &Transaction) -> Result<(), Memory> {
     let mut is_first = true;
     for part in transaction.parts.as_slice() {
-        if part.is_owed {
+        if part.is_owed() {
             if is_first {
                 text.push_str(" owed")?;
                 is_first = false;

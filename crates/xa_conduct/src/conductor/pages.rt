@@ -3,6 +3,7 @@
 ghost use Rattle.std.specs.Prelude.{◌≡◌, ◌≤◌, length, true, IfOk};
 ghost use Rattle.std.specs.List.{list_all};
 ghost use Rattle.xa_conduct.specs.Acting.{GoesOn};
+ghost use Rattle.xa_conduct.specs.Pages.{is_earlier};
 ghost use Rattle.xa_conduct.specs.Plain.{is_own};
 ghost use Rattle.xa_session.specs.Session.{IsReady};
 
@@ -96,6 +97,7 @@ impl<L: DecisionLog + Drop> Conductor<L> {
     fn resolve(&mut self, rm: u32, earlier: Vec<Xid>) -> Result<String, Memory>
         requires own { list_all is_own earlier.items ≡ true }
         requires few { length earlier.items ≤ 32 }
+        requires earlier { list_all (is_earlier self.old.notes.incarnation) earlier.items ≡ true }
         requires ready { IsReady self.old.server.session }
         ensures ready { IsReady self.new.server.session }
         ensures acts { GoesOn L.moment self.old.server self.new.server }
@@ -170,13 +172,13 @@ fn strange_in<'a>(notes: &Notes, rm: u32, xids: &'a [Xid]) -> Option<&'a Xid> {
 fn earlier_in(notes: &Notes, rm: u32, xids: &[Xid]) -> Result<Vec<Xid>, Memory>
     ensures own { IfOk result (λ earlier. list_all is_own earlier.items ≡ true) }
     ensures few { IfOk result (λ earlier. length earlier.items ≤ length xids.now) }
+    ensures earlier { IfOk result (λ earlier.
+        list_all (is_earlier notes.now.incarnation) earlier.items ≡ true) }
 {
     let mut earlier = Vec::with_capacity(notes.alloc, xids.len())?;
     for xid in xids {
-        if notes.listed_as(xid, rm) == Listed::Earlier {
-            if let Some(branch) = xid.branch() {
-                earlier.push(name_of(branch))?;
-            }
+        if let Listed::Earlier(branch) = notes.listed_as(xid, rm) {
+            earlier.push(name_of(branch))?;
         }
     }
     Ok(earlier)

@@ -1,5 +1,7 @@
 //! What is noted of recoveries.
 
+ghost use Rattle.xa_conduct.specs.Pages.{BeganBefore};
+
 use super::Notes;
 use crate::debt::{Debt, Due};
 use crate::recovery::{Listed, Recovery, Stage, add_row, listed_as};
@@ -34,7 +36,9 @@ impl Notes {
     }
 
     /// What a resource manager's list says of a branch.
-    pub fn listed_as(&self, xid: &Xid, rm: u32) -> Listed {
+    pub fn listed_as(&self, xid: &Xid, rm: u32) -> Listed
+        ensures { BeganBefore self.now.incarnation result }
+    {
         listed_as(xid, rm, self.incarnation, self.begun)
     }
 
