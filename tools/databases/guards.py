@@ -13,10 +13,11 @@ import textwrap
 import threading
 import time
 
+from moments import before_a_move, behind_the_decision
 from servers import MariaDBServer, PostgreSQLServer
 from world import HERE, TOP
 
-from garterfossil import EndRefused, HeuristicEnd, RolledBack, SetupError, XaError
+from garterfossil import Code, EndRefused, HeuristicEnd, RolledBack, SetupError, XaError
 
 BOTH, NEITHER = [True, True], [False, False]
 #: A program that moves money on four threads, or on the main one with a timer, until it is ended or its time is over.
@@ -120,17 +121,15 @@ class Guards:
     def killed_in_the_second_phase(self, mark):
         """A decided transaction of which the second database hasn't heard."""
         xa = self.manager()
-        decide = xa._session.commits.decide
 
-        def decided(*words):
-            decide(*words)
+        def gone():
             # All is gone but what is on disk.
             xa._session.coordinator.kill()
             for lines in xa._session._lines:
                 for line in lines:
                     line.close()
 
-        xa._session.commits.decide = decided
+        behind_the_decision(xa, gone)
         with contextlib.suppress(XaError), xa.transaction() as t:
             self.write(t, mark)
         xa._is_closed = True
@@ -211,31 +210,28 @@ class Guards:
             with xa.transaction() as t:
                 self.write(t, mark)
                 xid = t[rm].xid
-                decide = xa._session.commits.decide
-
-                def by_hand(*words):
-                    if end == "rollback":
-                        self.end(xa, server, t, rm)
-                        raise XaError("no")
-                    decide(*words)
-                    self.end(xa, server, t, rm)
-
-                xa._session.commits.decide = by_hand
+                if end == "commit":
+                    behind_the_decision(xa, lambda: self.end(xa, server, t, rm))
+                else:
+                    # The other one votes no, and before that is told this one is ended.
+                    other = t._hands.parts[1 - rm].connection
+                    other._prepare = lambda it: other._roll_back(it) or Code.RBOTHER
+                    before_a_move(xa, "tell", lambda: self.end(xa, server, t, rm))
         except XaError as error:
             said = type(error), "by hand" in str(error)
         return [*(said or [None, None]), xid]
 
     def end(self, xa, server, t, rm):
         """Another connection rolls the branch back. MariaDB lets it do so only once the branch's own is gone."""
-        line = t._branches[rm].line
+        part = t._hands.parts[rm]
         if isinstance(server, MariaDBServer):
-            line.connection._close()
-            line.connection._is_over()
-            line.connection = line.rm.connect()
+            part.connection._close()
+            part.connection._is_over()
+            part.connection = part.line.connection = part.line.rm.connect()
         connection = server.database().connect()
         for _ in range(50):
             with contextlib.suppress(XaError):
-                connection._roll_back_prepared(t._branches[rm].xid)
+                connection._roll_back_prepared(part.xid)
                 break
             time.sleep(0.1)
         connection.close()
@@ -261,13 +257,7 @@ class Guards:
 
     def a_stopped_coordinator(self):
         with self.manager(patience=2.0) as xa:
-            decide = xa._session.commits.decide
-
-            def stopped(*words):
-                os.kill(xa._session.coordinator.pid, signal.SIGSTOP)
-                decide(*words)
-
-            xa._session.commits.decide = stopped
+            before_a_move(xa, "tell", lambda: os.kill(xa._session.coordinator.pid, signal.SIGSTOP))
             begun = time.monotonic()
             with contextlib.suppress(XaError), xa.transaction() as t:
                 self.write(t, "stopped")
@@ -286,7 +276,7 @@ class Guards:
                 self.write(t, "lost")
                 self.world.servers[0].database().end_connections(
                     [line.connection.number for line in xa._session.lines_to(xa._session._rms[0])
-                     if line.connection is not None and line is not t._branches[0].line],
+                     if line.connection is not None and line is not t._hands.parts[0].line],
                     xa._session._rms[0].place,
                 )  # fmt: skip
                 self.write(t, "lost 2")

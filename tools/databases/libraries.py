@@ -17,19 +17,20 @@ BOTH, NEITHER = [True, True], [False, False]
 #: A driver that ends after its decision to commit, or before it.
 CRASHES = """
     import os, sys
+    from moments import before_a_move, behind_the_decision
     from world import World
     world = World.found(sys.argv[1])
     xa = world.manager(2)
     with xa.transaction() as t:
         for rm in (0, 1):
             t[rm].execute("INSERT INTO moved VALUES (%s, 1)", [t.gtrid])
-        decide = xa._session.commits.decide
-        def decided(*words):
-            if sys.argv[2] == "after":
-                decide(*words)
+        def ends():
             print(t.gtrid, flush=True)
             os._exit(1)
-        xa._session.commits.decide = decided
+        if sys.argv[2] == "after":
+            behind_the_decision(xa, ends)
+        else:
+            before_a_move(xa, "tell", ends)
 """
 
 

@@ -84,15 +84,15 @@ class Service:
 
 
 def see_apart(world, texts):
-    """How many answers of a database no state of a branch explained: another manager would have ended the branch."""
-    return sum(text.count("the branch is in no such state") for text in texts)
+    """How many branches somebody else has ended, by the drivers' notes: it would be another manager."""
+    return sum(text.count("ended it by hand") for text in texts)
 
 
 def found_wrong(part, world, unexplained, failed):
     found = world.look()
     for name, count in found.items():
         print(f"{part}: {count} {name}")
-    print(f"{part}: {unexplained} answers that no state of the branch explains, {failed} that failed otherwise")
+    print(f"{part}: {unexplained} branches that somebody else ended, {failed} that failed otherwise")
     wrong = found["in one and not the other, or different"] + found["told, and otherwise in the databases"] + found["in doubt"]
     return wrong + failed + unexplained + (found["sum"] != SUM)
 

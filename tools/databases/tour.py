@@ -1,29 +1,29 @@
 """Stories over two databases: how a transaction ends where everything goes well, and where something goes wrong at each of its
 moments. Each is looked at in the databases."""
 
-import functools
 import logging
 import os
+import subprocess
 import threading
 import time
 
-import garterfossil.rows
 from garterfossil import HeuristicEnd, Outcome, OutcomeUnknown, RolledBack, SetupError, XaError
 from garterfossil.adapters.base import Place
 from garterfossil.adapters.postgresql import PostgreSQL
 from garterfossil.calls import Call
+from moments import before_a_call, before_a_move, behind_the_decision
 from proxy import Proxy
 from world import ACCOUNTS
 
 BOTH, NEITHER = [True, True], [False, False]
 SECOND_ONE = "INSERT INTO once VALUES (1)"
-BEHIND = "behind the decision"
+BEHIND, ACKNOWLEDGED = "behind the decision", "behind the acknowledgements"
 #: For how many seconds a database that goes silent is waited for.
 PATIENCE = 2.0
 
 
 def when(moment):
-    return moment if moment == BEHIND else f"before {moment}"
+    return moment if moment in (BEHIND, ACKNOWLEDGED) else f"before {moment}"
 
 
 class Tour:
@@ -57,39 +57,22 @@ class Tour:
         for rm in rms:
             t[rm].execute("INSERT INTO moved VALUES (%s, 1)", [t.gtrid])
 
-    def before(self, moment, do, xa):
-        """Has something done before the first call of this name at a database, or the first request of it to the coordinator."""
-        session = xa._session
-        places = [(session.coordinator, "post")]
-        if moment.startswith("xa_"):
-            places = [(line, name) for lines in session._lines for line in lines for name in ("send", "_answer_to")]
-        for place, name in places:
-            setattr(place, name, functools.partial(self.done_before, getattr(place, name), moment, do))
-
-    def done_before(self, step, moment, do, words, *more):
-        if moment in str(words) and do:
-            do.pop()()
-        return step(words, *more)
-
     def at(self, moment, do, xa=None):
-        """Has something done at a moment: before the first call or request of this name, or behind the decision to commit."""
+        """Has something done at a moment: before the first call or move of this name, behind the decision to commit, or once both have
+        acknowledged and the coordinator hasn't heard of it."""
         xa = xa or self.xa
-        if moment != BEHIND:
-            self.before(moment, [do], xa)
-            return
-        commits = xa._session.commits
-        decide = commits.decide
-
-        def decided(*words):
-            commits.decide = decide
-            decide(*words)
-            do()
-
-        commits.decide = decided
+        if moment == BEHIND:
+            behind_the_decision(xa, do)
+        elif moment == ACKNOWLEDGED:
+            behind_the_decision(xa, lambda: before_a_move(xa, "tell", do))
+        elif moment.startswith("xa_"):
+            before_a_call(xa, moment, do)
+        else:
+            before_a_move(xa, moment, do)
 
     def lose(self, t, rm):
         """The connection of a branch is ended at the database, and what it had under way with it."""
-        line = t._branches[rm].line
+        line = t._hands.parts[rm].line
         others = [other.connection.number for other in self.xa._session.lines_to(line.rm)
                   if other.connection not in (None, line.connection)]
         self.world.servers[rm].database().end_connections(others, line.rm.place)
@@ -159,7 +142,7 @@ class Tour:
             self.told(f"a deadlock {name}", t, BOTH if t.outcome.value == "committed" else NEITHER)
 
     def connections_are_lost(self):
-        moments = [("xa_end", NEITHER), ("xa_prepare", NEITHER), ("decide", BOTH), (BEHIND, BOTH)]
+        moments = [("xa_end", NEITHER), ("xa_prepare", NEITHER), ("tell", BOTH), (BEHIND, BOTH)]
         for rm in (0, 1):
             for moment, wanted in moments:
                 try:
@@ -172,7 +155,7 @@ class Tour:
 
     def databases_go_down(self):
         for rm, server in enumerate(self.world.servers):
-            for moment, wanted in [("xa_prepare", NEITHER), ("decide", BOTH), (BEHIND, BOTH)]:
+            for moment, wanted in [("xa_prepare", NEITHER), ("tell", BOTH), (BEHIND, BOTH)]:
                 self.xa.close()
                 self.xa = self.world.manager(2, patience=1.0)
                 try:
@@ -186,7 +169,7 @@ class Tour:
                 self.told(f"database {rm} is killed {when(moment)}", t, wanted)
 
     def coordinator_ends(self):
-        for moment, wanted in [("xa_prepare", NEITHER), ("decide", NEITHER), (BEHIND, BOTH), ("done", BOTH)]:
+        for moment, wanted in [("xa_prepare", NEITHER), ("tell", NEITHER), (BEHIND, BOTH), (ACKNOWLEDGED, BOTH)]:
             try:
                 with self.xa.transaction() as t:
                     self.write(t, 0, 1)
@@ -344,7 +327,7 @@ class Tour:
         proxies = [Proxy(server.socket()) for server in self.world.servers]
         databases = [server.database_at(proxy.port) for server, proxy in zip(self.world.servers, proxies)]
         for rm, proxy in enumerate(proxies):
-            for moment, wanted in [("work", NEITHER), ("xa_prepare", NEITHER), ("decide", BOTH), (BEHIND, BOTH)]:
+            for moment, wanted in [("work", NEITHER), ("xa_prepare", NEITHER), ("tell", BOTH), (BEHIND, BOTH)]:
                 self.xa = self.world.manager(2, PATIENCE, databases)
                 seconds, t = self.silent_in(moment, rm, proxy)
                 self.in_time(f"a block whose database {rm} goes silent {when(moment)}", seconds, 3 * PATIENCE)
@@ -400,49 +383,27 @@ class Tour:
             self.told("the next transaction", t, BOTH)
 
     def claims(self):
-        """Requests that the package doesn't use: a claim, and a recovery in the middle of a session."""
-        session = self.xa._session
+        """Requests that no move leads to: a claim, and a recovery in the middle of a session. They are asked for line by line."""
         for end, wanted in (("settle", BOTH), ("abandon", NEITHER), ("resolve-open", NEITHER)):
-            with self.xa.transaction() as t:
-                self.write(t, 0, 1)
-                branches = list(t._branches.values())
-                for branch in branches:
-                    branch.issue_prepare()
-                    branch.end()
-                    branch.prepare()
-                    branch.line.see_heard()
+            with Asked(self.world) as session:
+                session.prepare_both()
                 if end == "resolve-open":
-                    self.resolve_open(t)
+                    session.resolve_open()
                 else:
-                    session.coordinator.ask(f"claim {t.gtrid}")
-                    session.coordinator.ask(f"{end} {t.gtrid}")
-                    for branch in branches:
-                        branch.line.call(Call("xa_commit" if end == "settle" else "xa_rollback", branch.xid))
-                        branch.line.see_heard()
-                t.outcome = type(t.outcome).COMMITTED if wanted == BOTH else type(t.outcome).ROLLED_BACK
-            self.told(f"{end}", t, wanted)
-
-    def resolve_open(self, t):
-        """Both branches are rolled back while they are open, from the first thread's lines."""
-        session = self.xa._session
-        for rm in (0, 1):
-            line = session.line(0, rm)
-            if line is not t._branches[rm].line:
-                # MariaDB lets no other connection end the branch while its own one lives.
-                t._branches[rm].line.lose()
-            # The driver's own scans leave out what their session has prepared.
-            line.make_ready().scanned_before = None
-            line.call(Call("xa_recover", count=32, flags=("TMSTARTRSCAN", "TMENDRSCAN")))
-            line.see_heard()
-            for _ in range(int(session.coordinator.ask(f"resolve-open {rm}").split(" ")[1])):
-                line.make(session.coordinator.waiting(0, rm))
-            line.see_heard()
+                    session.ask(f"claim {session.gtrid}")
+                    session.ask(f"{end} {session.gtrid}")
+                    for rm in (0, 1):
+                        session.call(1, rm, f"xa_{'commit' if end == 'settle' else 'rollback'} {session.gtrid}")
+            found = self.holds(f"asked{session.gtrid}")
+            self.stories += 1
+            self.wrong += found != wanted
+            print(f"{'ok   ' if found == wanted else 'WRONG'} {end}: {found}", flush=True)
 
     def ended_by_hand(self):
         """An administrator rolls a prepared branch back, against the decision. Neither database tells."""
         def by_hand():
             connection = self.world.servers[0].database().connect()
-            connection._roll_back_prepared(t._branches[0].xid)
+            connection._roll_back_prepared(t[0].xid)
             connection.close()
 
         raised = "nothing was raised"
@@ -456,11 +417,72 @@ class Tour:
         print(f"told  a branch is rolled back by hand, against the decision: {self.holds(t.gtrid)}; {raised}")
 
 
+class Asked:
+    """A session that is asked for requests (docs/SERVE.md), with a connection for each of its lines, over a log of its own."""
+
+    def __init__(self, world):
+        self.world, self.connections = world, {}
+        command = [world.coordinator, "serve", "--name", "asked", "--log", f"{world.home}/asked.db", "2", "2"]
+        self.process = subprocess.Popen(command, stdin=subprocess.PIPE, stdout=subprocess.PIPE, text=True)
+        while not self.process.stdout.readline().startswith("restarted "):
+            pass
+        self.gtrid = self.ask("begin 1").split(" ")[1]
+
+    def __enter__(self):
+        return self
+
+    def __exit__(self, *_):
+        self.process.communicate("quit\n")
+        for connection in self.connections.values():
+            connection.close()
+
+    def ask(self, request):
+        self.process.stdin.write(f"{request}\n")
+        self.process.stdin.flush()
+        reply = self.process.stdout.readline().rstrip("\n")
+        if reply.startswith(("refused", "error", ";")) or not reply:
+            raise ValueError(f"{request}: {reply}")
+        return reply
+
+    def open(self, thread, rm):
+        self.ask(f"issue {thread} {rm} xa_open")
+        self.connections[thread, rm] = self.world.servers[rm].database().connect(Place("asked", rm))
+        self.ask(f"answer {thread} {rm} xa_open 0")
+
+    def call(self, thread, rm, text):
+        """Issues a call, and makes it."""
+        return self.make(thread, rm, self.ask(f"issue {thread} {rm} {text}").partition(" ")[2])
+
+    def make(self, thread, rm, text):
+        call = Call.parse(text)
+        answer = self.connections[thread, rm].do(call)
+        self.ask(f"answer {thread} {rm} {answer.words_to(call)}")
+
+    def prepare_both(self):
+        for rm in (0, 1):
+            self.open(1, rm)
+            self.call(1, rm, f"xa_start {self.gtrid}")
+            self.connections[1, rm].execute("INSERT INTO moved VALUES (%s, 1)", [f"asked{self.gtrid}"])
+        for call in ("xa_end {} TMSUCCESS", "xa_prepare {}"):
+            for rm in (0, 1):
+                self.call(1, rm, call.format(self.gtrid))
+
+    def resolve_open(self):
+        """Both branches are rolled back while they are open, from the first thread's lines. MariaDB lets no other connection end a branch
+        while its own one lives."""
+        for rm in (0, 1):
+            database = self.world.servers[rm].database()
+            database.end_connections([], Place("asked", rm))
+            self.ask(f"crash line 1 {rm}")
+            self.open(0, rm)
+            self.call(0, rm, "xa_recover 32 TMSTARTRSCAN TMENDRSCAN")
+            for _ in range(int(self.ask(f"resolve-open {rm}").split(" ")[1])):
+                self.make(0, rm, self.ask(f"waiting 0 {rm}").partition(" ")[2])
+
+
 def run(world):
     """Prints each story. How many were wrong."""
     logging.getLogger("garterfossil").setLevel(logging.CRITICAL)
-    # A row leaves the log at once, so that its moment can be met.
-    garterfossil.rows.AT_ONCE = 1
     tour = Tour(world)
     tour.goes_well()
     tour.only_reads()

@@ -11,12 +11,12 @@ import queue
 import signal
 import sys
 import threading
-from typing import Any, Callable, Optional, TypeVar, cast
+from typing import Any, Callable, List, Optional, Sequence, TypeVar, cast
 
 T = TypeVar("T")
 
 #: So many threads that have nothing to do are kept.
-MOST_IDLE = 2
+MOST_IDLE = 16
 
 
 class _Job:
@@ -124,6 +124,27 @@ def _after_fork() -> None:
 def aside(step: Callable[[], T], may_leave: bool = False) -> T:
     """Does a step beside the main thread, if that asks for it (`Aside.do`)."""
     return ASIDE.do(step, may_leave)
+
+
+def side_by_side(steps: Sequence[Callable[[], T]]) -> List[T]:
+    """Does steps at the same time, all but the first on threads of their own, and waits for all of them: what each gives."""
+    jobs = [_Job(step) for step in steps[1:]]
+    for job in jobs:
+        try:
+            ASIDE.give(job)
+        except RuntimeError:
+            # There is no thread to be had any more, as at the interpreter's end.
+            job.do()
+    try:
+        first = [step() for step in steps[:1]]
+    finally:
+        for job in jobs:
+            while not job.is_over:
+                job.is_done.acquire()
+    for job in jobs:
+        if job.error is not None:
+            raise job.error
+    return [*first, *(cast(T, job.result) for job in jobs)]
 
 
 def is_interrupt(error: BaseException) -> bool:

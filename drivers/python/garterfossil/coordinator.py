@@ -1,4 +1,4 @@
-"""The coordinator: `xatm serve`, a process that this one starts and asks (docs/SERVE.md)."""
+"""The coordinator: `xatm serve --moves`, a process that this one starts, and that says which call comes next (docs/MOVES.md)."""
 
 from __future__ import annotations
 
@@ -12,20 +12,19 @@ import subprocess
 import threading
 import time
 import weakref
-from typing import Deque, Iterable, List, Optional, Sequence, Tuple
+from typing import Deque, List, Optional, Sequence, Tuple
 
-from .calls import Call
-from .errors import CoordinatorGone, LogInUse, Refused, RequestError, SetupError, Unexplained, XaError
+from .errors import CoordinatorGone, LogInUse, NotNow, SetupError
 from .logs import Names, fault_of_log, is_disk_full, is_log_in_use
-from .xid import Xid
 
 log = logging.getLogger("garterfossil")
 
-#: Refusals by their number (docs/PROTOCOL.md).
-MANAGER_DOWN, UNKNOWN_TRANSACTION, LOG_FAULT = 1, 5, 15
 #: The coordinator ends so where another one has the log, or the log can't be opened. The status is told as 0 where the program takes
 #: those of all its children itself, as gunicorn does while `post_fork` runs.
 LOG_STATUSES = (2, 0)
+#: It ends so where it doesn't know the words that it is started with.
+WRONG_WORDS = 3
+OLDER = "the coordinator {} is older than this driver: program= is to be the xatm that it came with"
 #: What it says of a log that is another's, or of which only a part is there, before the path and the reason.
 REFUSED_LOG = "xatm: log: "
 #: What the file doesn't tell.
@@ -34,50 +33,43 @@ OTHER_FAULTS = "it is of another version, or damaged, or the disk is full"
 SHORTEST, LONGEST_GREETING, LONGEST_END = 2.0, 30.0, 10.0
 #: The version of the protocol that this driver speaks.
 PROTOCOL = "1"
-#: Stands between the requests of a line, and in its reply for each that was done before the one that it replies to.
+#: Stands between the moves of a line, and between their replies.
 AND = ";"
-#: How the reply to a request begins that wasn't done.
-UNDONE = ("refused ", "error ")
-UNEXPLAINED = "error the branch is in no such state"
+#: A line of moves has fewer bytes.
+LONGEST_LINE = 60000
+#: The coordinator has so many threads at most, of which the first is its own, for recoveries.
+MOST_THREADS = 1024
 
 
 def serve_command(program: str, log: str, names: Names, threads: int, databases: int) -> List[str]:
-    """The words that start a coordinator over a log, as the manager of this name, if it has one, whose resource managers have these
-    names, if they have some."""
-    words = [program, "serve", *(["--name", names.manager] if names.manager else [])]
+    """The words that start a coordinator over a log, for so many transactions at once, as the manager of this name, if it has one, whose
+    resource managers have these names, if they have some."""
+    words = [program, "serve", "--moves", *(["--name", names.manager] if names.manager else [])]
     for rm in names.rms:
         words += ["--rm", rm]
-    return [*words, "--log", log, str(threads), str(databases)]
+    return [*words, "--log", log, str(min(threads + 1, MOST_THREADS)), str(databases)]
 
 
 class Reply:
-    """A line of requests that is on its way, and the place of its reply."""
+    """A move that is on its way, and the place of what is replied to it."""
 
-    __slots__ = ("requests", "number", "line")
+    __slots__ = ("move", "thread", "is_asked", "words")
 
-    def __init__(self, requests: str, number: int):
-        self.requests = requests
-        #: How many lines there were before it.
-        self.number = number
-        self.line = ""
-
-    @property
-    def words(self) -> str:
-        """The reply to the last request, or to the first that wasn't done."""
-        return self.line.lstrip(AND)
-
-    @property
-    def request(self) -> str:
-        """What that replies to."""
-        return self.requests.split(AND)[len(self.line) - len(self.words)]
+    def __init__(self, move: str, thread: Optional[int], is_asked: bool):
+        self.move = move
+        #: Of which thread it is. None, if it is of a recovery, and has a line of its own.
+        self.thread = thread
+        #: Whether somebody waits for it at once.
+        self.is_asked = is_asked
+        self.words: Optional[str] = None
 
 
 class Coordinator:
     """The coordinator's process, and one session with it.
 
-    Any thread may ask. What is posted is a line of one or several requests, which are done in turn, up to the first that is refused. The
-    coordinator replies in the order of the lines, so several may be under way at once: whichever thread waits reads what has come: its
-    lines are the replies to those that were posted first."""
+    Any thread may ask. The coordinator replies in the order of the lines, so several may be under way at once: whichever thread waits reads
+    what has come. While a line is under way whose reply somebody waits for, as that of a decision, what others post is gathered: it goes
+    by one line then, and so by one write of the log."""
 
     def __init__(self, command: Sequence[str], patience: float = 30.0, path: Optional[str] = None):
         self._path = path
@@ -96,29 +88,23 @@ class Coordinator:
             theirs.close()
         stdin, stderr = self._process.stdin, self._process.stderr
         assert stdin is not None and stderr is not None
-        self._requests, self._errors = stdin, stderr
+        self._moves, self._errors = stdin, stderr
         # While it is stopped it reads nothing, and a pipe that is full would hold up whoever writes.
         os.set_blocking(stdin.fileno(), False)
         self._writable = select.poll()
         self._writable.register(stdin, select.POLLOUT)
         self._posting = threading.Lock()
-        self._writing = threading.Lock()
         self._reading = threading.Lock()
-        # Lines that are yet to be written, and how many there were: under the lock `_posting`. They are kept here and in no buffer of
-        # a file, which a process that is forked off would write once more at its end. How many of them are written: under `_writing`.
-        self._unwritten: List[str] = []
-        self._posted = self._written = 0
-        # The lines whose replies are yet to come, and how many have come.
-        self._waiting: Deque[Reply] = collections.deque()
-        self._arrived = 0
-        # Whether a thread reads; and what wakes those that wait for the reply to a line, by the number of that. Both under the lock
-        # `_reading`.
+        # Moves that are yet to be written, lines whose replies are yet to come, and how many of these somebody waits for: under the lock
+        # `_posting`. They are kept here and in no buffer of a file, which a process that is forked off would write once more at its end.
+        self._unwritten: List[Reply] = []
+        self._under_way: Deque[List[Reply]] = collections.deque()
+        self._asked = 0
+        # Whether a thread reads; and what wakes those that wait, by what they wait for. Both under the lock `_reading`.
         self._is_read = False
-        self._asleep: List[Tuple[int, threading.Lock]] = []
+        self._asleep: List[Tuple[Reply, threading.Lock]] = []
         # The beginning of a line whose end has yet to come.
         self._begun = b""
-        # Whether what is asked and replied is logged: that is seen as a transaction begins.
-        self._is_logged = log.isEnabledFor(logging.DEBUG)
         self._ending = threading.Lock()
         self._fault: Optional[str] = None
         COORDINATORS.add(self)
@@ -129,7 +115,7 @@ class Coordinator:
         self._wait_for(self._patience)
         #: The number of the session, among those of its log.
         self.incarnation = int(self.greeting.split(" ")[1])
-        self._see_several(command[0])
+        self._see_moves(command[0])
 
     @classmethod
     def start(cls, command: Sequence[str], patience: float, path: Optional[str] = None) -> Coordinator:
@@ -140,6 +126,8 @@ class Coordinator:
             try:
                 return cls(command, patience, path)
             except CoordinatorGone as gone:
+                if gone.status == WRONG_WORDS:
+                    raise SetupError(OLDER.format(command[0]) + f" ({gone})") from gone
                 if gone.status not in LOG_STATUSES:
                     raise
                 waited = time.monotonic() - begun
@@ -165,49 +153,44 @@ class Coordinator:
         """Whether the session is over."""
         return self._fault is not None
 
-    # ** requests
+    def see_up(self) -> None:
+        """Raises CoordinatorGone if the session is over."""
+        if self._fault is not None:
+            raise self._gone(self._fault)
 
-    def begin(self, thread: int, before: Sequence[str] = ()) -> Reply:
-        """A transaction of the thread begins (`begun_in`), behind other requests."""
-        self._is_logged = log.isEnabledFor(logging.DEBUG)
-        return self.post(AND.join([*before, f"begin {thread}"]))
+    # ** moves
 
-    def begun_in(self, reply: Reply) -> str:
-        """The name of the transaction that began."""
-        return self.wait(reply).split(" ")[1]
+    def ask(self, move: str, thread: Optional[int] = None) -> str:
+        """The reply to a move of a thread, or of a recovery. Raises NotNow or CoordinatorGone."""
+        return self.wait(self.post(move, thread, is_asked=True))
 
-    def waiting(self, thread: int, rm: int) -> Optional[Call]:
-        """The call that waits first on the line."""
-        kind, *words = self.ask(f"waiting {thread} {rm}").split(" ", 1)
-        return Call.parse(words[0]) if kind == "waits" else None
+    def post(self, move: str, thread: Optional[int] = None, is_asked: bool = False) -> Reply:
+        """Puts a move on its way: at once, unless a reply is waited for."""
+        reply = Reply(move, thread, is_asked)
+        with self._posting:
+            if self._fault is not None:
+                raise self._gone(self._fault)
+            self._unwritten.append(reply)
+            if not self._asked:
+                self._write()
+        return reply
 
-    def decide(self, gtrids: Iterable[str], outcome: str) -> Reply:
-        """Decides the transactions: `commit` or `rollback`. Once the reply to a commit is there, the decisions are in the log.
-        Where one of them is refused, none is decided."""
-        return self.post(" ".join(["decide", *gtrids, outcome]))
-
-    def done(self, gtrids: Iterable[str]) -> Reply:
-        """The rows of committed transactions, of which each branch has acknowledged, leave the log. If one of them is refused, none
-        does."""
-        return self.post(" ".join(["done", *gtrids]))
-
-    def resolve(self, rm: int) -> int:
-        """Lets the calls wait on line `0 rm` that end what the last page of the resource manager lists. How many."""
-        return int(self.ask(f"resolve {rm}").split(" ")[1])
-
-    def owed(self, rm: int) -> List[Xid]:
-        """The branches at the resource manager that rows of earlier incarnations wait for."""
-        return [Xid.parse(word) for word in self.ask(f"owed {rm}").split(" ")[2:]]
-
-    def crash_line(self, line: str) -> None:
-        """The connection of a line is lost, and what waits on the line with it."""
-        self.ask(f"crash line {line}")
+    def wait(self, reply: Reply) -> str:
+        """The reply to a move that was posted. Raises NotNow or CoordinatorGone."""
+        if reply.words is None:
+            self._read_until(reply)
+        words = reply.words or ""
+        if words == "error not now" and reply.move.startswith("start "):
+            raise NotNow("a transaction can't begin yet: the log is new, and each database has to be looked at first")
+        if words.startswith("error "):
+            raise self._killed(f"it replied {words!r} to {reply.move!r}")
+        return words
 
     def quit(self) -> None:
         """Ends the session and the process. What is open stays in doubt, as after a crash."""
         try:
             self.ask("quit")
-        except (CoordinatorGone, Refused):
+        except CoordinatorGone:
             pass
         self._end("the session was ended")
 
@@ -218,110 +201,65 @@ class Coordinator:
 
     # ** lines
 
-    def ask(self, request: str) -> str:
-        """The reply to a request. Raises Refused, RequestError or CoordinatorGone."""
-        return self.wait(self.post(request))
-
-    def post(self, requests: str) -> Reply:
-        """Puts a line of requests on its way: it is written with the next one that is waited for."""
-        with self._posting:
-            if self._is_logged:
-                log.debug("> %s", requests)
-            if self._fault is not None:
-                raise self._gone(self._fault)
-            reply = Reply(requests, self._posted)
-            self._posted += 1
-            self._waiting.append(reply)
-            self._unwritten.append(requests)
-        return reply
-
-    def see_written(self, number: int) -> None:
-        """Sees that a line is written, so that the coordinator will read it whatever ends here."""
-        if number >= self._written:
-            with self._writing:
-                # Another thread may have written it meanwhile.
-                if number >= self._written:
-                    self._write()
-
-    def flush(self) -> None:
-        """Sees that all is written that was posted."""
-        self.see_written(self._posted - 1)
-
-    def wait(self, reply: Reply) -> str:
-        """The reply to a line that was posted: that to its last request. Raises Refused, RequestError or CoordinatorGone."""
-        self._arrive(reply.number)
-        words = reply.words
-        if words.startswith(UNDONE):
-            raise self._refusal(reply)
-        return words
-
-    def see_arrived(self) -> None:
-        """Waits until the replies to all lines have come that were put on their way until now, or the coordinator is gone."""
-        try:
-            self._arrive(self._posted - 1)
-        except CoordinatorGone:
-            # Those that have come stand.
-            pass
-
-    def _refusal(self, reply: Reply) -> XaError:
-        words = reply.words
-        kind, _, rest = words.partition(" ")
-        if kind == "error":
-            error = Unexplained if words == UNEXPLAINED else RequestError
-            return error(f"{rest}, to the request: {reply.request}")
-        number, name = rest.split(" ")
-        if int(number) in (MANAGER_DOWN, LOG_FAULT):
-            full = "; the disk of the log is full" if self._path is not None and is_disk_full(self._path) else ""
-            return self._gone(f"its log failed: refused {rest}{full}")
-        return Refused(int(number), name, reply.request)
-
-    def _arrive(self, number: int) -> None:
-        """Waits until the reply to a line has come, whatever it is, and with it those to all lines before. Raises CoordinatorGone."""
-        if number >= self._arrived:
-            self.see_written(number)
-            self._read_until(number)
-
     def _write(self) -> None:
-        """Writes what is unwritten. Lines are written whole, or the session is over: the replies would no longer fit them. Called
-        with the lock `_writing`."""
-        with self._posting:
-            requests, self._unwritten = self._unwritten, []
-            posted = self._posted
-        some = memoryview("".join(f"{request}\n" for request in requests).encode("ascii"))
+        """Writes what is unwritten, by as few lines as may be: a thread moves once on a line. A line is written whole, or the session is
+        over. Called with the lock `_posting`."""
+        replies, self._unwritten = self._unwritten, []
+        lines: List[List[Reply]] = []
+        length = 0
+        for reply in replies:
+            is_with_others = bool(lines) and reply.thread is not None and lines[-1][0].thread is not None
+            length += len(reply.move) + 1
+            if is_with_others and length < LONGEST_LINE and all(other.thread != reply.thread for other in lines[-1]):
+                lines[-1].append(reply)
+            else:
+                lines.append([reply])
+                length = len(reply.move)
+        texts = [AND.join(reply.move for reply in line) for line in lines]
+        self._under_way.extend(lines)
+        self._asked += sum(any(reply.is_asked for reply in line) for line in lines)
+        if log.isEnabledFor(logging.DEBUG):
+            for text in texts:
+                log.debug("> %s", text)
+        self._write_whole("".join(f"{text}\n" for text in texts).encode("ascii"))
+
+    def _write_whole(self, text: bytes) -> None:
+        some = memoryview(text)
         try:
             while some:
-                written = self._requests.write(some)
+                written = self._moves.write(some)
                 if written is None:
                     if not self._writable.poll(1000 * self._patience):
                         raise self._silent()
                 else:
                     some = some[written:]
-            self._written = posted
         except (OSError, ValueError) as error:
             raise self._gone(str(error)) from None
         except BaseException:
             self.kill()
             raise
 
-    def _read_until(self, number: int) -> None:
+    def _read_until(self, reply: Reply) -> None:
         """Waits for a reply: reads, or lets another thread read, which wakes this one."""
         with self._reading:
             try:
-                while number >= self._arrived:
+                while reply.words is None:
                     if self._fault is not None:
-                        raise self._gone(self._fault)
+                        break
                     if self._is_read:
-                        self._sleep_until(number)
+                        self._sleep_until(reply)
                     else:
                         self._read()
             finally:
                 if self._asleep and not self._is_read:
                     # Somebody has to read on.
                     self._asleep.pop()[1].release()
+        if reply.words is None:
+            raise self._gone(self._fault or "")
 
-    def _sleep_until(self, number: int) -> None:
+    def _sleep_until(self, reply: Reply) -> None:
         """Sleeps until another thread wakes this one. Called with the lock `_reading`, which is free meanwhile."""
-        mine = number, threading.Lock()
+        mine = reply, threading.Lock()
         mine[1].acquire()
         try:
             self._asleep.append(mine)
@@ -337,28 +275,35 @@ class Coordinator:
                 self._asleep.remove(mine)
 
     def _read(self) -> None:
-        """Reads what has come: the replies to the lines that were posted first. Called with the lock `_reading`, which is free
-        while it reads."""
+        """Reads what has come: the replies to the lines that were written first. Called with the lock `_reading`, which is free while it
+        reads."""
         self._is_read = True
         self._reading.release()
         try:
-            lines = self._read_lines()
+            for line in self._read_lines():
+                self._take(line)
+            with self._posting:
+                if self._unwritten and not self._asked:
+                    self._write()
         finally:
             self._reading.acquire()
             self._is_read = False
-        for line in lines:
-            self._take(line)
-        if self._asleep:
-            self._wake([mine for mine in self._asleep if mine[0] < self._arrived])
+        self._wake([mine for mine in self._asleep if mine[0].words is not None])
 
     def _take(self, line: str) -> None:
-        """Takes the reply to the line that was posted first."""
-        if self._is_logged:
-            log.debug("< %s", line)
-        self._waiting.popleft().line = line
-        self._arrived += 1
+        """Takes the reply to the line that was written first."""
+        log.debug("< %s", line)
+        with self._posting:
+            replies = self._under_way.popleft()
+            self._asked -= any(reply.is_asked for reply in replies)
+        words = line.split(AND)
+        if line == "stopped" or len(words) != len(replies):
+            full = "; the disk of the log is full" if self._path is not None and is_disk_full(self._path) else ""
+            raise self._killed(f"its log failed, or its memory: it replied {line!r}{full}")
+        for reply, said in zip(replies, words):
+            reply.words = said
 
-    def _wake(self, some: List[Tuple[int, threading.Lock]]) -> None:
+    def _wake(self, some: List[Tuple[Reply, threading.Lock]]) -> None:
         for mine in some:
             self._asleep.remove(mine)
             mine[1].release()
@@ -376,13 +321,14 @@ class Coordinator:
                     self.kill()
                     raise SetupError(f"the coordinator speaks the protocol {version}, and this driver {PROTOCOL}: they are to be of one version")
 
-    def _see_several(self, program: str) -> None:
-        """Sees that it takes several requests on a line."""
+    def _see_moves(self, program: str) -> None:
+        """Sees that it takes moves."""
         try:
-            self.ask(f"status{AND}status")
-        except RequestError:
-            self.kill()
-            raise SetupError(f"the coordinator {program} is older than this driver: program= is to be the xatm that it came with") from None
+            self.ask("due")
+        except CoordinatorGone as gone:
+            if "error " in str(gone):
+                raise SetupError(OLDER.format(program)) from gone
+            raise
 
     def _wait_for(self, seconds: float) -> None:
         """From now on a reply is waited for for so many seconds."""
@@ -407,8 +353,12 @@ class Coordinator:
 
     def _silent(self) -> CoordinatorGone:
         """It is stopped, or its disk hangs: it is ended, and the next session finds out what it had decided."""
+        return self._killed("it says nothing any more, as if it were stopped or its disk hung: it was killed")
+
+    def _killed(self, reason: str) -> CoordinatorGone:
+        """The same for another reason."""
         self._process.kill()
-        return self._gone("it says nothing any more, as if it were stopped or its disk hung: it was killed")
+        return self._gone(reason)
 
     # ** its end
 
@@ -425,7 +375,7 @@ class Coordinator:
                 return
             self._fault = reason
         try:
-            self._requests.close()
+            self._moves.close()
         except OSError:
             pass
         said = self._errors.read().decode("utf-8", "replace").strip() if self._sees_its_end() else "its process can't be ended"
@@ -449,7 +399,7 @@ class Coordinator:
     def let_go(self) -> None:
         """In a process that was forked off: the pipes are the parent's, and a child that kept them would keep the coordinator up, and the
         log in use, behind the end of the parent."""
-        self._requests.close()
+        self._moves.close()
         self._replies.close()
         self._errors.close()
 

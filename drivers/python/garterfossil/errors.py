@@ -97,19 +97,5 @@ class LogInUse(CoordinatorGone):
     """Another program has the log: one at a time may use it."""
 
 
-class Refused(XaError):
-    """The coordinator refuses a request by a rule of the protocol, and nothing has changed (docs/PROTOCOL.md)."""
-
-    def __init__(self, number: int, name: str, request: str):
-        super().__init__(f"{number} {name}, to the request: {request}")
-        self.number = number
-        self.name = name
-
-
-class RequestError(XaError):
-    """The coordinator takes a request for none, or for one that doesn't fit what waits; nothing has changed."""
-
-
-class Unexplained(RequestError):
-    """A database answered what no state of the branch explains, by all that it answered before. Somebody else ended the
-    branch, or the database isn't the one that it is taken for. Look at what it lists before anything else."""
+class NotNow(Overdue):
+    """A transaction can't begin yet: the log is new, and the coordinator has yet to look at each database."""

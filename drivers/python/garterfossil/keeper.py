@@ -72,23 +72,21 @@ class Keeper:
         if not rm.can_be_reached() or self._stop.is_set():
             return False
         try:
-            with self._session.threads.first(time.monotonic() + self._session.patience):
-                if rm.is_recovery_due:
-                    recover(self._session, rm)
+            recover(self._session, rm)
             return True
         except SetupError as error:
             rm.say_once(f"the recovery is put off: {error}")
         except CoordinatorGone as error:
             log.warning("%s", error)
         except Overdue:
-            # The first thread has a transaction, which takes long.
+            # A transaction goes on, and the session is to be ended without one.
             pass
         except XaError as error:
             log.warning("the recovery of %s is put off: %s", rm.label, error)
         return False
 
     def finish(self) -> None:
-        """Lets no recovery begin any more. One that is under way has the first thread; one that only looks at a database has nothing."""
+        """Lets no recovery begin any more."""
         with self._lock:
             self._is_over = True
         self._stop.set()

@@ -13,10 +13,11 @@ import struct
 import subprocess
 import time
 import urllib.parse
-from dataclasses import dataclass
-from typing import IO, FrozenSet, List, Optional, Sequence, Tuple
+from dataclasses import dataclass, field
+from typing import IO, Dict, List, Mapping, Optional, Sequence, Tuple
 
 from .errors import LogInUse, SetupError
+from .xid import Xid
 
 #: How a file of SQLite begins, and where it is locked: the bytes from here on.
 HEADER, LOCKED, LOCKED_BYTES = b"SQLite format 3\0", 0x40000000, 512
@@ -35,6 +36,8 @@ MOMENT = 2.0
 LONGEST_LOOK = 60
 #: How the lines begin that `xatm log` prints before what is decided.
 HEADS = ("name ", "rm ", "incarnation ")
+#: How `xatm log --explain` names a branch that a decision waits for.
+EXPLAINED = re.compile(r" +([0-9]+:[0-9a-f]+:[0-9a-f]+) at resource manager ")
 #: What stands for the number of a worker in the path of a log, and the most workers.
 WORKER, MOST_WORKERS = "{worker}", 1024
 
@@ -64,11 +67,11 @@ class Names:
         return cls("".join(secrets.choice(LETTERS) for _ in range(DRAWN)), tuple(rms))
 
 
-def printed_log(program: str, path: str) -> List[str]:
+def printed_log(program: str, path: str, *options: str) -> List[str]:
     """The lines that `xatm log` prints of the log at a path. A look changes nothing. Raises LogInUse or SetupError."""
     try:
         done = subprocess.run(
-            [program, "log", path], stdin=subprocess.DEVNULL, capture_output=True, text=True, check=False, timeout=LONGEST_LOOK
+            [program, "log", *options, path], stdin=subprocess.DEVNULL, capture_output=True, text=True, check=False, timeout=LONGEST_LOOK
         )
     except OSError as error:
         raise SetupError(f"the program {program} can't be run, which program= may give: {error.strerror}") from error
@@ -130,8 +133,8 @@ class KeptLog:
 
     #: How often a coordinator has started over it.
     incarnation: int = 0
-    #: The transactions that are decided to commit.
-    decided: FrozenSet[str] = frozenset()
+    #: The transactions that are decided to commit, each with the branches that have yet to acknowledge.
+    decisions: Mapping[str, Sequence[Xid]] = field(default_factory=dict)
 
 
 def kept_log(program: str, path: str, patience: float) -> KeptLog:
@@ -142,8 +145,13 @@ def kept_log(program: str, path: str, patience: float) -> KeptLog:
         return KeptLog()
     numbers = [int(line.split(" ")[1]) for line in lines if line.startswith("incarnation ")]
     rows = [line for line in lines if line and not line.startswith(HEADS) and ":" not in line]
+    decisions: Dict[str, List[Xid]] = {line.split(" ")[0]: [] for line in rows}
+    if rows:
+        for found in filter(None, map(EXPLAINED.match, printed_log(program, path, "--explain"))):
+            xid = Xid.parse(found.group(1))
+            decisions.setdefault(xid.transaction, []).append(xid)
     # The look has brought all that a coordinator which was killed has left into the one file.
-    return KeptLog(numbers[0] if numbers else _incarnation_in(path), frozenset(line.split(" ")[0] for line in rows))
+    return KeptLog(numbers[0] if numbers else _incarnation_in(path), decisions)
 
 
 def _incarnation_in(path: str) -> int:

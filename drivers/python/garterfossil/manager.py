@@ -36,9 +36,9 @@ from .aside import ASIDE, aside
 from .block import Block
 from .counts import Counts
 from .databases import NAME, Databases
-from .errors import CoordinatorGone, LogInUse, NestedTransaction, Overdue, SetupError, TransactionOver, XaError
+from .errors import CoordinatorGone, LogInUse, NestedTransaction, NotNow, Overdue, SetupError, TransactionOver, XaError
 from .coordinator import serve_command
-from .line import PAUSE
+from .hands import PAUSE
 from .logs import Names, free_log, is_new_log, names_for
 from .metrics import in_prometheus, of_counts
 from .outcomes import Outcome, Outcomes
@@ -230,8 +230,7 @@ class TransactionManager:
         it was long ago. Starts the coordinator again if that has ended. Raises ValueError for what is no `gtrid`."""
         if not GTRID.fullmatch(gtrid):
             raise ValueError(f"a gtrid has 32 hexadecimal digits: {gtrid!r}")
-        aside(self._current)
-        return self._outcomes.of(gtrid)
+        return aside(lambda: self._outcomes.of(gtrid, self._current().coordinator))
 
     def counts(self) -> Dict[str, float]:
         """How many transactions have `begun` and are `open`, how many were `committed` and `rolled_back`, or are `unknown`, how many of
@@ -239,7 +238,7 @@ class TransactionManager:
         `seconds` transactions were open, all together."""
         session, counts = self._session, self._counts.shown()
         counts["heuristic"] += self._outcomes.odd
-        return {**counts, "owed": 0 if session is None else session.debts.count()}
+        return {**counts, "owed": 0 if session is None else session.owed_count()}
 
     def metrics(self) -> str:
         """The counts, and what stands at each database, as Prometheus reads them. Begins nothing, and waits for nothing."""
@@ -377,7 +376,7 @@ class TransactionManager:
                 return session, thread, gtrid
             except LogInUse:
                 raise
-            except CoordinatorGone as gone:
+            except (CoordinatorGone, NotNow) as gone:
                 if self._is_closed or time.monotonic() >= until:
                     raise
                 log.warning("%s", gone)

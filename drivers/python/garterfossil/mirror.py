@@ -22,6 +22,8 @@ log = logging.getLogger("garterfossil")
 MANAGERS = "garterfossil_manager (name {16} PRIMARY KEY, log text NOT NULL, rms text NOT NULL, incarnation bigint NOT NULL)"
 DECISIONS = "garterfossil_decision (name {16} NOT NULL, gtrid {32} NOT NULL, branches text NOT NULL, PRIMARY KEY (name, gtrid))"
 
+#: So many rows leave at once.
+AT_ONCE = 8
 #: By how much a failover raises the incarnation: more than the starts that the mirror may not have been told of, one for each process that
 #: waits for the log.
 MARGIN = 100
@@ -145,6 +147,15 @@ def _as_gone() -> Iterator[None]:
         raise CoordinatorGone(f"the mirror can't be used now: {error}") from error
 
 
+class _Decision:
+    """A decision that a thread has told, and waits for."""
+
+    def __init__(self, gtrid: str, xids: Sequence[Xid]):
+        self.gtrid, self.xids = gtrid, xids
+        self.is_over = False
+        self.error: Optional[CoordinatorGone] = None
+
+
 class Mirror:
     """The mirror of one session. A decision is in it before any xa_commit of it is made, and so a log that is made of it lacks no
     decision of which a database has heard."""
@@ -156,7 +167,10 @@ class Mirror:
         # Decisions come by one connection, and leave by another, for which nobody waits.
         self._adding = Tables(database, names.manager, patience)
         self._removing = Tables(database, names.manager, patience)
-        self._lock = threading.Lock()
+        self._lock, self._turn, self._taking = threading.Lock(), threading.Lock(), threading.Lock()
+        # Decisions that are yet to be told, and transactions whose rows may leave.
+        self._asked: List[_Decision] = []
+        self._left: List[str] = []
         self._incarnation = 0
         # Of what the mirror holds and the log doesn't, what is surely over.
         self._over: Set[str] = set()
@@ -197,7 +211,7 @@ class Mirror:
         over = set()
         listed = {str(xid) for listing in listings for xid in listing or ()}
         for gtrid, xids in mirrored.items():
-            if gtrid in kept.decided:
+            if gtrid in kept.decisions:
                 continue
             if listed.intersection(xids):
                 raise SetupError(
@@ -243,24 +257,55 @@ class Mirror:
         else:
             connection.run("UPDATE garterfossil_manager SET log = %s, rms = %s, incarnation = %s WHERE name = %s", known)
 
-    def add(self, decisions: Sequence[Tuple[str, Sequence[Xid]]]) -> None:
-        """These transactions are decided to commit: by one commit of the mirror's database. Raises CoordinatorGone, and the session is
-        over, if nobody knows whether they are in it: they stand all the same, as the log has them."""
-        with_branches = [decision for decision in decisions if decision[1]]
-        if not with_branches:
-            return
+    def add(self, gtrid: str, xids: Sequence[Xid]) -> None:
+        """The transaction is decided to commit: those of several threads that come together are by one commit of the mirror's database. Raises
+        CoordinatorGone, and the session is over, if nobody knows whether it is there: it stands all the same, as the log has it."""
+        mine = _Decision(gtrid, xids)
+        with self._lock:
+            self._asked.append(mine)
+        with self._turn:
+            if not mine.is_over:
+                with self._lock:
+                    some, self._asked = self._asked, []
+                self._add_all(some)
+        if mine.error is not None:
+            raise mine.error
+
+    def _add_all(self, some: List[_Decision]) -> None:
+        error: Optional[CoordinatorGone] = CoordinatorGone("a decision was told to the mirror, and that was interrupted")
         try:
             with self._adding.at_work() as connection:
-                count = self._adding.insert(connection, with_branches, self._incarnation)
-        except Exception as error:
-            raise CoordinatorGone(f"decisions can't be told to the mirror: {error}") from error
-        if count != len(with_branches):
-            raise CoordinatorGone("the mirror is in a later session of this manager: another machine has taken over")
+                count = self._adding.insert(connection, [(one.gtrid, one.xids) for one in some], self._incarnation)
+            error = None
+            if count != len(some):
+                error = CoordinatorGone("the mirror is in a later session of this manager: another machine has taken over")
+        except Exception as raised:
+            error = CoordinatorGone(f"decisions can't be told to the mirror: {raised}")
+            error.__cause__ = raised
+        finally:
+            for one in some:
+                one.error, one.is_over = error, True
+
+    def over(self, gtrid: str) -> None:
+        """Each branch of the transaction has acknowledged, or is known to be over: its row may leave, with those of some others."""
+        with self._lock:
+            self._left.append(gtrid)
+            if len(self._left) < AT_ONCE:
+                return
+            gtrids, self._left = self._left, []
+        self.remove(gtrids)
+
+    def finish(self) -> None:
+        """Has all of them leave."""
+        with self._lock:
+            gtrids, self._left = self._left, []
+        if gtrids:
+            self.remove(gtrids)
 
     def remove(self, gtrids: Sequence[str]) -> None:
-        """The rows of these transactions have left the log. One that stays here costs a failover some calls, and no more."""
+        """The rows of these transactions leave. One that stays here costs a failover some calls, and no more."""
         marks = ", ".join(["%s"] * len(gtrids))
-        with self._lock:
+        with self._taking:
             try:
                 with self._removing.at_work() as connection:
                     words = [self._names.manager, *gtrids]
@@ -270,8 +315,9 @@ class Mirror:
 
     def close(self) -> None:
         """Closes its connections."""
-        self._adding.close()
-        with self._lock:
+        with self._turn:
+            self._adding.close()
+        with self._taking:
             self._removing.close()
 
 

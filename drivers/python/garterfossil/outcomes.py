@@ -1,11 +1,13 @@
-"""How transactions ended of which nobody could say that at once."""
+"""How transactions ended, as far as that was told, or is found later."""
 
 from __future__ import annotations
 
 import enum
 import threading
-from typing import Dict, Set
+from typing import TYPE_CHECKING, Dict, Set
 
+if TYPE_CHECKING:
+    from .coordinator import Coordinator
 
 #: So many outcomes that were told are kept in mind.
 MOST_TOLD = 10000
@@ -20,14 +22,17 @@ class Outcome(enum.Enum):
     UNKNOWN = "unknown"
 
 
+#: As the coordinator tells them.
+TOLD = {"committed": Outcome.COMMITTED, "rolled-back": Outcome.ROLLED_BACK, "unknown": Outcome.UNKNOWN}
+
+
 class Outcomes:
-    """The outcomes that a later session finds: a transaction that was being decided as its session ended is committed if the log has
-    its row as the next session begins, and else rolled back."""
+    """The outcomes that were told, and those that a later session tells: of a transaction that was being decided as its session ended the
+    very next one knows how it ended."""
 
     def __init__(self) -> None:
         self._lock = threading.Lock()
-        # By transaction, the incarnation that was deciding it.
-        self._asked: Dict[str, int] = {}
+        self._asked: Set[str] = set()
         self._found: Dict[str, Outcome] = {}
         # What the last transactions were told, the oldest first.
         self._told: Dict[str, Outcome] = {}
@@ -37,17 +42,16 @@ class Outcomes:
     def ask(self, gtrid: str) -> None:
         """The session of the transaction has ended while it decided that."""
         with self._lock:
-            self._asked[gtrid] = int(gtrid[:16], 16)
+            self._asked.add(gtrid)
 
-    def note_rows(self, incarnation: int, rows: Set[str]) -> None:
-        """The session of this incarnation began, and the log has rows of these transactions. What a session in between has ended, of
-        another program, isn't known."""
+    def find(self, coordinator: Coordinator) -> None:
+        """A session has begun: how those ended that the one before was deciding."""
         with self._lock:
-            self._found.update((gtrid, Outcome.COMMITTED) for gtrid in rows)
-            for gtrid, asked in list(self._asked.items()):
-                del self._asked[gtrid]
-                if asked == incarnation - 1:
-                    self._found.setdefault(gtrid, Outcome.ROLLED_BACK)
+            asked = set(self._asked)
+        found = {gtrid: TOLD[coordinator.ask(f"fate {gtrid}")] for gtrid in asked}
+        with self._lock:
+            self._asked -= asked
+            self._found.update(found)
 
     def note(self, gtrid: str, outcome: Outcome) -> None:
         """A transaction was told that it ended so."""
@@ -68,7 +72,10 @@ class Outcomes:
         with self._lock:
             return self._odd
 
-    def of(self, gtrid: str) -> Outcome:
-        """How it ended, if that was found."""
+    def of(self, gtrid: str, coordinator: Coordinator) -> Outcome:
+        """How it ended, if that was found. Of one of another run of the program only that it is committed, as long as the log says so."""
         with self._lock:
-            return self._found.get(gtrid, self._told.get(gtrid, Outcome.UNKNOWN))
+            known = self._found.get(gtrid) or self._told.get(gtrid)
+        if known is not None:
+            return known
+        return Outcome.COMMITTED if coordinator.ask(f"fate {gtrid}") == "committed" else Outcome.UNKNOWN

@@ -30,8 +30,9 @@ class ResourceManager:
         self.label = label
         #: Whether something may be in doubt there that no transaction of the session will end.
         self.is_recovery_due = True
-        #: The branches that this session has prepared, of which no end was lost on its way: if one of them isn't there, somebody else
-        #: has ended it.
+        #: Held by the recovery that is under way.
+        self.is_recovered = threading.Lock()
+        #: The branches that this session has prepared, and that are neither ended nor owed.
         self.prepared: Set[Xid] = set()
         self._database = database
         self._lock = threading.Lock()
@@ -107,6 +108,12 @@ class ResourceManager:
         with self._lock:
             if self._has_strays:
                 self._end_strays(connection)
+
+    def release(self, connection: Connection) -> None:
+        """A connection isn't needed any more, on which nothing is under way."""
+        connection.close()
+        with self._lock:
+            self._kept.discard(connection.number)
 
     def drop(self, connection: Connection) -> None:
         """A line has lost the connection, or gives it up."""

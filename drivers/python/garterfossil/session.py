@@ -6,24 +6,22 @@ import logging
 import threading
 import time
 from dataclasses import dataclass
-from typing import Dict, List, Optional, Sequence, Set
+from typing import Dict, Iterable, List, Mapping, Optional, Sequence, Set
 
 from .adapters.base import Database
-from .calls import Call
-from .commits import Commits
-from .coordinator import AND, Coordinator, Reply
+from .coordinator import MOST_THREADS, Coordinator, Reply
 from .databases import Databases
-from .debts import Debts
-from .errors import ConnectionLost, CoordinatorGone, Overdue, Refused, RequestError, SetupError, XaError
+from .errors import ConnectionLost, CoordinatorGone, Overdue, SetupError, XaError
+from .hands import Part, Told
 from .identities import Identities
 from .keeper import Keeper
 from .line import Line
 from .logs import KeptLog, Names, is_new_log, kept_log
 from .mirror import Mirror
-from .outcomes import Outcomes
+from .outcomes import Outcome, Outcomes
+from .owed import Owed
 from .recovery import recover, see_not_later
 from .resource_manager import GLANCE, ResourceManager
-from .rows import Rows
 from .threads import Threads
 from .xid import Xid
 
@@ -60,8 +58,10 @@ class Session:
         self.outcomes = outcomes
         #: The coordinator's name, which stands in front of the transaction in its identifiers.
         self.name = settings.names.manager.encode("ascii")
-        self.threads = Threads(settings.threads)
-        self.debts = Debts()
+        # The first of the coordinator's threads is its own.
+        threads = min(settings.threads, MOST_THREADS - 1)
+        self.threads = Threads(threads)
+        self._owed = Owed()
         self.identities = Identities(settings.log, settings.names.manager, is_new_log(settings.log))
         self.identities.see_open()
         self._rms = [
@@ -71,21 +71,18 @@ class Session:
         #: The transactions that the mirror says are decided, and the log doesn't know.
         self.unknown_to_log: Set[str] = set()
         self.mirror: Optional[Mirror] = None
-        self._look(settings, is_first)
+        kept = self._look(settings, is_first)
         self.coordinator = Coordinator.start(settings.command, settings.patience, settings.log)
-        self.commits = Commits(self.coordinator, self.mirror, self.patience)
-        self._lines = [[Line(self.coordinator, thread, rm, self.patience) for rm in self._rms] for thread in range(settings.threads)]
-        # By thread, what begins its next transaction, where that was asked for ahead.
-        self._begun: List[Optional[Reply]] = [None] * settings.threads
-        # The transactions of a session are numbered. By thread, the last that began, and the one that is open.
-        self._last = [0] * settings.threads
-        self._live: List[Optional[str]] = [None] * settings.threads
+        # By thread: its lines, the reply that tells its next transaction, the number of the last that began, and the one that is open.
+        self._lines = [[Line(rm) for rm in self._rms] for _ in range(threads + 1)]
+        self._next: List[Optional[Reply]] = [None] * (threads + 1)
+        self._last = [0] * (threads + 1)
+        self._live: List[Optional[str]] = [None] * (threads + 1)
         self.keeper = Keeper(self)
-        #: Where a committed transaction goes of which all branches have acknowledged.
-        self.rows = Rows(self.coordinator, self.mirror)
         try:
+            self.outcomes.find(self.coordinator)
             self.identities.note_session(self.coordinator.incarnation)
-            self._take_over(is_first)
+            self._take_over(kept, is_first)
             self.see_to_recoveries(0)
         except BaseException:
             self.coordinator.kill()
@@ -93,10 +90,10 @@ class Session:
                 self.mirror.close()
             raise
 
-    def _look(self, settings: Settings, is_first: bool) -> None:
+    def _look(self, settings: Settings, is_first: bool) -> Optional[KeptLog]:
         """Looks at the databases, at the log and at the mirror before the coordinator starts: each start raises the log's incarnation, so
         that after some of them an older log would pass for a newer one. If the log is new, all databases have to be looked at. How a
-        database is set up is said at the first start."""
+        database is set up is said at the first start. What the log holds, if that is known."""
         looks = [threading.Thread(target=rm.look, args=[is_first], daemon=True) for rm in self._rms]
         for look in looks:
             look.start()
@@ -120,6 +117,7 @@ class Session:
             assert kept is not None
             self.mirror = Mirror(settings.mirror, settings.names, settings.log, settings.patience)
             self.mirror.look(kept, self._listings(), settings.is_name_drawn)
+        return kept
 
     def _see_objection(self, rm: ResourceManager, is_new: bool, is_first: bool) -> None:
         error = rm.objection
@@ -135,19 +133,18 @@ class Session:
         """What each database listed before the session; None of one that couldn't be looked at."""
         return [rm.listed for rm in self._rms]
 
-    def _take_over(self, is_first: bool) -> None:
+    def _take_over(self, kept: Optional[KeptLog], is_first: bool) -> None:
         """Ends what earlier sessions have left in doubt."""
-        decisions: Dict[str, List[Xid]] = {}
-        for rm in self._rms:
-            for xid in self.coordinator.owed(rm.number):
-                self.debts.add(rm.number, Call("xa_commit", xid))
-                decisions.setdefault(xid.transaction, []).append(xid)
-        rows = self.debts.transactions()
+        decisions: Mapping[str, Sequence[Xid]] = {} if kept is None else kept.decisions
+        self._owed.add(xid for xids in decisions.values() for xid in xids)
+        incarnation = self.coordinator.incarnation
         if self.mirror is not None:
+            assert kept is not None
+            if incarnation != kept.incarnation + 1:
+                raise CoordinatorGone(f"another program has had the log since it was looked at, in session {incarnation - 1}")
             # Before the first transaction begins, and before anything is ended.
-            self.unknown_to_log = self.mirror.begin(self.coordinator.incarnation, decisions)
-        self.outcomes.note_rows(self.coordinator.incarnation, rows)
-        log.info("session %d began: the log has %d decisions to commit", self.coordinator.incarnation, len(rows))
+            self.unknown_to_log = self.mirror.begin(incarnation, decisions)
+        log.info("session %d began: the log has %s decisions to commit", incarnation, self.coordinator.greeting.split(" ")[2])
         self.recover_at_the_start(is_first)
 
     def line(self, thread: int, rm: int) -> Line:
@@ -160,36 +157,29 @@ class Session:
 
     # ** transactions
 
+    def begin(self, thread: int) -> str:
+        """A transaction of the thread begins: its name. Raises NotNow while the log is new and a database wasn't looked at."""
+        self.coordinator.see_up()
+        reply = self._next[thread] or self.coordinator.post(f"start {thread}", thread, is_asked=True)
+        gtrid = self.coordinator.wait(reply).rpartition(" next ")[2]
+        self._next[thread] = None
+        self._last[thread], self._live[thread] = int(gtrid[16:], 16), gtrid
+        return gtrid
+
     def let_go(self, thread: int) -> None:
         """The transaction of a thread is over, or none was begun: another one may have it."""
         try:
-            self._try_to_post(thread)
             for line in self._lines[thread]:
-                try:
-                    line.let_go()
-                except XaError as error:
+                if self.coordinator.is_gone:
                     # What the transaction left there is over with the session.
-                    log.warning("%s: %s", line.rm.label, error)
+                    line.close()
+                else:
+                    line.let_go()
         finally:
             self._live[thread] = None
             self.threads.give_back(thread)
             # What it has left is ended, also if no other one begins.
             self.see_to_recoveries(0)
-
-    def begin(self, thread: int) -> str:
-        """A transaction of the thread begins: its name."""
-        gtrid = self._begun_ahead(thread) or self.coordinator.begun_in(self.coordinator.begin(thread))
-        self._last[thread], self._live[thread] = int(gtrid[16:], 16), gtrid
-        return gtrid
-
-    def _begun_ahead(self, thread: int) -> Optional[str]:
-        """The thread's transaction that was asked for, if it was begun."""
-        reply, self._begun[thread] = self._begun[thread], None
-        try:
-            return None if reply is None else self.coordinator.begun_in(reply)
-        except Refused:
-            # So is what stood before it on its line, whose branches are left to the recovery.
-            return None
 
     def let_go_of_ended(self, thread: int) -> None:
         """Gives those connections of a thread up that the databases have ended while nothing was done on them."""
@@ -204,66 +194,56 @@ class Session:
         is_of_mirror_alone = xid.transaction in self.unknown_to_log
         return (incarnation, sequence) <= (self.coordinator.incarnation, max(self._last)) and not is_of_mirror_alone
 
-    def post(self, thread: int) -> None:
-        """Posts what is to be posted on the lines of a thread, by one line of requests."""
-        requests: List[str] = []
-        lines = [line for line in self._lines[thread] if line.move_to(requests)]
-        if lines:
-            self._expect(lines, self.coordinator.post(AND.join(requests)))
+    def live(self) -> Set[str]:
+        """The transactions that are open."""
+        return {gtrid for gtrid in self._live if gtrid is not None}
 
-    def post_soon(self, thread: int) -> None:
-        """The same, and writes it, unless others will soon."""
-        self.post(thread)
-        if not self.threads.are_busy:
-            self.coordinator.flush()
-
-    def post_and_begin(self, thread: int) -> None:
-        """The same, and asks for the thread's next transaction behind it: the reply comes with others that are waited for."""
-        if self._begun[thread] is not None:
-            self.post(thread)
+    def note_decision(self, gtrid: str, xids: Sequence[Xid]) -> None:
+        """It is decided that a transaction commits, and no database has heard of it. Raises CoordinatorGone if the mirror can't be told."""
+        if self.mirror is None:
             return
-        requests: List[str] = []
-        lines = [line for line in self._lines[thread] if line.move_to(requests)]
-        reply = self._begun[thread] = self.coordinator.begin(thread, requests)
-        self._expect(lines, reply)
-
-    @staticmethod
-    def _expect(lines: List[Line], reply: Reply) -> None:
-        for line in lines:
-            line.expect(reply)
-
-    def _try_to_post(self, thread: int) -> None:
         try:
-            self.post(thread)
-        except CoordinatorGone as error:
-            log.warning("the thread %d is let go: %s", thread, error)
+            self.mirror.add(gtrid, xids)
+        except BaseException:
+            # The next session tells it what the log has.
+            self.coordinator.kill()
+            raise
 
-    def roll_back(self, gtrid: str) -> None:
-        """Decides that the transaction rolls back."""
-        self.coordinator.wait(self.coordinator.decide([gtrid], "rollback"))
+    def note_told(self, gtrid: str, thread: int, reply: Optional[Reply], told: Told, parts: Mapping[int, Part]) -> None:
+        """A transaction ended so; the reply tells the thread's next one."""
+        self._next[thread] = reply
+        owed = [parts[rm].xid for rm in told.owed]
+        self._owed.add(owed)
+        for rm in told.owed:
+            self._rms[rm].is_recovery_due = True
+        if self.mirror is not None and told.outcome is Outcome.COMMITTED and not owed:
+            self.mirror.over(gtrid)
+        for rm in told.owed:
+            # Mostly a connection alone was lost, and the branch is ended at once.
+            self.keeper.see_to(self._rms[rm])
 
-    def owe(self, rm: int, call: Call) -> None:
-        """The end of a branch couldn't be told, or wasn't acknowledged: the next recovery there sees to it."""
-        self.debts.add(rm, call)
-        self._rms[rm].is_recovery_due = True
+    # ** recovery
 
-    def pay(self, rm: int, call: Call) -> None:
-        """It is now."""
-        if self.debts.settle(rm, call) and call.name == "xa_commit":
-            self.rows.add(call.branch.transaction)
+    def owed_at(self, rm: ResourceManager) -> Set[Xid]:
+        """The branches whose ends are owed at a database."""
+        return self._owed.at(rm.number)
+
+    def settle(self, xids: Iterable[Xid]) -> None:
+        """These branches are ended."""
+        over = self._owed.settle(xids)
+        if self.mirror is not None:
+            for gtrid in over:
+                self.mirror.over(gtrid)
+
+    def owed_count(self) -> int:
+        """How many ends of branches are owed."""
+        return self._owed.count()
 
     def standing(self) -> List[Dict[str, int]]:
         """What stands at each database: how many ends are owed, how many branches are prepared, and whether a recovery is due."""
         return [
-            {"owed": len(self.debts.at(rm.number)), "prepared": len(rm.prepared), "recovery_due": int(rm.is_recovery_due)}
-            for rm in self._rms
+            {"owed": len(self.owed_at(rm)), "prepared": len(rm.prepared), "recovery_due": int(rm.is_recovery_due)} for rm in self._rms
         ]
-
-    # ** recovery
-
-    def live(self) -> Set[str]:
-        """The transactions that are open."""
-        return {gtrid for gtrid in self._live if gtrid is not None}
 
     def recover_at_the_start(self, is_first: bool) -> None:
         """Recovers each database that can be reached. What can't be done now is done beside the transactions; but what a database is set
@@ -276,7 +256,7 @@ class Session:
                     if is_first or self.coordinator.is_gone:
                         raise
                     rm.say_once(f"the recovery is put off: {error}")
-                except (ConnectionLost, Overdue, Refused, RequestError) as error:
+                except (ConnectionLost, Overdue) as error:
                     log.warning("the recovery of %s is put off: %s", rm.label, error)
 
     def see_to_recoveries(self, patience: float = GLANCE) -> None:
@@ -295,9 +275,7 @@ class Session:
         try:
             with self.threads.all(until):
                 for rm in self._rms:
-                    # The last transactions may have left something.
-                    if rm.is_recovery_due and self.debts.at(rm.number) and rm.can_be_reached():
-                        self._try_to_recover(rm)
+                    self._end_at(rm, until)
                 self._leave()
         except Overdue as error:
             self.coordinator.quit()
@@ -305,14 +283,20 @@ class Session:
                 self.mirror.close()
             raise Overdue(f"transactions were open for {seconds} seconds after the end: they are rolled back") from error
 
-    def _try_to_recover(self, rm: ResourceManager) -> None:
+    def _end_at(self, rm: ResourceManager, until: float) -> None:
+        """Ends what the last transactions have left at a database, behind the recovery that is under way there."""
+        if not rm.is_recovered.acquire(timeout=max(0.0, until - time.monotonic())):
+            return
+        rm.is_recovered.release()
         try:
-            recover(self, rm)
+            if rm.is_recovery_due and self.owed_at(rm) and rm.can_be_reached():
+                recover(self, rm)
         except XaError as error:
             log.warning("the recovery of %s is left to the next session: %s", rm.label, error)
 
     def _leave(self) -> None:
-        self.rows.finish()
+        if self.mirror is not None:
+            self.mirror.finish()
         self.coordinator.quit()
         if self.mirror is not None:
             self.mirror.close()

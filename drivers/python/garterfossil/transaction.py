@@ -1,4 +1,4 @@
-"""A global transaction, and its branches."""
+"""A global transaction, as a program works with it, and its branches."""
 
 from __future__ import annotations
 
@@ -8,14 +8,12 @@ import os
 import threading
 import time
 from types import TracebackType
-from typing import TYPE_CHECKING, Callable, Dict, List, Optional, Set, Type, Union
+from typing import TYPE_CHECKING, Callable, List, Optional, Set, Type, Union
 
 from .adapters.base import Options
 from .aside import aside
 from .branch import Branch
-from .calls import Call
 from .codes import Code
-from .completion import Completion
 from .errors import (
     PASSING,
     ConnectionLost,
@@ -25,9 +23,9 @@ from .errors import (
     RolledBack,
     TimedOut,
     TransactionOver,
-    Unexplained,
     XaError,
 )
+from .hands import Hands, Part, Told
 from .outcomes import Outcome
 from .xid import FORMAT, Xid
 
@@ -36,31 +34,9 @@ if TYPE_CHECKING:
 
 log = logging.getLogger("garterfossil")
 
-class _Commits:
-    """What is asked for with the decision: that the branches commit, and the next transaction of the thread."""
 
-    def __init__(self, session: Session, thread: int, branches: List[Completion]):
-        self._session = session
-        self._thread = thread
-        self._process = os.getpid()
-        # What begins and ends branches, one after the other.
-        self._steps = threading.RLock()
-        #: Whether its thread is given back, so that nobody is in its block any more.
-        self.is_let_go = False
-        self._branches = branches
-
-    @property
-    def xids(self) -> List[Xid]:
-        return [branch.xid for branch in self._branches]
-
-    def post(self) -> None:
-        for branch in self._branches:
-            branch.issue_commit()
-        self._session.post_and_begin(self._thread)
-
-    def take_back(self) -> None:
-        for branch in self._branches:
-            branch.take_back_commit()
+#: How a branch may have ended otherwise than its transaction: by its database, or, if that keeps no such ends, by somebody.
+HOW = ("its database has ended it by itself", "somebody has ended it by hand, one way or the other")
 
 
 class Transaction:
@@ -89,7 +65,7 @@ class Transaction:
         self._steps = threading.RLock()
         #: Whether its thread is given back, so that nobody is in its block any more.
         self.is_let_go = False
-        self._branches: Dict[int, Completion] = {}
+        self._hands = Hands(session, thread, gtrid)
         self._looks: List[Callable[[], None]] = []
         # Why it can only be rolled back, where that isn't a branch's own matter.
         self._fault: Optional[XaError] = None
@@ -97,7 +73,7 @@ class Transaction:
         self._codes: Set[Code] = set()
 
     def __repr__(self) -> str:
-        return f"<Transaction {self.gtrid}, {self.outcome.value}, at {len(self._branches)} databases>"
+        return f"<Transaction {self.gtrid}, {self.outcome.value}, at {len(self._hands.parts)} databases>"
 
     def __getitem__(self, key: Union[int, str]) -> Branch:
         """The branch at a database: by its place among those of the manager, from 0, or by its name. Raises TransactionOver
@@ -105,9 +81,9 @@ class Transaction:
         self._require_open()
         self._require_time()
         number = self._session.databases.number_of(key)
-        if number not in self._branches:
+        if number not in self._hands.parts:
             aside(functools.partial(self._see_branch, number))
-        return self._branches[number].branch
+        return self._hands.parts[number].branch
 
     def before_commit(self, look: Callable[[], None]) -> None:
         """Has a function called before the transaction is committed. If it raises an XaError, the transaction is rolled back."""
@@ -117,24 +93,18 @@ class Transaction:
         """Sees that there is a branch at a database."""
         with self._steps:
             self._require_open()
-            if number not in self._branches:
-                self._branches[number] = self._begin_branch(number)
+            if number not in self._hands.parts:
+                self._begin_branch(number)
 
-    def _begin_branch(self, number: int) -> Completion:
-        label = self._session.databases.label(number)
+    def _begin_branch(self, number: int) -> None:
         try:
-            completion = Completion(self._session.line(self._thread, number), self._xid(number), self._options, self._limit)
+            part = Part(self._session.line(self._thread, number), self._xid(number), self._options, self._limit)
             # From now on it has to be ended, however far its beginning comes.
-            self._branches[number] = completion
-            completion.start()
-            if len(self._branches) > 1:
-                # It will be committed in two phases: so the calls of the first are issued while the work goes on.
-                for each in self._branches.values():
-                    each.issue_prepare()
-                self._session.post_soon(self._thread)
-            return completion
+            self._hands.parts[number] = part
+            part.start()
+            self._hands.join()
         except BaseException as error:
-            self._fault = XaError(f"no branch at {label}: {error}")
+            self._fault = XaError(f"no branch at {self._session.databases.label(number)}: {error}")
             self._fault.__cause__ = error
             raise
 
@@ -189,13 +159,7 @@ class Transaction:
 
     def _commit_now(self) -> None:
         try:
-            # What a look has used is a branch as well.
-            branches = list(self._branches.values())
-            self._require_no_fault(branches)
-            if len(branches) == 1:
-                call = branches[0].issue_commit_in_one_phase()
-            else:
-                self._collect_votes(branches)
+            self._require_no_fault()
         except RolledBack as error:
             self._roll_back()
             if self.is_heuristic:
@@ -203,10 +167,21 @@ class Transaction:
             raise
         except XaError as error:
             raise self._rolled_back_for(error) from error
-        if len(branches) == 1:
-            self._commit_in_one_phase(branches[0], call)
-        else:
-            self._commit_in_two_phases([branch for branch in branches if branch.is_prepared])
+        try:
+            told = self._hands.commit()
+        except CoordinatorGone as error:
+            self._note_end(Told(Outcome.ROLLED_BACK))
+            raise RolledBack(str(error)) from error
+        except BaseException:
+            self.outcome = self._hands.fate or Outcome.UNKNOWN
+            raise
+        self._note_end(told)
+        if told.outcome is Outcome.UNKNOWN:
+            raise self._unknown(told)
+        if told.outcome is Outcome.ROLLED_BACK:
+            raise self._no(told)
+        if self.is_heuristic:
+            raise HeuristicEnd(self._odd("committed"))
 
     def rollback(self) -> None:
         """Rolls it back."""
@@ -245,163 +220,103 @@ class Transaction:
         if self.outcome is not Outcome.ROLLED_BACK:
             return False
         while error is not None:
-            if any(branch.vote_of(error) in PASSING for branch in self._branches.values()):
+            vote = error if isinstance(error, Exception) else None
+            if vote is not None and any(part.connection._vote_of(vote) in PASSING for part in self._hands.parts.values()):
                 return True
             error = error.__cause__
         return False
 
-    # ** the first phase
+    # ** why it ends
 
-    def _require_no_fault(self, branches: List[Completion]) -> None:
+    def _require_no_fault(self) -> None:
+        """Raises an XaError if it can only be rolled back."""
         if self._fault is not None:
             raise self._fault
         if self._is_late:
             raise RolledBack(f"the transaction has outlasted its {self._timeout} seconds", code=Code.RBTIMEOUT)
-        for branch in branches:
-            fault = branch.fault
+        for part in self._hands.parts.values():
+            fault = self._fault_of(part)
             if fault is not None:
-                raise self._refusal(branch, fault, branch.code)
+                raise self._refusal(part, fault, self._code_of(part))
 
-    def _refusal(self, branch: Completion, text: str, code: Optional[Code]) -> RolledBack:
+    def _fault_of(self, part: Part) -> Optional[str]:
+        """Why the branch can only be rolled back, if so."""
+        if part.is_lost:
+            return f"the connection to {part.line.rm.label} was lost"
+        fault = part.connection.fault
+        return None if fault is None else f"work at {part.line.rm.label} failed: {fault.name}"
+
+    def _code_of(self, part: Part) -> Optional[Code]:
+        """The code of that, if it has one."""
+        if part.is_lost:
+            return Code.RBPROTO if part.connection.is_ended_by_statement else Code.RBCOMMFAIL
+        return part.connection.fault
+
+    def _refusal(self, part: Part, text: str, code: Optional[Code]) -> RolledBack:
         """Why the transaction is rolled back: what the database said is its cause."""
-        reason = branch.reason
+        reason = part.connection.reason or part.error
         said = "" if reason is None else f": {(str(reason).strip().splitlines() or [type(reason).__name__])[0]}"
-        error = RolledBack(f"{text}{said}", database=branch.line.rm.number, code=code)
+        error = RolledBack(f"{text}{said}", database=part.line.rm.number, code=code)
         error.__cause__ = reason
         return error
 
-    def _collect_votes(self, branches: List[Completion]) -> None:
-        for branch in branches:
-            branch.issue_prepare()
-        self._session.post(self._thread)
-        faults: List[XaError] = []
-        # Who waits for the last reply has all of them.
-        left = self._each(branches[::-1], Completion.see_issued, faults)[::-1]
-        # Also after a no: the calls wait on the lines already.
-        left = self._each(left, Completion.end, faults)
-        left = self._each(left, Completion.send_prepare, faults)
-        for branch in left:
-            try:
-                vote = branch.prepare()
-                if vote not in (Code.OK, Code.RDONLY):
-                    faults.append(self._refusal(branch, f"{branch.line.rm.label} voted {vote.name}", vote))
-            except XaError as error:
-                faults.append(error)
-        if faults:
-            raise faults[0]
+    def _no(self, told: Told) -> RolledBack:
+        """What is raised if the coordinator tells that it is rolled back."""
+        odd = f"; {self._odd('rolled back')}" if self.is_heuristic else ""
+        if told.rm is None or told.code is None:
+            return RolledBack(f"{self.gtrid} is rolled back{odd}")
+        part = self._hands.parts[told.rm]
+        label = part.line.rm.label
+        text = f"the connection to {label} was lost" if part.error is not None else f"{label} voted {told.code.name}"
+        error = self._refusal(part, text, told.code)
+        error.args = (f"{error}{odd}",)
+        return error
 
-    @staticmethod
-    def _each(branches: List[Completion], step: Callable[[Completion], None], faults: List[XaError]) -> List[Completion]:
-        """Does a step for each of the branches. Those of which it went well."""
-        done = []
-        for branch in branches:
-            try:
-                step(branch)
-                done.append(branch)
-            except XaError as error:
-                faults.append(error)
-        return done
+    def _unknown(self, told: Told) -> OutcomeUnknown:
+        reasons = [part.error for part in self._hands.parts.values() if part.error is not None]
+        error = OutcomeUnknown(f"{self.gtrid}: {reasons[0] if reasons else 'nobody knows how it ended'}", self.gtrid)
+        error.__cause__ = reasons[0] if reasons else None
+        return error
 
-    def _commit_in_one_phase(self, branch: Completion, call: Call) -> None:
-        line = branch.line
+    # ** its end
+
+    def _roll_back(self) -> None:
+        """Ends each branch by a rollback. Nothing of it is in the log."""
+        self.outcome = Outcome.ROLLED_BACK
+        parts = list(self._hands.parts.values())
+        self._codes = {code for code in map(self._code_of, parts) if code is not None}
+        if self._fault is not None and isinstance(self._fault.__cause__, ConnectionLost):
+            self._codes.add(Code.RBCOMMFAIL)
+        if self._is_late:
+            self._codes.add(Code.RBTIMEOUT)
         try:
-            self._session.post_and_begin(self._thread)
-            line.see_issued()
-        except XaError as error:
-            # It was never made, and the branch ends with its connection.
-            raise self._rolled_back_for(error) from error
-        self.outcome = Outcome.UNKNOWN
-        try:
-            code = line.make(call).code
-        except XaError as error:
-            # It is over, one way or the other; the coordinator is told so.
-            self._session.owe(line.rm.number, Call("xa_rollback", call.xid))
-            raise OutcomeUnknown(f"{self.gtrid}: {error}", self.gtrid) from error
-        self.outcome = Outcome.COMMITTED if code is Code.OK else Outcome.ROLLED_BACK
-        self._try(line.see_heard)
-        if code is not Code.OK:
-            raise self._refusal(branch, f"{line.rm.label} answered {code.name}", code)
-
-    # ** the second phase
-
-    def _commit_in_two_phases(self, prepared: List[Completion]) -> None:
-        self.outcome = Outcome.UNKNOWN
-        try:
-            self._session.post(self._thread)
-            self._session.commits.decide(self.gtrid, _Commits(self._session, self._thread, prepared))
+            told = self._hands.roll_back()
         except CoordinatorGone as error:
-            self._session.outcomes.ask(self.gtrid)
-            raise OutcomeUnknown(f"{self.gtrid}: {error}", self.gtrid) from error
-        except XaError as error:
-            # It was refused, and nothing has changed.
-            raise self._rolled_back_for(error) from error
-        self.outcome = Outcome.COMMITTED
-        # What can't be sent ahead is asked for again.
-        self._each(prepared, Completion.send_commit, [])
-        told = [branch for branch in prepared if self._is_done("xa_commit", branch, branch.commit)]
-        # The row may leave the log once the coordinator has read the answers.
-        self._try(lambda: self._session.post(self._thread))
-        if prepared and told == prepared:
-            self._session.rows.add(self.gtrid)
-        if self._see_oddities("committed"):
-            raise HeuristicEnd(self._odd("committed"))
+            log.warning("%s, which is rolled back: %s", self.gtrid, error)
+            told = Told(Outcome.ROLLED_BACK)
+        self._note_end(told)
+
+    def _note_end(self, told: Told) -> None:
+        """Notes how it ended, and whether a branch has ended otherwise, or may have."""
+        self.outcome = told.outcome
+        if told.code is not None:
+            self._codes.add(told.code)
+        if self._session.coordinator.is_gone and told.outcome is Outcome.ROLLED_BACK:
+            self._codes.add(Code.RBCOMMFAIL)
+        for part in self._hands.parts.values():
+            if part.connection.is_ended_by_statement:
+                part.oddity = f"{part.xid}: a statement of the program has ended it, and what it had done may stand"
+        for rm, how in told.mixed.items():
+            self._hands.parts[rm].oddity = f"{self._hands.parts[rm].xid}: {how.name}, {HOW[how is Code.HEURHAZ]}"
+        self.is_heuristic = any(part.oddity for part in self._hands.parts.values())
+        if self.is_heuristic:
+            log.error("%s: look at what each database holds, and do by hand what is missing", self._odd(told.outcome.value))
 
     def _rolled_back_for(self, error: XaError) -> RolledBack:
         """Rolls it back because of an error: what is to be raised."""
         self._roll_back()
         return RolledBack(f"{error}; {self._odd('rolled back')}" if self.is_heuristic else str(error))
 
-    def _see_oddities(self, how: str) -> bool:
-        """Sees whether a branch has ended otherwise than the transaction, or may have."""
-        self.is_heuristic = any(branch.oddity for branch in self._branches.values())
-        if self.is_heuristic:
-            log.error("%s: look at what each database holds, and do by hand what is missing", self._odd(how))
-        return self.is_heuristic
-
     def _odd(self, how: str) -> str:
-        odd = [f"{branch.line.rm.label}: {branch.oddity}" for branch in self._branches.values() if branch.oddity]
+        odd = [f"{part.line.rm.label}: {part.oddity}" for part in self._hands.parts.values() if part.oddity]
         return f"{self.gtrid} is {how}, but not everywhere: {'; '.join(odd)}"
-
-    def _roll_back(self) -> None:
-        """Ends each branch by a rollback. Nothing of it is in the log."""
-        self.outcome = Outcome.ROLLED_BACK
-        branches = list(self._branches.values())
-        self._note_codes(branches)
-        for branch in branches:
-            self._try(branch.give_up)
-        self._try(lambda: self._session.roll_back(self.gtrid))
-        told = [branch for branch in branches if self._is_done("xa_rollback", branch, branch.roll_back)]
-        for branch in told:
-            self._is_done("xa_rollback", branch, branch.line.see_heard)
-        for branch in branches:
-            branch.see_whether_it_was_ended()
-        self._see_oddities("rolled back")
-
-    def _note_codes(self, branches: List[Completion]) -> None:
-        codes = {branch.code for branch in branches}
-        if self._session.coordinator.is_gone or self._fault is not None and isinstance(self._fault.__cause__, ConnectionLost):
-            codes.add(Code.RBCOMMFAIL)
-        if self._is_late:
-            codes.add(Code.RBTIMEOUT)
-        self._codes = {code for code in codes if code is not None}
-
-    def _is_done(self, name: str, branch: Completion, step: Callable[[], object]) -> bool:
-        """Does a step of the end of a branch, by the call of this name. What can't be done now is left to the next recovery
-        there."""
-        try:
-            step()
-        except Unexplained as error:
-            branch.oddity = f"{branch.xid} isn't there any more, so somebody has ended it by hand ({error})"
-            return False
-        except XaError as error:
-            log.warning("%s of %s is left to the recovery: %s", name, branch.xid, error)
-            self._session.owe(branch.line.rm.number, Call(name, branch.xid))
-            return False
-        return True
-
-    def _try(self, step: Callable[[], object]) -> None:
-        """Does what the outcome doesn't depend on any more."""
-        try:
-            step()
-        except XaError as error:
-            log.warning("%s, whose outcome stands: %s", self.gtrid, error)

@@ -1,14 +1,55 @@
-"""A stand-in for `xatm serve`, for a driver that makes no mistake: it replies as docs/SERVE.md says, and refuses next to nothing.
+"""A stand-in for `xatm serve --moves`: it says what docs/MOVES.md says, and takes no other answers than that page has.
 
 usage: fake_coordinator.py LOG [DIES_AT]
 
-LOG is a file of JSON with the rows, the incarnation, and all requests that it got. DIES_AT is a request, without its words,
-that it ends at instead of a reply, the first time; `decided` is a decision to commit that it makes, and doesn't tell. With `memory`
-it refuses the first decision to commit."""
+LOG is a file of JSON with the rows, the incarnation, the names, and all moves that it got, the lines among them. DIES_AT is where it ends in
+place of a reply, the first time: `start`, `commit` or `rollback`, as it gets such a move; `votes`, as it gets votes that are all for commit; `decided`,
+as it has decided these and told nobody. With `stopped` it says in place of the first decision that its log failed."""
 
 import json
 import os
 import sys
+
+PAGE = 32
+ROLLED_BACK = set(map(str, range(100, 108)))
+ENDS = {"5", "6", "7", "8"}
+#: What waits at a branch, by its place: the verb, and its answers.
+TOLD = {
+    "preparing": ("prepare", {"0", "3", "lost"} | ROLLED_BACK),
+    "at once": ("commit-at-once", {"0", "-3", "lost"} | ROLLED_BACK),
+    "committing": ("commit", {"0", "4", "-3", "-4", "lost"} | ENDS | ROLLED_BACK),
+    "rolling back": ("rollback", {"0", "-4", "lost"} | ENDS | ROLLED_BACK),
+    "undoing": ("undo", {"0", "6", "-4", "lost"} | ROLLED_BACK),
+    "forgetting": ("forget", {"0", "-3", "-4", "lost"}),
+}
+CALLS = {"xa_commit": {"0", "4", "-3", "-4"} | ENDS | ROLLED_BACK, "xa_rollback": {"0", "-4"} | ENDS | ROLLED_BACK, "xa_forget": {"0", "-3", "-4"}}
+
+
+class Thread:
+    def __init__(self, number):
+        self.number, self.gtrid, self.standing, self.why = number, None, "idle", None
+        self.places, self.owed, self.mixed = {}, set(), {}
+
+    def begin(self, gtrid):
+        self.__init__(self.number)
+        self.gtrid, self.standing = gtrid, "open"
+
+    def is_asked(self):
+        return any(place in TOLD for place in self.places.values())
+
+    def told(self):
+        verb = [TOLD[place][0] for place in self.places.values() if place in TOLD]
+        if verb:
+            return " ".join([verb[0], *(str(rm) for rm, place in self.places.items() if place in TOLD)])
+        words = [self.standing, *(map(str, self.why) if self.why and self.standing == "rolled-back" else [])]
+        words += ["owed", *map(str, sorted(self.owed))] if self.owed else []
+        mixed = {rm: how for rm, how in self.mixed.items() if (how, self.standing) not in (("7", "committed"), ("6", "rolled-back"))}
+        return " ".join(words + (["mixed", *(f"{rm} {how}" for rm, how in mixed.items())] if mixed else []))
+
+
+class Recovery:
+    def __init__(self):
+        self.stage, self.calls, self.put_off, self.is_last = "idle", [], 0, False
 
 
 class Coordinator:
@@ -19,12 +60,11 @@ class Coordinator:
             with open(path) as it:
                 self.log = json.load(it)
         self.log["incarnation"] += 1
-        # The rows that it found: those of its own incarnation aren't owed.
-        self.found = {gtrid: list(xids) for gtrid, xids in self.log["rows"].items()}
-        self.sequence = 0
-        #: Branches that voted to commit, of which no end was lost with its line.
-        self.prepared = set()
-        self.live, self.rolled_back, self.votes, self.waiting, self.pages = set(), set(), {}, {}, {}
+        self.name = self.log.get("names", [""])[0].encode().hex()
+        self.found = {gtrid: set(xids) for gtrid, xids in self.log["rows"].items()}
+        self.sequence, self.threads, self.recoveries = 0, {}, {}
+        #: Ends that are owed: by resource manager, the branch and its call.
+        self.debts, self.over, self.rolled_back = {}, set(), set()
         self.save()
 
     def save(self):
@@ -32,110 +72,240 @@ class Coordinator:
             json.dump(self.log, it)
         os.replace(self.path + ".new", self.path)
 
-    def die(self, name):
-        if self.dies_at == name and name not in self.log.setdefault("deaths", []):
-            self.log["deaths"].append(name)
+    def die(self, moment):
+        if self.dies_at == moment and moment not in self.log.setdefault("deaths", []):
+            self.log["deaths"].append(moment)
             self.save()
+            if moment == "stopped":
+                print("stopped", flush=True)
             os._exit(9)
 
-    def reply_to_all(self, line):
-        """The requests of a line are done in turn, up to the first that isn't done."""
-        done = ""
-        for request in line.split(";"):
-            reply = self.reply(request)
-            if reply.startswith(("refused", "error")):
-                break
-            done += ";"
-        return done[: line.count(";")] + reply
-
     def reply(self, line):
-        name, *words = line.split(" ")
-        self.log["requests"].append(line)
-        self.die(name)
-        return getattr(self, f"do_{name}")(*words)
-
-    def do_status(self):
-        return "status up 0"
-
-    def do_begin(self, thread):
-        self.sequence += 1
-        gtrid = f"{self.log['incarnation']:016x}{self.sequence:016x}"
-        self.live.add(gtrid)
-        return f"begun {gtrid}"
-
-    def do_issue(self, thread, rm, *call):
-        if call[0] == "xa_commit" and len(call) == 2 and call[1].split(":")[1][-32:] not in self.log["rows"]:
-            return "refused 9 NotDecided"
-        self.waiting.setdefault((thread, rm), []).append(" ".join(call))
-        return f"issued {' '.join(call)}"
-
-    def do_answer(self, thread, rm, name, *words):
-        waiting = self.waiting[thread, rm]
-        if not waiting or waiting[0].split(" ")[0] != name:
-            return "error another call waits first"
-        if name in ("xa_commit", "xa_rollback") and words[-1] == "-4" and words[0] in self.prepared:
-            return "error the branch is in no such state"
-        call = waiting.pop(0)
-        if name in ("xa_commit", "xa_rollback"):
-            self.prepared.discard(words[0])
-            if words[-1] in "5678":
-                self.log.setdefault("heuristics", []).append(f"{words[0]} {words[-1]}")
-        if name == "xa_recover":
-            if self.rolled_back.intersection(words[1:]):
-                waiting.insert(0, call)
-                return "error the branch is in no such state"
-            self.pages[rm] = words[1:]
-            return f"heard {name} {words[0]}"
-        if name == "xa_rollback" and words[1] == "0":
-            self.rolled_back.add(words[0])
-        if name == "xa_prepare" and words[1] == "0":
-            self.prepared.add(words[0])
-            self.votes.setdefault(words[0].split(":")[1][-32:], []).append(words[0])
-        return f"heard {name} {words[-1]}"
-
-    def do_decide(self, *words):
-        *gtrids, outcome = words
-        if self.dies_at == "memory" and outcome == "commit":
-            self.dies_at = None
-            return "refused 16 Memory"
-        rows = {gtrid: self.votes[gtrid] for gtrid in gtrids if outcome == "commit" and gtrid in self.votes}
+        moves = [move.split(" ") for move in line.split(";")]
+        self.log["requests"] += line.split(";")
+        self.log.setdefault("lines", []).append(line)
+        self.die(moves[0][0])
+        if moves[0][0] in ("recover", "page", "end", "due", "fate", "quit"):
+            return getattr(self, f"do_{moves[0][0]}")(*moves[0][1:])
+        replies, moved, rows = [], set(), False
+        for verb, number, *words in moves:
+            thread = self.threads.setdefault(number, Thread(int(number)))
+            is_now = number not in moved and number != "0" and getattr(self, f"do_{verb}")(thread, *words)
+            moved.add(number)
+            replies.append(thread if is_now else "error not now")
+        for thread in replies:
+            if thread != "error not now" and thread.standing == "ready":
+                self.die("votes")
+                self.die("stopped")
+                rows = self.decide(thread) or rows
         if rows:
-            self.log["rows"].update(rows)
             self.save()
             self.die("decided")
-        self.live.difference_update(gtrids)
-        return "decided"
+        return ";".join(self.told(thread) for thread in replies)
 
-    def do_done(self, *gtrids):
-        for gtrid in gtrids:
-            del self.log["rows"][gtrid]
-        return "noted"
+    def told(self, thread):
+        if isinstance(thread, str):
+            return thread
+        said = "started" if thread.standing == "new" else thread.told()
+        if thread.standing == "open":
+            return said if thread.is_asked() else "joined"
+        if not thread.is_asked():
+            self.leave(thread)
+            self.sequence += 1
+            gtrid = f"{self.log['incarnation']:016x}{self.sequence:016x}"
+            thread.begin(gtrid)
+            said += f" next {gtrid}"
+        return said
 
-    def do_waiting(self, thread, rm):
-        calls = self.waiting.get((thread, rm))
-        return f"waits {calls[0]}" if calls else "nothing"
+    def leave(self, thread):
+        if thread.standing == "committed" and not thread.owed:
+            self.over.add(thread.gtrid)
 
-    def do_resolve(self, rm):
-        calls = []
-        for xid in self.pages[rm]:
+    def xid(self, thread, rm):
+        return f"7:{self.name}{thread.gtrid}:{thread.number:08x}{rm:08x}"
+
+    # ** threads
+
+    def do_start(self, thread):
+        if thread.standing != "idle":
+            return False
+        thread.standing = "new"
+        return True
+
+    def do_join(self, thread, *rms):
+        if thread.standing != "open" or any(int(rm) in thread.places for rm in rms):
+            return False
+        thread.places.update({int(rm): "working" for rm in rms})
+        if len(thread.places) > 1:
+            thread.places = dict.fromkeys(thread.places, "preparing")
+        return True
+
+    def do_commit(self, thread):
+        if thread.standing != "open" or len(thread.places) > 1:
+            return False
+        thread.places = dict.fromkeys(thread.places, "at once")
+        if not thread.places:
+            thread.standing = "ready"
+        return True
+
+    def do_rollback(self, thread):
+        if thread.standing != "open":
+            return False
+        self.roll_back(thread, None)
+        return True
+
+    def roll_back(self, thread, why):
+        thread.standing, thread.why = "rolled-back", why
+        undone = {"working": "undoing", "preparing": "undoing", "prepared": "rolling back"}
+        thread.places = {rm: undone.get(place, place) for rm, place in thread.places.items()}
+
+    def decide(self, thread):
+        thread.standing = "committed"
+        rms = [rm for rm, place in thread.places.items() if place == "prepared"]
+        thread.places.update(dict.fromkeys(rms, "committing"))
+        if rms:
+            self.log["rows"][thread.gtrid] = [self.xid(thread, rm) for rm in rms]
+        return bool(rms)
+
+    def do_tell(self, thread, *answers):
+        asked = [rm for rm, place in thread.places.items() if place in TOLD]
+        if not asked or len(asked) != len(answers) or any(answer not in TOLD[thread.places[rm]][1] for rm, answer in zip(asked, answers)):
+            return False
+        why = None
+        for rm, answer in zip(asked, answers):
+            why = self.hear(thread, rm, thread.places[rm], answer) or why
+        if thread.standing == "open":
+            if why or not set(answers) <= {"0", "3"}:
+                self.roll_back(thread, why)
+            else:
+                thread.standing = "ready"
+        return True
+
+    def hear(self, thread, rm, place, answer):
+        """A branch hears how its call was answered. Why the transaction can't be committed, if it can't."""
+        xid, thread.places[rm] = self.xid(thread, rm), "over"
+        if place == "preparing":
+            if answer == "0":
+                thread.places[rm] = "prepared"
+            elif answer != "3":
+                if answer == "lost":
+                    self.owe(thread, rm, f"xa_rollback {xid}")
+                return (101 if answer == "lost" else int(answer)), rm
+        elif place == "at once":
+            thread.standing = {"0": "committed", "lost": "unknown"}.get(answer, "rolled-back")
+            thread.why = (int(answer) if int(answer) > 0 else 104, rm) if thread.standing == "rolled-back" else None
+            if answer == "lost":
+                self.owe(thread, rm, f"xa_rollback {xid}")
+        elif answer == "lost" or answer == "4":
+            call = "xa_commit" if place == "committing" else "xa_forget" if place == "forgetting" else "xa_rollback"
+            self.owe(thread, rm, f"{call} {xid}")
+        elif place in ("committing", "rolling back"):
+            how = {"-4": "8", "-3": "6"}.get(answer, "6" if place == "committing" and answer in ROLLED_BACK else answer)
+            if how in ENDS:
+                self.log.setdefault("heuristics", []).append(f"{xid} {how}")
+                thread.mixed[rm] = how
+                thread.places[rm] = "forgetting"
+            elif place == "rolling back":
+                self.rolled_back.add(xid)
+        return None
+
+    def owe(self, thread, rm, call):
+        thread.owed.add(rm)
+        self.debts.setdefault(rm, []).append(call)
+
+    # ** recoveries
+
+    def do_recover(self, rm):
+        recovery = self.recoveries.setdefault(rm, Recovery())
+        if recovery.stage != "idle":
+            return "error not now"
+        recovery.__init__()
+        recovery.stage = "paging"
+        return f"recover {PAGE} TMSTARTRSCAN"
+
+    def do_page(self, rm, *xids):
+        recovery = self.recoveries[rm]
+        if recovery.stage != "paging" or len(xids) > PAGE:
+            return "error not now"
+        for xid in xids:
+            digits = xid.split(":")[1][-32:]
+            begun = int(digits[:16], 16), int(digits[16:], 16)
+            if begun > (self.log["incarnation"], self.sequence):
+                print(f"strange {xid}", flush=True)
+                os._exit(0)
+            if begun[0] < self.log["incarnation"]:
+                if xid in self.rolled_back:
+                    print("stopped", flush=True)
+                    os._exit(0)
+                recovery.calls.append(f"{'xa_commit' if digits in self.log['rows'] else 'xa_rollback'} {xid}")
+        recovery.stage, recovery.is_last = "ending", len(xids) < PAGE
+        return self.next_call(rm)
+
+    def next_call(self, rm):
+        recovery = self.recoveries[rm]
+        if recovery.calls:
+            return recovery.calls[0]
+        if recovery.stage == "ending" and not recovery.is_last:
+            recovery.stage = "paging"
+            return f"recover {PAGE}"
+        if recovery.stage == "ending":
+            recovery.stage = "paying"
+            rows = [xid for xids in self.found.values() for xid in sorted(xids) if int(xid[-8:], 16) == int(rm)]
+            recovery.calls = [*self.debts.get(int(rm), []), *(f"xa_commit {xid}" for xid in rows)]
+            return self.next_call(rm)
+        recovery.stage = "idle"
+        self.take_rows()
+        return f"recovered owed {recovery.put_off}" if recovery.put_off else "recovered"
+
+    def take_rows(self):
+        for gtrid in [gtrid for gtrid, xids in self.found.items() if not xids]:
+            del self.found[gtrid], self.log["rows"][gtrid]
+        for gtrid in self.over:
+            self.log["rows"].pop(gtrid, None)
+        self.over.clear()
+        self.save()
+
+    def do_end(self, rm, answer):
+        recovery = self.recoveries[rm]
+        if answer == "lost" and recovery.stage != "idle":
+            recovery.__init__()
+            return "later"
+        call = recovery.calls[0]
+        name, xid = call.split(" ")
+        if answer not in CALLS[name]:
+            return "error not now"
+        recovery.calls.pop(0)
+        if answer == "4":
+            recovery.put_off += 1
+            return self.next_call(rm)
+        if name == "xa_rollback":
+            self.rolled_back.add(xid)
+        if answer in ENDS:
+            self.log.setdefault("heuristics", []).append(f"{xid} {answer}")
+            recovery.calls.insert(0, f"xa_forget {xid}")
+        self.settle(int(rm), call, xid)
+        return self.next_call(rm)
+
+    def settle(self, rm, call, xid):
+        debts = self.debts.get(rm, [])
+        if call in debts:
+            debts.remove(call)
             gtrid = xid.split(":")[1][-32:]
-            if gtrid not in self.live:
-                calls.append(f"xa_{'commit' if gtrid in self.log['rows'] else 'rollback'} {xid}")
-        self.waiting["0", rm] = calls
-        return f"resolved {len(calls)}"
+            if not any(gtrid in other for others in self.debts.values() for other in others):
+                self.over.add(gtrid)
+        for xids in self.found.values():
+            xids.discard(xid)
 
-    def do_owed(self, rm):
-        xids = [xid for row in self.found.values() for xid in row if int(xid[-8:], 16) == int(rm)]
-        return " ".join(["owed", str(len(xids)), *xids])
+    def do_due(self):
+        return " ".join(["due", *(str(rm) for rm, calls in self.debts.items() if calls)])
 
-    def do_crash(self, part, thread, rm):
-        ends = [call for call in self.waiting.get((thread, rm), []) if call.startswith(("xa_commit ", "xa_rollback "))]
-        self.prepared.difference_update(call.split(" ")[1] for call in ends)
-        self.waiting[thread, rm] = []
-        return "crashed"
+    def do_fate(self, gtrid):
+        if gtrid in self.found:
+            return "committed"
+        return "rolled-back" if int(gtrid[:16], 16) + 1 == self.log["incarnation"] else "unknown"
 
     def do_quit(self):
-        self.save()
+        self.take_rows()
         return "bye"
 
 
@@ -143,7 +313,9 @@ def main():
     coordinator = Coordinator(sys.argv[1], sys.argv[2] if len(sys.argv) > 2 else None)
     print("restarted", coordinator.log["incarnation"], len(coordinator.found), 0, flush=True)
     for line in sys.stdin:
-        print(coordinator.reply_to_all(line.rstrip("\n")), flush=True)
+        print(coordinator.reply(line.rstrip("\n")), flush=True)
+        if line == "quit\n":
+            return
     coordinator.save()
 
 

@@ -24,7 +24,7 @@ def main(words):
     elif "--make" in words:
         make(words[-1], sys.stdin.read().splitlines())
     else:
-        show(words[1])
+        show(words[-1], "--explain" in words)
 
 
 def serve(words):
@@ -45,9 +45,15 @@ def serve(words):
     os.execv(sys.executable, [sys.executable, os.path.join(FOLDER, "fake_coordinator.py"), log])
 
 
-def show(log):
+def show(log, is_explained):
     with open(log) as it:
         found = json.load(it)
+    if is_explained:
+        for gtrid, xids in sorted(found["rows"].items()):
+            print(f"{gtrid} is decided to commit, and its row waits for {len(xids)} branches:")
+            for xid in xids:
+                print(f"    {xid} at resource manager {int(xid[-8:], 16)}")
+        return
     manager, *rms = found.get("names", [""])
     if manager:
         print("name", manager)

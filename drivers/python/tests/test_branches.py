@@ -89,14 +89,15 @@ class Branches(Case):
             branch = t[0]
             branch.execute("take")
             t[1].execute("give")
-            told = self.xa._session.commits.decide
+            post = self.xa._session.coordinator.post
 
-            def late(*words):
-                with self.assertRaises(TransactionOver):
-                    branch.execute("late")
-                told(*words)
+            def late(*words, **more):
+                if words[0].startswith("tell "):
+                    with self.assertRaises(TransactionOver):
+                        branch.execute("late")
+                return post(*words, **more)
 
-            self.xa._session.commits.decide = late
+            self.xa._session.coordinator.post = late
         self.assertEqual(self.bank.written, ["take"])
 
     # ** cursors and connections

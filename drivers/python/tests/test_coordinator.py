@@ -8,21 +8,36 @@ import threading
 import time
 import types
 import unittest
+from concurrent.futures import ThreadPoolExecutor
 from unittest import mock
 
 from garterfossil.coordinator import Coordinator
-from garterfossil.errors import CoordinatorGone, Refused, RequestError, SetupError, Unexplained
+from garterfossil.errors import CoordinatorGone, NotNow, SetupError
 from garterfossil.xid import Xid
 
 ECHO = """
-import signal
 import sys
 print("restarted 1 0 0", flush=True)
-print(";" + sys.stdin.readline(), end="", flush=True)
+sys.stdin.readline()
+print("due", flush=True)
 for line in sys.stdin:
-    print(line if line.startswith(("refused", "error")) else "echo " + line, end="", flush=True)
+    moves = line.rstrip("\\n").split(";")
+    says = moves[0][4:].replace(",", ";") if moves[0].startswith("say ") else ";".join("echo " + move for move in moves)
+    print(says, flush=True)
     if line == "quit\\n":
         break
+"""
+#: The same, and tells behind each move how many stood on its line. A move `hold` is replied to once there is a file.
+GATHERED = """
+import os, sys, time
+print("restarted 1 0 0", flush=True)
+sys.stdin.readline()
+print("due", flush=True)
+for line in sys.stdin:
+    moves = line.rstrip("\\n").split(";")
+    while "hold" in line and not os.path.exists(sys.argv[1]):
+        time.sleep(0.01)
+    print(";".join(f"{move} of {len(moves)}" for move in moves), flush=True)
 """
 
 
@@ -37,7 +52,7 @@ class Coordinators(unittest.TestCase):
 
         def ask(thread):
             for number in range(300):
-                if coordinator.ask(f"{thread} {number}") != f"echo {thread} {number}":
+                if coordinator.ask(f"{thread} {number}", thread) != f"echo {thread} {number}":
                     wrong.append((thread, number))
 
         threads = [threading.Thread(target=ask, args=[thread]) for thread in range(8)]
@@ -48,17 +63,43 @@ class Coordinators(unittest.TestCase):
         coordinator.quit()
         self.assertEqual(wrong, [])
 
-    def test_what_is_refused_is_raised(self):
-        coordinator = process(ECHO)
-        with self.assertRaises(Refused) as raised:
-            coordinator.ask("refused 11 Busy")
-        self.assertEqual((raised.exception.number, raised.exception.name), (11, "Busy"))
-        with self.assertRaises(RequestError):
-            coordinator.ask("error not a request")
-        with self.assertRaises(Unexplained):
-            coordinator.ask("error the branch is in no such state")
+    def test_what_is_no_move_ends_the_session(self):
+        for says in ("error not a move", "error not now", "stopped", "one,two"):
+            coordinator = process(ECHO)
+            with self.assertRaisesRegex(CoordinatorGone, says.replace(",", ";")):
+                coordinator.ask(f"say {says}", 1)
+            self.assertTrue(coordinator.is_gone)
+
+    def test_a_transaction_that_cannot_begin_yet(self):
+        coordinator = process(ECHO.replace('says = ', 'says = "error not now" if moves[0] == "start 1" else '))
+        with self.assertRaises(NotNow):
+            coordinator.ask("start 1", 1)
         self.assertEqual(coordinator.ask("still there"), "echo still there")
         coordinator.quit()
+
+    def test_what_comes_while_a_decision_is_waited_for_goes_by_one_line(self):
+        with tempfile.TemporaryDirectory() as folder:
+            coordinator = Coordinator([sys.executable, "-c", GATHERED, os.path.join(folder, "go on")])
+            with ThreadPoolExecutor(8) as pool:
+                first = pool.submit(coordinator.ask, "hold", 1)
+                until = time.monotonic() + 10
+                while not coordinator._asked and time.monotonic() < until:
+                    time.sleep(0.01)
+                others = [pool.submit(coordinator.ask, f"tell {thread}", thread) for thread in range(2, 7)]
+                late = coordinator.post("tell 1", 1)
+                # A thread moves once on a line, and a recovery has one of its own.
+                later, alone = coordinator.post("join 1", 1), coordinator.post("recover 0")
+                while len(coordinator._unwritten) < 8 and time.monotonic() < until:
+                    time.sleep(0.01)
+                with open(os.path.join(folder, "go on"), "w"):
+                    pass
+                self.assertEqual(first.result(), "hold of 1")
+                counts = [coordinator.wait(reply) for reply in (late, later, alone)] + [other.result() for other in others]
+            counts = sorted(said.rpartition(" of ")[2] for said in counts)
+            self.assertEqual(coordinator.wait(alone), "recover 0 of 1")
+            # Of the eight the first seven stand on two or three lines, as the second move of the thread comes among them.
+            self.assertLessEqual(counts.count("1"), 3)
+            coordinator.kill()
 
     def test_one_that_is_stopped_is_waited_for_no_longer_than_the_patience(self):
         # A reply that never comes, to who reads and to who waits for that one; and a pipe that is full.
@@ -70,13 +111,14 @@ class Coordinators(unittest.TestCase):
 
                 def ask(number):
                     try:
-                        coordinator.ask(f"{number} " + 100 * "x")
+                        coordinator.ask(f"{number} " + 100 * "x", number)
                     except CoordinatorGone as error:
                         raised.append(str(error))
 
                 if lines > 10:
-                    for number in range(lines):
-                        coordinator.post(f"{number} " + 100 * "x")
+                    with self.assertRaisesRegex(CoordinatorGone, "it says nothing any more"):
+                        for number in range(lines):
+                            coordinator.post(f"{number} " + 100 * "x")
                 threads = [threading.Thread(target=ask, args=[number]) for number in range(3)]
                 for thread in threads:
                     thread.start()
@@ -97,24 +139,18 @@ class Coordinators(unittest.TestCase):
             os._exit(0)
         try:
             # As if this process were killed.
-            coordinator._requests.close()
+            coordinator._moves.close()
             coordinator._process.wait(timeout=5)
         finally:
             os.close(writer)
             os.waitpid(child, 0)
             os.close(reader)
 
-    def test_a_failed_log_ends_the_session(self):
-        coordinator = process(ECHO)
-        with self.assertRaises(CoordinatorGone):
-            coordinator.ask("refused 15 LogFault")
-        self.assertTrue(coordinator.is_gone)
-
     def test_a_log_that_failed_for_a_full_disk_is_told_so(self):
         coordinator = Coordinator([sys.executable, "-c", ECHO], 2.0, "/tmp/log")
         full = types.SimpleNamespace(f_bavail=1, f_frsize=4096)
         with mock.patch("os.statvfs", lambda path: full), self.assertRaisesRegex(CoordinatorGone, "disk of the log is full"):
-            coordinator.ask("refused 15 LogFault")
+            coordinator.ask("say stopped", 1)
 
     def test_a_coordinator_that_does_not_start_tells_why(self):
         with self.assertRaisesRegex(CoordinatorGone, "xatm: log"):
@@ -126,25 +162,23 @@ class Coordinators(unittest.TestCase):
             coordinator = Coordinator.start([sys.executable, "-c", program, os.path.join(folder, "mark")], 5)
             coordinator.quit()
 
-    def test_of_a_line_the_request_that_was_not_done_is_named(self):
-        coordinator = process(ECHO.replace('"echo " + line', '";;refused 16 Memory\\n"'))
-        with self.assertRaisesRegex(Refused, "the request: third"):
-            coordinator.ask("first;second;third;fourth")
-        coordinator.kill()
-
-    def test_one_that_takes_one_request_a_line_is_too_old(self):
-        with self.assertRaisesRegex(SetupError, "older than this driver"):
-            process("print('restarted 1 0 0', flush=True); input(); print('error not a request', flush=True); input()")
+    def test_one_that_takes_no_moves_is_too_old(self):
+        for program in (
+            "print('restarted 1 0 0', flush=True); input(); print('error not a request', flush=True); input()",
+            "import sys; print('xatm: usage', file=sys.stderr); sys.exit(3)",
+        ):
+            with self.assertRaisesRegex(SetupError, "older than this driver"):
+                Coordinator.start([sys.executable, "-c", program], 1.0)
 
     def test_the_log_is_waited_for_also_where_the_program_takes_the_statuses_of_its_children(self):
         self.addCleanup(signal.signal, signal.SIGCHLD, signal.signal(signal.SIGCHLD, signal.SIG_IGN))
         self.test_one_that_finds_the_log_in_use_is_started_again()
 
     def test_one_that_ends_is_gone_for_all(self):
-        coordinator = process("print('restarted 1 0 0', flush=True); input(); print(';status up 0', flush=True); input()")
+        coordinator = process("print('restarted 1 0 0', flush=True); input(); print('due', flush=True); input()")
         for _ in range(2):
             with self.assertRaises(CoordinatorGone):
-                coordinator.ask("status")
+                coordinator.ask("due")
 
 
 class Xids(unittest.TestCase):

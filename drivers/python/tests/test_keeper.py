@@ -167,17 +167,18 @@ class Stops(Case):
                 t[1].execute("give")
                 xid = t[1].xid
             session = xa._session
-            line = session.line(0, 1)
-            real = line.make_ready().listed
+            rm = session._rms[1]
+            connection = rm.connect()
+            real = connection.listed
 
             def listed():
                 # The branch is listed, and then the coordinator is killed, and its transaction over.
                 session.coordinator.kill()
                 return [*real(), xid]
 
-            line.connection.listed = listed
+            connection.listed = listed
             with self.assertRaises(CoordinatorGone):
-                recovery.see_over(session, line)
+                recovery.see_over(session, rm, connection)
             self.right.written.clear()
             self.move(xa)
         self.assertEqual(self.right.written, ["give"])
@@ -209,8 +210,9 @@ class Stops(Case):
         self.left.before["roll_back_prepared"] = self.left.prepared.clear
         with self.manager() as xa:
             self.move(xa)
-        told = [line for line in self.requests("answer") if " xa_rollback " in line]
-        self.assertEqual([line.split(" ")[-1] for line in told[:1]], ["0"])
+        # It is told as it is: what it means is the coordinator's to know.
+        self.assertEqual(self.requests("end"), ["end 0 100"])
+        self.assertEqual(self.left.prepared, {})
 
     def test_a_rollback_that_was_forgotten_is_done_again(self):
         with self.manager() as xa:

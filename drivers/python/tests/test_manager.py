@@ -192,7 +192,7 @@ class Runs(Case):
                 with xa.transaction() as t:
                     t[0].execute("take")
                     t[1].execute("give")
-                    t._branches[1]._connection.reason = reason = WrongStatement("the reason")
+                    t._hands.parts[1].connection.reason = reason = WrongStatement("the reason")
                     self.right.next["prepare"] = Code.RBDEADLOCK
             self.assertIs(raised.exception.__cause__, reason)
             self.assertEqual((raised.exception.database, raised.exception.code), (1, Code.RBDEADLOCK))
@@ -276,7 +276,7 @@ class Runs(Case):
         self.assertEqual(self.left.modes, [["ISOLATION LEVEL SERIALIZABLE", "READ ONLY"], []])
 
     def test_the_outcome_is_found_after_the_coordinator_ended(self):
-        for moment, outcome in (("decided", Outcome.COMMITTED), ("decide", Outcome.ROLLED_BACK)):
+        for moment, outcome in (("decided", Outcome.COMMITTED), ("votes", Outcome.ROLLED_BACK)):
             with self.manager(dies_at=moment) as xa:
                 with self.assertRaises(OutcomeUnknown):
                     with xa.transaction() as t:
@@ -290,7 +290,6 @@ class Runs(Case):
         with self.manager(threads=1) as xa:
             self.move(xa)
             self.left.connections[-1].hang_up()
-            xa._session._rms[0]._tried = 0
             self.move(xa)
         self.assertEqual(self.written(), (["take", "take"], ["give", "give"]))
 
@@ -329,26 +328,26 @@ class Runs(Case):
             self.assertIn(line, lines)
         self.assertIn("garterfossil_open 0", xa.metrics().splitlines())
 
-    def test_no_vote_or_end_before_it_is_issued(self):
-        """What docs/SERVE.md asks for: only what is done on a connection alone, and ends with it, is done before."""
+    def test_no_call_is_made_before_it_is_told(self):
+        """What docs/MOVES.md asks for: each is made once, behind the reply that tells it."""
         events = []
         with self.manager(threads=1) as xa:
             coordinator = xa._session.coordinator
-            take = coordinator._take
+            wait = coordinator.wait
 
-            def takes(line):
-                requests = coordinator._waiting[0].requests.split(";")
-                events.extend(request.split(" ")[2:4] for request in requests if request.startswith("issue"))
-                take(line)
+            def waits(reply):
+                words = wait(reply)
+                events.extend([rm, f"{words.split(' ')[0]} is told"] for rm in words.split(" ")[1:])
+                return words
 
-            coordinator._take = takes
+            coordinator.wait = waits
             for number, database in enumerate((self.left, self.right)):
                 database.called = lambda name, number=number: events.append([str(number), name])
             for _ in range(2):
                 self.move(xa)
         for rm in ("0", "1"):
-            for call, made in (("xa_prepare", "prepare"), ("xa_commit", "commit_prepared")):
-                self.assertEqual([event[1] for event in events if event in ([rm, call], [rm, made])], [call, made] * 2)
+            for told, made in (("prepare is told", "prepare"), ("commit is told", "commit_prepared")):
+                self.assertEqual([event[1] for event in events if event in ([rm, told], [rm, made])], [told, made] * 2)
 
 
 class Durable(Case):
@@ -418,12 +417,14 @@ class Ends(Case):
 
     def test_a_transaction_that_another_thread_leaves_open_keeps_nothing_prepared(self):
         xa = self.manager(patience=0.3)
-        is_there, may_go_on = threading.Event(), threading.Event()
+        is_there, may_go_on, post = threading.Event(), threading.Event(), xa._session.coordinator.post
 
-        def prepared(*_):
-            is_there.set()
-            may_go_on.wait(10)
-            raise CoordinatorGone("it was closed meanwhile")
+        def prepared(move, *words, **more):
+            if move.startswith("tell "):
+                is_there.set()
+                may_go_on.wait(10)
+                raise CoordinatorGone("it was closed meanwhile")
+            return post(move, *words, **more)
 
         def keep():
             with contextlib.suppress(XaError):
@@ -431,7 +432,7 @@ class Ends(Case):
                     t[0].execute("take")
                     t[1].execute("give")
                     # It stands between its votes and its decision.
-                    xa._session.commits.decide = prepared
+                    xa._session.coordinator.post = prepared
 
         thread = threading.Thread(target=keep)
         thread.start()

@@ -83,7 +83,7 @@ class Kept(Case):
 
     def test_the_words_of_the_command(self):
         words = serve_command("xatm", "a.db", Names("shop-1", ("bank", "stock")), 8, 2)
-        self.assertEqual(" ".join(words), "xatm serve --name shop-1 --rm bank --rm stock --log a.db 8 2")
+        self.assertEqual(" ".join(words), "xatm serve --moves --name shop-1 --rm bank --rm stock --log a.db 9 2")
 
     def test_another_version_of_the_protocol_is_refused(self):
         with self.assertRaisesRegex(SetupError, "protocol 2"):

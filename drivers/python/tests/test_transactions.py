@@ -1,5 +1,6 @@
 """Transactions over databases in memory, with everything that may go wrong on the way."""
 
+import contextlib
 import unittest
 
 from garterfossil import CoordinatorGone, HeuristicEnd, OutcomeUnknown, Overdue, RolledBack, XaError
@@ -20,7 +21,8 @@ class Transactions(Case):
             t = self.move(xa)
         self.assertEqual(self.written(), (["take"], ["give"]))
         self.assertIs(t.outcome, Outcome.COMMITTED)
-        self.assertEqual(self.requests("decide", "done"), [f"decide {t.gtrid} commit", f"done {t.gtrid}"])
+        self.assertEqual(self.requests("join", "tell"), ["join 1 0 1", "tell 1 0 0", "tell 1 0 0"])
+        self.assertEqual(self.in_the_log()["rows"], {})
 
     def test_an_exception_rolls_both_back(self):
         with self.manager() as xa:
@@ -31,14 +33,14 @@ class Transactions(Case):
                     raise KeyError
         self.assertEqual(self.written(), ([], []))
         self.assertIs(t.outcome, Outcome.ROLLED_BACK)
-        self.assertEqual(self.requests("decide"), [f"decide {t.gtrid} rollback"])
+        self.assertEqual(self.requests("rollback"), ["rollback 1"])
 
     def test_one_database_alone_decides_by_itself(self):
         with self.manager() as xa:
             with xa.transaction() as t:
                 t[1].execute("give")
         self.assertEqual(self.written(), ([], ["give"]))
-        self.assertEqual(self.requests("decide"), [])
+        self.assertEqual(self.requests("join", "commit", "tell"), ["join 1 1", "commit 1", "tell 1 0"])
         self.assertEqual(set(self.left.calls), {"listed "})
 
     def test_a_branch_that_only_read_is_not_committed_again(self):
@@ -54,7 +56,7 @@ class Transactions(Case):
             with xa.transaction() as t:
                 pass
         self.assertIs(t.outcome, Outcome.COMMITTED)
-        self.assertEqual(self.requests("done"), [])
+        self.assertEqual(self.requests("join", "commit", "tell"), ["commit 1"])
 
     # ** votes
 
@@ -87,10 +89,10 @@ class Transactions(Case):
                     t[1].execute("give")
             self.assertIs(t.outcome, Outcome.COMMITTED)
             self.assertEqual((t.is_heuristic, xa.counts()["heuristic"]), (True, 1))
-        # The log has a record of it, and the row is over.
+        # What the database said is told as it is, and what it means is the coordinator's: the log has a record, and the row is over.
+        self.assertEqual(self.requests("tell")[1:], ["tell 1 0 -4", "tell 1 -4"])
         self.assertEqual([line.split(" ")[1] for line in self.in_the_log()["heuristics"]], ["8"])
-        self.assertEqual(self.requests("done"), [f"done {t.gtrid}"])
-        self.assertEqual(len([line for line in self.requests("answer") if "xa_forget" in line and line.endswith(" 0")]), 1)
+        self.assertEqual(self.in_the_log()["rows"], {})
 
     def test_a_branch_that_was_ended_by_hand_before_its_rollback(self):
         self.right.next["prepare"] = Code.RBINTEGRITY
@@ -130,12 +132,11 @@ class Transactions(Case):
             self.right.next["work"] = "lost"
             with self.assertRaises(ConnectionLost):
                 self.move(xa)
-            xa._session._rms[1]._tried = 0
             self.move(xa)
         self.assertEqual(self.written(), (["take"], ["give"]))
-        # The coordinator is told of each branch that it is over: by a no to the vote that was issued, or by an end.
-        told = [line.split(" ")[4] for line in self.requests("answer") if " xa_rollback " in line or line.endswith(" 100")]
-        self.assertEqual([xid[-1] for xid in told], ["0", "1"])
+        # The coordinator is told of each branch that it is over: at once, or by a recovery.
+        self.assertEqual(self.requests("rollback", "tell")[:2], ["rollback 1", "tell 1 100 lost"])
+        self.assertEqual(self.requests("end"), ["end 1 -4"])
 
     def test_a_vote_that_is_lost(self):
         with self.manager() as xa:
@@ -150,8 +151,12 @@ class Transactions(Case):
         with self.manager() as xa:
             self.right.next["commit_prepared"] = "lost"
             t = self.move(xa)
+            self.assertIs(t.outcome, Outcome.COMMITTED)
+            # It is asked for by a recovery, and by nobody's own thread.
+            self.assertEqual(self.requests("tell")[1:], ["tell 1 0 lost"])
         self.assertEqual(self.written(), (["take"], ["give"]))
-        self.assertEqual(self.requests("done"), [f"done {t.gtrid}"])
+        self.assertEqual(self.requests("end"), ["end 1 -4"])
+        self.assertEqual(self.in_the_log()["rows"], {})
 
     def test_the_answer_of_a_single_database_is_lost(self):
         with self.manager() as xa:
@@ -163,15 +168,34 @@ class Transactions(Case):
             self.move(xa)
 
     def test_a_commit_in_one_phase_that_was_never_made_is_rolled_back(self):
-        with self.manager() as xa:
+        with self.manager(dies_at="commit") as xa:
             with self.assertRaises(RolledBack):
                 with xa.transaction() as t:
                     t[0].execute("take")
-                    self.left.before["end"] = xa._session.coordinator.kill
-            self.left.before.clear()
             self.assertIs(t.outcome, Outcome.ROLLED_BACK)
             self.assertTrue(t.is_worth_trying_again)
         self.assertEqual(self.left.written, [])
+
+    def test_a_connection_that_is_lost_before_a_commit_in_one_phase(self):
+        with self.manager() as xa:
+            self.left.next["end"] = "lost"
+            with self.assertRaises(RolledBack):
+                with xa.transaction() as t:
+                    t[0].execute("take")
+            self.assertTrue(t.is_worth_trying_again)
+        self.assertEqual(self.left.written, [])
+
+    def test_what_a_single_database_said_is_told_although_the_coordinator_ends_in_it(self):
+        for code, outcome in ((Code.OK, Outcome.COMMITTED), (Code.RBINTEGRITY, Outcome.ROLLED_BACK), ("lost", Outcome.UNKNOWN)):
+            with self.manager() as xa:
+                self.left.next["commit_in_one_phase"] = code
+                self.left.before["commit_in_one_phase"] = lambda: xa._session.coordinator.kill()
+                with contextlib.suppress(RolledBack, OutcomeUnknown):
+                    with xa.transaction() as t:
+                        t[0].execute("take")
+                self.left.before.clear()
+                self.assertIs(t.outcome, outcome)
+                self.assertIs(xa.outcome(t.gtrid), outcome)
 
     def test_what_was_told_can_be_asked_for_again(self):
         with self.manager() as xa:
@@ -218,7 +242,6 @@ class Transactions(Case):
             self.assertIs(t.outcome, Outcome.COMMITTED)
             self.assertEqual(self.written(), (["take"], []))
             self.right.is_up = True
-            xa._session._rms[1]._tried = 0
             self.move(xa)
         self.assertEqual(self.written(), (["take", "take"], ["give", "give"]))
         self.assertEqual(self.in_the_log()["rows"], {})
@@ -229,7 +252,7 @@ class Transactions(Case):
         return Code.OK
 
     def test_the_coordinator_ends_before_its_decision(self):
-        with self.manager(dies_at="decide") as xa:
+        with self.manager(dies_at="votes") as xa:
             with self.assertRaises(OutcomeUnknown) as raised:
                 self.move(xa)
             self.assertIsInstance(raised.exception.__cause__, CoordinatorGone)
@@ -247,20 +270,29 @@ class Transactions(Case):
         self.assertEqual(self.written(), (["take", "take"], ["give", "give"]))
         self.assertEqual(self.in_the_log()["rows"], {})
 
-    def test_a_decision_that_is_refused(self):
-        with self.manager(dies_at="memory") as xa:
-            with self.assertRaises(RolledBack) as raised:
+    def test_a_log_that_fails_in_a_decision(self):
+        with self.manager(dies_at="stopped") as xa:
+            with self.assertRaisesRegex(OutcomeUnknown, "its log failed") as raised:
                 self.move(xa)
-            self.assertEqual(raised.exception.__cause__.number, 16)
             self.assertEqual(self.written(), ([], []))
             self.move(xa)
+            self.assertIs(xa.outcome(raised.exception.gtrid), Outcome.ROLLED_BACK)
         self.assertEqual(self.written(), (["take"], ["give"]))
         self.assertEqual((self.left.prepared, self.right.prepared), ({}, {}))
-        # The commits that were issued behind it were refused too, and no line was lost.
-        self.assertEqual(self.requests("crash"), [])
+
+    def test_the_coordinator_ends_as_a_transaction_is_rolled_back(self):
+        with self.manager(dies_at="rollback") as xa:
+            with self.assertRaises(KeyError):
+                with xa.transaction() as t:
+                    t[0].execute("take")
+                    t[1].execute("give")
+                    raise KeyError
+            self.assertIs(t.outcome, Outcome.ROLLED_BACK)
+            self.move(xa)
+        self.assertEqual(self.written(), (["take"], ["give"]))
 
     def test_the_coordinator_ends_while_nothing_is_open(self):
-        with self.manager(dies_at="begin") as xa:
+        with self.manager(dies_at="start") as xa:
             self.move(xa)
         self.assertEqual(self.written(), (["take"], ["give"]))
 
@@ -271,7 +303,6 @@ class Transactions(Case):
             with xa.transaction() as t:
                 t[0].execute("take")
             self.right.is_up = True
-            xa._session._rms[1]._tried = 0
             self.move(xa)
         self.assertEqual(self.written(), (["take", "take"], ["give"]))
 
@@ -288,7 +319,6 @@ class Transactions(Case):
             self.left.next["work"] = "lost"
             with self.assertRaises(ConnectionLost):
                 self.move(xa)
-            xa._session._rms[0]._tried = 0
             self.move(xa)
         self.assertEqual(self.written(), (["take"], ["give"]))
         self.assertEqual(self.left.prepared, {})

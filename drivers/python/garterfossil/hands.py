@@ -1,0 +1,343 @@
+"""The hands of the coordinator: they make the calls that it tells, and tell how these were answered. What comes next, what an answer means
+and how a transaction ends is the coordinator's to say (docs/MOVES.md)."""
+
+from __future__ import annotations
+
+import functools
+import logging
+import time
+from typing import TYPE_CHECKING, Callable, Dict, List, Mapping, NamedTuple, Optional, Sequence, Set
+
+from .adapters.base import Connection, Options
+from .aside import side_by_side
+from .branch import Branch
+from .calls import Call
+from .codes import Code
+from .coordinator import Reply
+from .errors import ConnectionLost, CoordinatorGone, OutcomeUnknown, Unanswered, XaError
+from .line import Line
+from .outcomes import TOLD, Outcome
+from .resource_manager import ResourceManager
+from .xid import Xid
+
+if TYPE_CHECKING:
+    from .session import Session
+
+log = logging.getLogger("garterfossil")
+
+#: The calls of XA behind each verb, and how the last of them may be answered, beside a rollback with its reason: all else is no answer.
+CALLS = {
+    "prepare": ("xa_end TMSUCCESS", "xa_prepare"),
+    "commit-at-once": ("xa_end TMSUCCESS", "xa_commit TMONEPHASE"),
+    "commit": ("xa_commit",),
+    "rollback": ("xa_rollback",),
+    "undo": ("xa_end TMFAIL", "xa_rollback"),
+    "forget": ("xa_forget",),
+}
+HEURISTIC = {Code.HEURHAZ, Code.HEURCOM, Code.HEURRB, Code.HEURMIX}
+ANSWERS = {
+    "prepare": {Code.OK, Code.RDONLY},
+    "commit-at-once": {Code.OK},
+    "commit": {Code.OK, Code.RETRY, Code.NOTA, *HEURISTIC},
+    "rollback": {Code.OK, Code.NOTA, *HEURISTIC},
+    "undo": {Code.OK, Code.NOTA, Code.HEURRB},
+    "forget": {Code.OK, Code.NOTA},
+}
+#: A recovery asks for so many identifiers at a time, and makes a call that has no answer now again for so many seconds.
+PAGE, STUCK, PAUSE = 32, 1.0, 0.05
+
+
+def is_answer(verb: str, code: Code) -> bool:
+    """Whether there is such an answer to a call."""
+    return code in ANSWERS[verb] or code.is_rollback and verb != "forget"
+
+
+class Told(NamedTuple):
+    """How a transaction ended, as the coordinator tells it."""
+
+    outcome: Outcome
+    #: Why it is rolled back, and at which database, if a branch is the reason.
+    code: Optional[Code] = None
+    rm: Optional[int] = None
+    #: Where a branch is yet to be ended, and where the database had ended it otherwise.
+    owed: Sequence[int] = ()
+    mixed: Mapping[int, Code] = {}
+
+    @classmethod
+    def parse(cls, reply: str) -> Told:
+        """What a reply tells."""
+        outcome, *words = reply.partition(" next ")[0].split(" ")
+        parts: Dict[str, List[int]] = {"why": [], "owed": [], "mixed": []}
+        part = "why"
+        for word in words:
+            if word in parts:
+                part = word
+            else:
+                parts[part].append(int(word))
+        code, rm = parts["why"] or (None, None)
+        mixed = {number: Code(how) for number, how in zip(parts["mixed"][::2], parts["mixed"][1::2])}
+        return cls(TOLD[outcome], None if code is None else Code(code), rm, parts["owed"], mixed)
+
+
+class Part:
+    """A branch of a transaction, of which the calls are its hands' alone to make."""
+
+    def __init__(self, line: Line, xid: Xid, options: Options, limit: Optional[float]):
+        self.line, self.xid = line, xid
+        self.connection = line.make_ready()
+        self.connection.options, self.connection.limit = options, limit
+        #: What the program works with.
+        self.branch = Branch(line, self.connection, xid)
+        #: Why a call has no answer.
+        self.error: Optional[BaseException] = None
+        #: What is odd about how it ended.
+        self.oddity: Optional[str] = None
+
+    @property
+    def is_lost(self) -> bool:
+        """Whether the line has the connection no more that it was begun on."""
+        return self.line.connection is not self.connection
+
+    def start(self) -> None:
+        """xa_start: work may begin. Raises XaError, and then there is no branch."""
+        try:
+            code = self.connection.do(Call("xa_start", self.xid)).code
+        except Unanswered as error:
+            self.line.lose()
+            raise ConnectionLost(f"xa_start has no answer: {error}") from error
+        except BaseException:
+            self.line.lose()
+            raise
+        if code is not Code.OK:
+            self.line.lose()
+            raise XaError(f"{self.line.rm.label} has a branch {self.xid} already, of another log")
+
+    def send(self, verb: str) -> bool:
+        """Sends a call ahead of its answer, if the database's module can: whether nothing more is to be done but to wait."""
+        if self.is_lost or not self.connection.SENDS or verb not in ("prepare", "commit"):
+            return self.is_lost
+        try:
+            *before, last = self._calls(verb)
+            for call in before:
+                self.connection.do(call)
+            self.connection.send(last)
+        except Exception as error:
+            self._lose(error)
+        return True
+
+    def make(self, verb: str, was_sent: bool = False) -> Optional[Code]:
+        """Makes a call: how it is answered. None if it isn't, and then the connection is given up."""
+        calls = self._calls(verb)
+        is_last_made = False
+        try:
+            if self.is_lost:
+                raise ConnectionLost(f"the connection to {self.line.rm.label} was lost")
+            code = Code.OK
+            for call in calls[-1:] if was_sent else calls:
+                is_last_made = call is calls[-1]
+                code = self.connection.do(call).code
+            if not is_answer(verb, code):
+                raise ConnectionLost(f"{calls[-1]} was answered {code.name}")
+            self._note(verb, code)
+            return code
+        except BaseException as error:
+            self._lose(error)
+            if not isinstance(error, Exception):
+                raise
+            # What was never committed ends with its connection.
+            return Code.RBCOMMFAIL if verb == "commit-at-once" and not is_last_made else None
+
+    def _calls(self, verb: str) -> List[Call]:
+        self.branch._is_over = True
+        return [Call(name, self.xid, tuple(flags)) for name, *flags in (call.split(" ") for call in CALLS[verb])]
+
+    def _note(self, verb: str, code: Code) -> None:
+        rm = self.line.rm
+        if verb == "prepare" and code is Code.OK:
+            rm.prepared.add(self.xid)
+        elif verb in ("commit", "rollback"):
+            rm.prepared.discard(self.xid)
+        if verb == "rollback" and (code is Code.OK or code.is_rollback):
+            rm.note_undone(self.xid)
+        if code is Code.RETRY:
+            # Others can end it only once its own connection is gone.
+            self.line.lose()
+
+    def _lose(self, error: BaseException) -> None:
+        if not isinstance(error, XaError):
+            log.warning("%s: %s", self.line.rm.label, error)
+        self.error = self.error or error
+        self.line.rm.prepared.discard(self.xid)
+        if not self.is_lost:
+            self.line.lose()
+
+
+def make_all(verb: str, parts: Sequence[Part]) -> List[Optional[Code]]:
+    """Makes a call at each of these, side by side: the answers, in their order."""
+    sent = {id(part) for part in parts if part.send(verb)}
+    others = [part for part in parts if id(part) not in sent]
+    made = dict(zip(map(id, others), side_by_side([functools.partial(part.make, verb) for part in others])))
+    return [part.make(verb, was_sent=True) if id(part) in sent else made[id(part)] for part in parts]
+
+
+class Hands:
+    """Those of one transaction: they join its branches, and bring it to its end."""
+
+    def __init__(self, session: Session, thread: int, gtrid: str):
+        self.parts: Dict[int, Part] = {}
+        #: What is told if the coordinator ends now; None if the next session knows it.
+        self.fate: Optional[Outcome] = Outcome.ROLLED_BACK
+        self._session, self._thread, self._gtrid = session, thread, gtrid
+        self._joined: Set[int] = set()
+        self._reply: Optional[Reply] = None
+
+    def join(self) -> None:
+        """Says which branches have begun, once there are two: so the calls of the first phase are told while the work goes on."""
+        if len(self.parts) > 1:
+            self._say_joined()
+
+    def commit(self) -> Told:
+        """The work is over. Raises OutcomeUnknown; or CoordinatorGone, and it is rolled back."""
+        return self._do(lambda: None if len(self._joined) > 1 else self._move("commit", is_asked=True))
+
+    def roll_back(self) -> Told:
+        """It is to be rolled back. Raises CoordinatorGone, and it is."""
+        return self._do(lambda: self._move("rollback", is_asked=True))
+
+    def _say_joined(self) -> None:
+        new = [rm for rm, part in self.parts.items() if rm not in self._joined and not part.is_lost]
+        if new:
+            self._joined.update(new)
+            self._move("join", *map(str, new))
+
+    def _move(self, verb: str, *words: str, is_asked: bool = False) -> None:
+        move = " ".join([verb, str(self._thread), *words])
+        self._reply = self._session.coordinator.post(move, self._thread, is_asked)
+
+    def _do(self, first: Callable[[], None]) -> Told:
+        """Does what the coordinator tells until it tells the outcome. Whatever comes in between, the coordinator is never left without an
+        answer in a session that goes on."""
+        try:
+            self._say_joined()
+            first()
+            told = self._finish()
+            self._session.note_told(self._gtrid, self._thread, self._reply, told, self.parts)
+            return told
+        except CoordinatorGone as gone:
+            if self.fate is Outcome.COMMITTED:
+                log.warning("%s is committed, and ended by the next session: %s", self._gtrid, gone)
+                return Told(Outcome.COMMITTED)
+            self._ask_later()
+            if self.fate is not Outcome.ROLLED_BACK:
+                raise OutcomeUnknown(f"{self._gtrid}: {gone}", self._gtrid) from gone
+            raise
+        except BaseException:
+            self._session.coordinator.kill()
+            self._ask_later()
+            raise
+
+    def _ask_later(self) -> None:
+        if self.fate is None:
+            self._session.outcomes.ask(self._gtrid)
+
+    def _finish(self) -> Told:
+        while True:
+            assert self._reply is not None
+            words = self._session.coordinator.wait(self._reply)
+            verb, *rms = words.split(" ")
+            if verb in TOLD:
+                told = Told.parse(words)
+                self.fate = told.outcome
+                return told
+            answers = self._make(verb, [self.parts[int(rm)] for rm in rms])
+            # Nothing else can be told behind these, and so nobody waits for it.
+            is_over = self.fate is Outcome.COMMITTED and all(code is Code.OK for code in answers)
+            said = ["lost" if code is None else str(int(code)) for code in answers]
+            self._move("tell", *said, is_asked=not is_over)
+            if is_over:
+                return Told(Outcome.COMMITTED)
+
+    def _make(self, verb: str, parts: Sequence[Part]) -> List[Optional[Code]]:
+        if verb == "commit":
+            # Before a database hears of it.
+            self._session.note_decision(self._gtrid, [part.xid for part in parts])
+            self.fate = Outcome.COMMITTED
+        elif verb in ("rollback", "undo"):
+            self.fate = Outcome.ROLLED_BACK
+        elif verb == "commit-at-once":
+            self.fate = Outcome.UNKNOWN
+        answers = make_all(verb, parts)
+        if verb == "prepare" and all(code in (Code.OK, Code.RDONLY) for code in answers):
+            self.fate = None
+        elif verb == "commit-at-once" and answers[0] is not None:
+            self.fate = Outcome.COMMITTED if answers[0] is Code.OK else Outcome.ROLLED_BACK
+        return answers
+
+
+class Recovery:
+    """The same for what is in doubt at a database, over a connection of its own. `left_out` are branches that no page is to list."""
+
+    def __init__(self, session: Session, rm: ResourceManager, connection: Connection, left_out: Set[Xid]):
+        self._session, self._rm, self._connection, self._left_out = session, rm, connection, left_out
+        #: Why something can't be ended now.
+        self.error: Optional[Exception] = None
+
+    def run(self) -> str:
+        """Does what the coordinator tells, until it says how that ended."""
+        ask, number = self._session.coordinator.ask, self._rm.number
+        reply = ask(f"recover {number}")
+        listed: Optional[List[Xid]] = None
+        while True:
+            verb, *words = reply.split(" ")
+            if verb == "recover":
+                listed = self._listed() if listed is None else listed[PAGE:]
+                reply = ask(f"end {number} lost" if listed is None else " ".join([f"page {number}", *map(str, listed[:PAGE])]))
+            elif verb in ("xa_commit", "xa_rollback", "xa_forget"):
+                code = self._made(Call(verb, Xid.parse(words[0])))
+                reply = ask(f"end {number} {'lost' if code is None else int(code)}")
+            else:
+                return reply
+
+    def _listed(self) -> Optional[List[Xid]]:
+        try:
+            with self._connection.timed(self._session.patience):
+                return sorted(xid for xid in self._connection.listed() if xid not in self._left_out)
+        except Exception as error:
+            self.error = error
+            return None
+
+    def _made(self, call: Call) -> Optional[Code]:
+        """Makes a call: how it is answered, or None. One that can't be made now is made again for a moment; then a commit is put off, and
+        a rollback left out for a while, so that they hold up no others."""
+        until = time.monotonic() + STUCK
+        while True:
+            try:
+                code = self._connection.do(call).code
+            except Unanswered as error:
+                self.error = error
+                if time.monotonic() < until:
+                    time.sleep(PAUSE)
+                    continue
+                if call.name == "xa_commit":
+                    return Code.RETRY
+                self._rm.put_off(call.branch)
+                return None
+            except Exception as error:
+                self.error = error
+                self._rm.put_off(call.branch)
+                return None
+            log.info("recovery of %s: %s answered %s", self._rm.label, call, code.name)
+            if not is_answer(call.name[3:], code):
+                self.error = ConnectionLost(f"{call} was answered {code.name}")
+                return None
+            self._note(call, code)
+            return code
+
+    def _note(self, call: Call, code: Code) -> None:
+        if code.is_heuristic or call.name == "xa_commit" and code.is_rollback:
+            log.error("%s: %s answered %s: somebody has ended it by hand; compare the databases", self._rm.label, call, code.name)
+            self._session.outcomes.note_odd()
+        elif call.name == "xa_rollback" and code is not Code.NOTA:
+            self._rm.note_undone(call.branch)
+        if code is not Code.RETRY:
+            self._session.settle([call.branch])
