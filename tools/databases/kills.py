@@ -81,8 +81,16 @@ class Kills:
                 time.sleep(self.rng.uniform(0, 0.5))
                 self.servers[what].start()
 
+    def await_log(self):
+        """Waits until the first driver has begun: over a new log each database has to be there once."""
+        until = time.monotonic() + 60
+        while not os.path.exists(f"{self.world.log}-databases") and time.monotonic() < until:
+            time.sleep(0.05)
+        time.sleep(1)
+
     def run(self, kills):
         self.start_driver()
+        self.await_log()
         while sum(self.done.values()) < kills:
             time.sleep(self.rng.uniform(*PAUSE))
             self.see_driver()
