@@ -4,7 +4,8 @@ usage: fake_coordinator.py LOG [DIES_AT]
 
 LOG is a file of JSON with the rows, the incarnation, the names, and all moves that it got, the lines among them. DIES_AT is where it ends in
 place of a reply, the first time: `start`, `commit` or `rollback`, as it gets such a move; `votes`, as it gets votes that are all for commit; `decided`,
-as it has decided these and told nobody. With `stopped` it says in place of the first decision that its log failed."""
+as it has decided these and told nobody. With `stopped`
+it says in place of the first decision that its log failed."""
 
 import json
 import os
@@ -48,6 +49,8 @@ class Thread:
 
 
 class Recovery:
+    is_scanned = False
+
     def __init__(self):
         self.stage, self.calls, self.put_off, self.is_last = "idle", [], 0, False
 
@@ -127,7 +130,8 @@ class Coordinator:
     # ** threads
 
     def do_start(self, thread):
-        if thread.standing != "idle":
+        are_looked_at = all(recovery.is_scanned for recovery in self.recoveries.values())
+        if thread.standing != "idle" or self.log["incarnation"] == 1 and not are_looked_at:
             return False
         thread.standing = "new"
         return True
@@ -249,7 +253,7 @@ class Coordinator:
             recovery.stage = "paging"
             return f"recover {PAGE}"
         if recovery.stage == "ending":
-            recovery.stage = "paying"
+            recovery.stage, recovery.is_scanned = "paying", True
             rows = [xid for xids in self.found.values() for xid in sorted(xids) if int(xid[-8:], 16) == int(rm)]
             recovery.calls = [*self.debts.get(int(rm), []), *(f"xa_commit {xid}" for xid in rows)]
             return self.next_call(rm)

@@ -1,0 +1,211 @@
+"""The calls that the coordinator tells: how they are made, and what is told of a transaction whatever ends in the middle of it."""
+
+import contextlib
+import threading
+import time
+import unittest
+
+from garterfossil import CoordinatorGone, Outcome, OutcomeUnknown, RolledBack, SetupError, TransactionManager, XaError, Xid
+from garterfossil.codes import Code
+from garterfossil.errors import ConnectionLost
+from garterfossil.hands import Told
+from garterfossil.identities import SUFFIX
+
+from . import fake_program
+from .case import Case
+from .test_keeper import wait_for
+
+
+class Replies(unittest.TestCase):
+    def test_what_is_told(self):
+        for reply, told in (
+            ("committed next 0", Told(Outcome.COMMITTED, owed=[])),
+            ("committed owed 1 2 mixed 0 6 3 8 next 0", Told(Outcome.COMMITTED, None, None, [1, 2], {0: Code.HEURRB, 3: Code.HEURHAZ})),
+            ("rolled-back 102 1 owed 0 next 0", Told(Outcome.ROLLED_BACK, Code.RBDEADLOCK, 1, [0])),
+            ("rolled-back next 0", Told(Outcome.ROLLED_BACK, owed=[])),
+            ("unknown owed 0 next 0", Told(Outcome.UNKNOWN, owed=[0])),
+        ):
+            self.assertEqual(Told.parse(reply), told)
+
+
+class Calls(Case):
+    def test_the_calls_of_one_reply_are_made_side_by_side(self):
+        both = threading.Barrier(2)
+        for database in (self.left, self.right):
+            for call in ("prepare", "commit_prepared"):
+                database.before[call] = lambda: both.wait(10)
+        with self.manager() as xa:
+            self.move(xa)
+        self.assertEqual(self.written(), (["take"], ["give"]))
+
+    def test_behind_the_work_the_coordinator_is_waited_for_once(self):
+        asked = []
+        with self.manager() as xa:
+            self.move(xa)
+            post = xa._session.coordinator.post
+
+            def posts(move, thread=None, is_asked=False):
+                asked.append((move.split(" ")[0], is_asked))
+                return post(move, thread, is_asked)
+
+            xa._session.coordinator.post = posts
+            self.move(xa)
+        self.assertEqual(asked[:3], [("join", False), ("tell", True), ("tell", False)])
+
+    def test_a_database_that_is_away_behind_the_decision_is_waited_for_by_nobody(self):
+        with self.manager(patience=30.0) as xa:
+            begun = time.monotonic()
+            with xa.transaction() as t:
+                t[0].execute("take")
+                t[1].execute("give")
+                self.left.before["commit_prepared"] = self.right.crash
+            self.assertLess(time.monotonic() - begun, 5)
+            self.assertIs(t.outcome, Outcome.COMMITTED)
+            self.assertEqual(xa.counts()["owed"], 1 if self.right.prepared else 0)
+            self.right.is_up = True
+            # Nobody begins a transaction.
+            wait_for(lambda: xa.counts()["owed"] == 0 and not self.right.prepared)
+        self.assertEqual(self.written(), (["take"], ["give"]))
+
+    def test_no_transaction_begins_over_a_new_log_before_each_database_was_looked_at(self):
+        looks = []
+
+        def looked():
+            looks.append(self.right.calls)
+            # Before the start, twice before the page, and that.
+            if len(looks) == 4:
+                raise ConnectionLost("it is away for a moment")
+
+        self.right.before["listed"] = looked
+        with self.manager(patience=10.0) as xa:
+            self.move(xa)
+        self.assertIn("end 1 lost", self.requests("end"))
+        self.assertEqual(self.written(), (["take"], ["give"]))
+
+    def test_a_branch_of_another_log_shuts_the_log_for_good(self):
+        with self.manager() as xa:
+            self.move(xa)
+            # It isn't found by the driver's own look.
+            xa._session.knows = lambda xid: True
+            self.left.prepared[Xid(7, (9).to_bytes(8, "big") + bytes(8), bytes(8))] = []
+            xa._session._rms[0].is_recovery_due = True
+            with self.assertRaises(XaError):
+                wait_for(lambda: self.moves(xa))
+        for _ in range(2):
+            with self.assertRaisesRegex(SetupError, "no session over this log began.*shut"):
+                self.manager()
+        with open(self.log + SUFFIX) as it:
+            self.assertIn('"shut"', it.read())
+
+    def moves(self, xa):
+        with contextlib.suppress(CoordinatorGone, RolledBack, OutcomeUnknown):
+            self.move(xa)
+
+
+class Owing(Case):
+    """What a log has decided and a database hasn't acknowledged is counted from the start."""
+
+    def manager(self, **options):
+        program = fake_program.made_in(self.folder)
+        return TransactionManager([self.left, self.right], self.log, threads=2, patience=1.0, program=program, **options)
+
+    def test_what_earlier_sessions_owe(self):
+        xa = self.manager()
+        self.right.next["commit_prepared"] = ConnectionLost("killed")
+        self.right.before["commit_prepared"] = lambda: xa._session.coordinator.kill()
+        self.move(xa)
+        self.right.before.clear()
+        self.right.is_up = False
+        with self.manager() as xa:
+            self.assertEqual([one["owed"] for one in xa._session.standing()], [0, 1])
+            self.right.is_up = True
+            wait_for(lambda: xa.counts()["owed"] == 0)
+        self.assertEqual(self.written(), (["take"], ["give"]))
+
+
+class Moments(Case):
+    """Whatever ends at whichever moment of a transfer: what was told is so, and both databases agree."""
+
+    def transfer(self, xa, fails):
+        t = None
+        with contextlib.suppress(XaError, KeyError):
+            with xa.transaction() as t:
+                t[0].execute("take")
+                t[1].execute("give")
+                if fails:
+                    raise KeyError
+        return t
+
+    def see(self, xa, t, where):
+        """Sees that all is right, once what is in doubt was ended."""
+        self.move(xa)
+        wait_for(lambda: not self.left.prepared and not self.right.prepared)
+        self.assertEqual(len(self.left.written), len(self.right.written), where)
+        outcome = xa.outcome(t.gtrid) if t.outcome is Outcome.UNKNOWN else t.outcome
+        self.assertEqual(len(self.left.written) - 1, int(outcome is Outcome.COMMITTED), where)
+        self.left.written.clear()
+        self.right.written.clear()
+
+    def sweep(self, fails, end):
+        """Has something end at each of the moments at which the coordinator is written to or read from, or a call is made."""
+        moment, was_there = 0, True
+        while was_there:
+            moment += 1
+            with self.manager(patience=5.0) as xa:
+                self.move(xa)
+                self.left.written.clear()
+                self.right.written.clear()
+                left = [moment]
+                self.watch(xa, left, end)
+                t = self.transfer(xa, fails)
+                was_there, left[0] = left[0] <= 0, 0
+                for database in (self.left, self.right):
+                    database.called = lambda name: None
+                self.see(xa, t, f"moment {moment}")
+        return moment
+
+    def watch(self, xa, left, end):
+        coordinator = xa._session.coordinator
+
+        def at(*_):
+            left[0] -= 1
+            if left[0] == 0:
+                end(xa)
+
+        def before(step):
+            def stepped(*words, **more):
+                at()
+                return step(*words, **more)
+
+            return stepped
+
+        coordinator.post, coordinator.wait = before(coordinator.post), before(coordinator.wait)
+        self.left.called = self.right.called = at
+
+    def test_the_coordinator_is_killed(self):
+        self.assertGreater(self.sweep(False, lambda xa: xa._session.coordinator.kill()), 12)
+
+    def test_the_coordinator_is_killed_in_a_rollback(self):
+        self.assertGreater(self.sweep(True, lambda xa: xa._session.coordinator.kill()), 9)
+
+    def lose(self, database):
+        for connection in database.connections:
+            if not connection.is_lost:
+                connection.hang_up()
+
+    def test_the_connections_to_a_database_are_lost(self):
+        for database in (self.left, self.right):
+            self.assertGreater(self.sweep(False, lambda xa: self.lose(database)), 12)
+
+    def test_all_is_lost_at_once(self):
+        def end(xa):
+            xa._session.coordinator.kill()
+            self.lose(self.left)
+            self.lose(self.right)
+
+        self.sweep(False, end)
+        self.sweep(True, end)
+
+
+if __name__ == "__main__":
+    unittest.main()
