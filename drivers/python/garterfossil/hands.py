@@ -250,6 +250,10 @@ class Hands:
                 self.fate = told.outcome
                 return told
             answers = self._make(verb, [self.parts[int(rm)] for rm in rms])
+            if verb == "prepare" and all(code in (Code.OK, Code.RDONLY) for code in answers):
+                # Unless the coordinator never hears of it.
+                self._session.coordinator.see_up()
+                self.fate = None
             # Nothing else can be told behind these, and so nobody waits for it.
             is_over = self.fate is Outcome.COMMITTED and all(code is Code.OK for code in answers)
             said = ["lost" if code is None else str(int(code)) for code in answers]
@@ -264,12 +268,12 @@ class Hands:
             self.fate = Outcome.COMMITTED
         elif verb in ("rollback", "undo"):
             self.fate = Outcome.ROLLED_BACK
-        elif verb == "commit-at-once":
-            self.fate = Outcome.UNKNOWN
+        else:
+            # What nobody would end isn't begun.
+            self._session.coordinator.see_up()
+            self.fate = Outcome.UNKNOWN if verb == "commit-at-once" else self.fate
         answers = make_all(verb, parts)
-        if verb == "prepare" and all(code in (Code.OK, Code.RDONLY) for code in answers):
-            self.fate = None
-        elif verb == "commit-at-once" and answers[0] is not None:
+        if verb == "commit-at-once" and answers[0] is not None:
             self.fate = Outcome.COMMITTED if answers[0] is Code.OK else Outcome.ROLLED_BACK
         return answers
 

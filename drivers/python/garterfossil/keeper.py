@@ -44,8 +44,12 @@ class Keeper:
                 return
             if rm.number not in self._working:
                 thread = threading.Thread(target=self._work, args=[rm], name=f"garterfossil {rm.label}", daemon=True)
+                try:
+                    thread.start()
+                except RuntimeError:
+                    # There is no thread to be had now, as at the interpreter's end: whoever comes next asks again.
+                    return
                 self._working[rm.number] = thread, time.monotonic()
-                thread.start()
             thread, begun = self._working[rm.number]
         left = begun + patience - time.monotonic()
         if left > 0:

@@ -74,6 +74,8 @@ class Outcomes:
 
     def of(self, gtrid: str, coordinator: Coordinator) -> Outcome:
         """How it ended, if that was found. Of one of another run of the program only that it is committed, as long as the log says so."""
+        # A thread may have asked since the session began.
+        self.find(coordinator)
         with self._lock:
             known = self._found.get(gtrid) or self._told.get(gtrid)
         if known is not None:

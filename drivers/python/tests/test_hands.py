@@ -4,6 +4,7 @@ import contextlib
 import threading
 import time
 import unittest
+from concurrent.futures import ThreadPoolExecutor
 
 from garterfossil import CoordinatorGone, Outcome, OutcomeUnknown, RolledBack, SetupError, TransactionManager, XaError, Xid
 from garterfossil.codes import Code
@@ -81,6 +82,33 @@ class Calls(Case):
             self.move(xa)
         self.assertIn("end 1 lost", self.requests("end"))
         self.assertEqual(self.written(), (["take"], ["give"]))
+
+    def test_a_coordinator_that_ends_before_it_hears_of_the_votes_has_decided_nothing(self):
+        for moment in ("work", "prepare"):
+            with self.manager() as xa:
+                self.right.before[moment] = lambda: xa._session.coordinator.kill()
+                with self.assertRaises((RolledBack, CoordinatorGone)):
+                    with xa.transaction() as t:
+                        t[0].execute("take")
+                        t[1].execute("give")
+                self.right.before.clear()
+                self.assertIs(t.outcome, Outcome.ROLLED_BACK)
+                self.move(xa)
+        self.assertEqual(self.written(), (["take", "take"], ["give", "give"]))
+
+    def test_an_outcome_that_is_asked_for_after_the_next_session_has_begun(self):
+        with self.manager(dies_at="votes") as xa:
+            ask = xa._outcomes.ask
+
+            def ask_late(gtrid):
+                with ThreadPoolExecutor(1) as pool:
+                    pool.submit(self.move, xa).result()
+                ask(gtrid)
+
+            xa._outcomes.ask = ask_late
+            with self.assertRaises(OutcomeUnknown) as raised:
+                self.move(xa)
+            self.assertIs(xa.outcome(raised.exception.gtrid), Outcome.ROLLED_BACK)
 
     def test_a_branch_of_another_log_shuts_the_log_for_good(self):
         with self.manager() as xa:
