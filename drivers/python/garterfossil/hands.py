@@ -255,7 +255,7 @@ class Hands:
                 self._session.coordinator.see_up()
                 self.fate = None
             # Nothing else can be told behind these, and so nobody waits for it.
-            is_over = self.fate is Outcome.COMMITTED and all(code is Code.OK for code in answers)
+            is_over = verb in ("commit", "commit-at-once") and all(code is Code.OK for code in answers)
             said = ["lost" if code is None else str(int(code)) for code in answers]
             self._move("tell", *said, is_asked=not is_over)
             if is_over:

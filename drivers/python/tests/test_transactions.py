@@ -118,6 +118,19 @@ class Transactions(Case):
             t = self.move(xa)
             self.assertFalse(t.is_heuristic)
 
+    def test_a_database_that_forgets_what_it_ended_by_itself(self):
+        with self.manager() as xa:
+            self.right.next["commit_prepared"] = Code.HEURMIX
+            with self.assertRaisesRegex(HeuristicEnd, "HEURMIX, its database has ended it by itself"):
+                with xa.transaction() as t:
+                    t[0].execute("take")
+                    t[1].execute("give")
+                    on_branch = t._hands.parts[1].connection._on_branch
+                    t._hands.parts[1].connection._on_branch = lambda call, xid: (
+                        Code.OK if call.name == "xa_forget" else on_branch(call, xid)
+                    )
+        self.assertEqual(self.requests("tell")[1:3], ["tell 1 0 5", "tell 1 0"])
+
     def test_a_branch_that_is_rolled_back_against_its_vote(self):
         with self.manager() as xa:
             self.right.next["commit_prepared"] = Code.RBOTHER
