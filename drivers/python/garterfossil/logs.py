@@ -108,13 +108,6 @@ def _printed_in_time(program: str, path: str, patience: float) -> Optional[List[
     return None
 
 
-def kept_names(program: str, path: str, patience: float) -> Optional[Names]:
-    """The names that the log at a path keeps. None where there is no log yet. While another program has it, looks again for so many
-    seconds, and then raises LogInUse. Raises SetupError if it can't be read."""
-    lines = _printed_in_time(program, path, patience)
-    return None if lines is None else Names.printed(lines)
-
-
 def names_at_work(path: str) -> Names:
     """The names that the log at a path keeps, while a program has it: they are in its file from the first."""
     try:
@@ -135,6 +128,8 @@ class KeptLog:
     incarnation: int = 0
     #: The transactions that are decided to commit, each with the branches that have yet to acknowledge.
     decisions: Mapping[str, Sequence[Xid]] = field(default_factory=dict)
+    #: The names that it keeps. None, if there is no log.
+    names: Optional[Names] = None
 
 
 def kept_log(program: str, path: str, patience: float) -> KeptLog:
@@ -151,7 +146,7 @@ def kept_log(program: str, path: str, patience: float) -> KeptLog:
             xid = Xid.parse(found.group(1))
             decisions.setdefault(xid.transaction, []).append(xid)
     # The look has brought all that a coordinator which was killed has left into the one file.
-    return KeptLog(numbers[0] if numbers else _incarnation_in(path), decisions)
+    return KeptLog(numbers[0] if numbers else _incarnation_in(path), decisions, Names.printed(lines))
 
 
 def _incarnation_in(path: str) -> int:
@@ -162,13 +157,12 @@ def _incarnation_in(path: str) -> int:
         raise SetupError(f"the log {path} can't be read: {error}") from error
 
 
-def names_for(program: str, path: str, name: Optional[str], rms: Sequence[str], patience: float) -> Names:
-    """The names that a coordinator is started with over the log at a path: those that the log keeps, but for another name that is
-    given, with which the log will be refused. A new log gets the given name, or if there is none, one that is drawn."""
-    kept = kept_names(program, path, patience)
-    if kept is None:
+def names_for(kept: KeptLog, name: Optional[str], rms: Sequence[str]) -> Names:
+    """The names that a coordinator is started with over a log: those that the log keeps, but for another name that is given, with which the
+    log will be refused. A new log gets the given name, or if there is none, one that is drawn."""
+    if kept.names is None:
         return Names.drawn(rms) if name is None else Names(name, tuple(rms))
-    return Names(kept.manager if name is None else name, tuple(rms) if kept.rms else ())
+    return Names(kept.names.manager if name is None else name, tuple(rms) if kept.names.rms else ())
 
 
 def free_log(path: str) -> Tuple[str, Optional[IO[bytes]]]:

@@ -39,7 +39,7 @@ from .databases import NAME, Databases
 from .errors import CoordinatorGone, LogInUse, NestedTransaction, NotNow, Overdue, SetupError, TransactionOver, XaError
 from .coordinator import serve_command
 from .hands import PAUSE
-from .logs import Names, free_log, is_new_log, names_for
+from .logs import Names, free_log, is_new_log, kept_log, names_for
 from .metrics import in_prometheus, of_counts
 from .outcomes import Outcome, Outcomes
 from .session import Session, Settings
@@ -114,9 +114,10 @@ class TransactionManager:
             if command is not None:
                 names = Names(name or "", tuple(all_databases.names))
                 return Settings(command, all_databases, path, threads, patience, names, mirror, program if mirror is not None else None)
-            names = names_for(program, path, name, all_databases.names, patience)
+            kept = kept_log(program, path, patience)
+            names = names_for(kept, name, all_databases.names)
             words = serve_command(program, path, names, threads, len(all_databases))
-            return Settings(words, all_databases, path, threads, patience, names, mirror, program, name is None)
+            return Settings(words, all_databases, path, threads, patience, names, mirror, program, name is None, kept)
 
         self._settings = settings()
         self._timeout = timeout

@@ -47,6 +47,8 @@ class Settings:
     program: Optional[str] = "xatm"
     #: Whether the manager was given no name, so that a new log draws one.
     is_name_drawn: bool = False
+    #: What the log held as its names were looked for.
+    kept: Optional[KeptLog] = None
 
 
 class Session:
@@ -103,21 +105,37 @@ class Session:
         is_new = is_new_log(settings.log)
         for rm in self._rms:
             self._see_objection(rm, is_new, is_first)
-        kept = None
-        if settings.program is not None:
-            kept = kept_log(settings.program, settings.log, settings.patience)
-        elif is_new:
-            kept = KeptLog()
-        if kept is not None:
-            if not is_new:
-                self.identities.see_not_older(kept.incarnation)
-            for rm in self._rms:
-                see_not_later(rm, kept.incarnation, settings.log)
+        if settings.program is None:
+            kept = KeptLog() if is_new else None
+            self._see_log(settings, kept, is_new)
+        else:
+            kept = self._look_at_log(settings, settings.program, is_new, is_first)
         if settings.mirror is not None:
             assert kept is not None
             self.mirror = Mirror(settings.mirror, settings.names, settings.log, settings.patience)
             self.mirror.look(kept, self._listings(), settings.is_name_drawn)
         return kept
+
+    def _look_at_log(self, settings: Settings, program: str, is_new: bool, is_first: bool) -> KeptLog:
+        """What the log holds. If it was looked at for its names just now, and nothing is against it, it isn't looked at once more."""
+        if is_first and settings.kept is not None and settings.mirror is None:
+            try:
+                self._see_log(settings, settings.kept, is_new)
+                return settings.kept
+            except SetupError:
+                # It may have been used since, before the databases were looked at.
+                pass
+        kept = kept_log(program, settings.log, settings.patience)
+        self._see_log(settings, kept, is_new)
+        return kept
+
+    def _see_log(self, settings: Settings, kept: Optional[KeptLog], is_new: bool) -> None:
+        """Sees that a log that holds this isn't older than it was, nor than what the databases list. Raises SetupError."""
+        if kept is not None:
+            if not is_new:
+                self.identities.see_not_older(kept.incarnation)
+            for rm in self._rms:
+                see_not_later(rm, kept.incarnation, settings.log)
 
     def _see_objection(self, rm: ResourceManager, is_new: bool, is_first: bool) -> None:
         error = rm.objection

@@ -56,10 +56,21 @@ class Kept(Case):
     def test_a_log_that_was_made_since_its_names_were_looked_for(self):
         with self.manager() as xa:
             name = xa.name
-        real, drawn = manager.names_for, Names.drawn(["bank", "shop"])
-        with mock.patch.object(manager, "names_for", side_effect=[drawn, real(self.program, self.log, None, ["bank", "shop"], 1.0)]):
+        found = [KeptLog(), kept_log(self.program, self.log, 1.0)]
+        with mock.patch.object(manager, "kept_log", side_effect=found):
             with self.manager() as xa:
                 self.assertEqual(xa.name, name)
+
+    def test_a_start_opens_the_log_twice(self):
+        self.manager().close()
+        counted = os.path.join(self.folder, "counts")
+        with open(counted, "w") as it:
+            it.write(f'#!/bin/sh\necho "$1" >> "{self.folder}/opened"\nexec "{self.program}" "$@"\n')
+        os.chmod(counted, 0o755)
+        self.program = counted
+        self.manager().close()
+        with open(f"{self.folder}/opened") as it:
+            self.assertEqual(it.read().split(), ["log", "serve"])
 
     def test_an_old_log_without_a_name_goes_on_without_one(self):
         with self.manager([self.left, self.right], name="") as xa:
@@ -140,7 +151,7 @@ class Kept(Case):
         os.chmod(program, 0o755)
         with open(self.log, "wb") as it:
             it.write(b"SQLite format 3\0")
-        self.assertEqual(kept_log(program, self.log, 5.0), KeptLog(3))
+        self.assertEqual(kept_log(program, self.log, 5.0).incarnation, 3)
 
     def test_a_log_that_was_in_use_as_it_was_looked_at_is_looked_at_again(self):
         program = os.path.join(self.folder, "in_use")
@@ -150,7 +161,7 @@ class Kept(Case):
         os.chmod(program, 0o755)
         with open(self.log, "wb") as it:
             it.write(b"SQLite format 3\0")
-        self.assertEqual(kept_log(program, self.log, 5.0), KeptLog(3))
+        self.assertEqual(kept_log(program, self.log, 5.0).incarnation, 3)
 
     def test_how_often_a_log_was_started_stands_in_its_file(self):
         program = os.path.join(self.folder, "looks")
@@ -161,7 +172,7 @@ class Kept(Case):
         with contextlib.closing(sqlite3.connect(self.log)) as it, it:
             it.execute("CREATE TABLE tm_meta (k INTEGER, version INTEGER, incarnation INTEGER)")
             it.execute("INSERT INTO tm_meta VALUES (1, 2, 7)")
-        self.assertEqual(kept_log(program, self.log, 1.0), KeptLog(7))
+        self.assertEqual(kept_log(program, self.log, 1.0).incarnation, 7)
 
     def test_all_logs_of_workers_in_use(self):
         with mock.patch("garterfossil.logs.MOST_WORKERS", 1):
