@@ -87,13 +87,13 @@ def printed_log(program: str, path: str, *options: str) -> List[str]:
     raise SetupError(f"{program} can't read the log {path}: {done.stderr.strip() or f'status {done.returncode}'}")
 
 
-def _printed_in_time(program: str, path: str, patience: float) -> Optional[List[str]]:
+def _printed_in_time(program: str, path: str, patience: float, *options: str) -> Optional[List[str]]:
     """The lines of the log at a path. None where there is no log yet. While another program has it, looks again for so many seconds, and
     then raises LogInUse. Raises SetupError if it can't be read."""
     begun = time.monotonic()
     while not is_new_log(path):
         try:
-            return printed_log(program, path)
+            return printed_log(program, path, *options)
         except (LogInUse, LookKilled):
             if time.monotonic() >= begun + patience:
                 raise
@@ -142,7 +142,7 @@ def kept_log(program: str, path: str, patience: float) -> KeptLog:
     rows = [line for line in lines if line and not line.startswith(HEADS) and ":" not in line]
     decisions: Dict[str, List[Xid]] = {line.split(" ")[0]: [] for line in rows}
     if rows:
-        for found in filter(None, map(EXPLAINED.match, printed_log(program, path, "--explain"))):
+        for found in filter(None, map(EXPLAINED.match, _printed_in_time(program, path, patience, "--explain") or ())):
             xid = Xid.parse(found.group(1))
             decisions.setdefault(xid.transaction, []).append(xid)
     # The look has brought all that a coordinator which was killed has left into the one file.

@@ -17,6 +17,8 @@ ENDS = re.compile(
     r"|SET\b.*\bAUTOCOMMIT\b",
     re.IGNORECASE | re.DOTALL,
 )
+#: What ends a part of a block of statements.
+END_OF_BLOCK = re.compile(r"END\b", re.IGNORECASE)
 #: What stands before the first word.
 BEFORE = re.compile(r"[\s(;]+")
 
@@ -31,9 +33,11 @@ NESTED = re.compile(r"/\*|\*/")
 
 class Texts:
     """The texts of statements, as a kind of database reads them: `quoted` matches all of a text in quotes or of another word in which no
-    statement ends, and `comment` all of a comment. If comments `nest`, those between /* and */ are looked through apart from that."""
+    statement ends, and `comment` all of a comment. If comments `nest`, those between /* and */ are looked through apart from that. What
+    `block` matches begins a block of statements, whose parts END ends."""
 
-    def __init__(self, quoted: str, comment: str, nest: bool = False):
+    def __init__(self, quoted: str, comment: str, nest: bool = False, block: Optional[str] = None):
+        self._block = None if block is None else re.compile(block, re.IGNORECASE)
         self._comment: Pattern[str] = re.compile(comment, re.DOTALL)
         self._nest = nest
         # Texts of which it was seen that they end nothing: programs say the same again and again.
@@ -52,8 +56,10 @@ class Texts:
             self._seen.add(text)
 
     def _look_at(self, text: str) -> None:
+        is_in_block = False
         for statement in self._statements(text):
-            if ENDS.match(statement):
+            is_in_block = is_in_block or self._block is not None and bool(self._block.match(statement))
+            if ENDS.match(statement) and not (is_in_block and END_OF_BLOCK.match(statement)):
                 first = statement.split("\n", 1)[0]
                 raise EndRefused(f"it would end the branch's transaction, which ends with its block: {first[:80]}")
 
@@ -114,4 +120,5 @@ POSTGRESQL = Texts(
 MARIADB = Texts(
     r"'(?:[^'\\]|\\.|'')*'|\"(?:[^\"\\]|\\.|\"\")*\"|`[^`]*`",
     r"--(?=[\s]|$)[^\n]*|\#[^\n]*|/\*(?!M?!)(?:[^*]|\*(?!/))*\*/|/\*M?!\d*|\*/",
+    block=r"BEGIN\s+NOT\s+ATOMIC\b",
 )

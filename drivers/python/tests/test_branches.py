@@ -188,7 +188,10 @@ class Branches(Case):
             "SELECT 1 AS \u20ac$b$; COMMIT; SELECT 1 AS c$b$",
         ]  # fmt: skip
         self.assertEqual(self.refused(POSTGRESQL, own), own)
-        own = ["# a comment\nCOMMIT", "/*!40000 COMMIT */", "SELECT 'it\\'s'; COMMIT", "SELECT `;`; COMMIT"]
+        own = [
+            "# a comment\nCOMMIT", "/*!40000 COMMIT */", "SELECT 'it\\'s'; COMMIT", "SELECT `;`; COMMIT",
+            "BEGIN NOT ATOMIC SELECT 1; COMMIT; END", "BEGIN NOT ATOMIC SELECT 1; END; XA END 'x'",
+        ]  # fmt: skip
         self.assertEqual(self.refused(MARIADB, own), own)
 
     def test_statements_that_end_none(self):
@@ -204,7 +207,9 @@ class Branches(Case):
             "SELECT 1 /* /* ; */ COMMIT; */", "SELECT $1$b$; COMMIT $b$",
         ]  # fmt: skip
         self.assertEqual(self.refused(POSTGRESQL, own), [])
-        own = ["SELECT 'it\\'s; COMMIT'", "SELECT `a; COMMIT`", "SELECT 1--1", "BEGIN NOT ATOMIC SELECT 1"]
+        own = ["SELECT 'it\\'s; COMMIT'", "SELECT `a; COMMIT`", "SELECT 1--1", "BEGIN NOT ATOMIC SELECT 1",
+            "BEGIN NOT ATOMIC IF 1 THEN SELECT 1; END IF; SELECT 2; END",
+        ]  # fmt: skip
         self.assertEqual(self.refused(MARIADB, own), [])
 
     # ** names

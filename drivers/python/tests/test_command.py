@@ -4,6 +4,7 @@ import contextlib
 import io
 import json
 import os
+import re
 import tempfile
 import time
 import unittest
@@ -134,6 +135,17 @@ class Commands(unittest.TestCase):
         self.assertIn('garterfossil_in_doubt{database="1"} 2', lines)
         self.assertIn("# TYPE garterfossil_in_doubt gauge", lines)
         self.assertIn(f'garterfossil_log_decided{{log="{self.log}"}} 1', lines)
+
+    def test_the_examples_look_at_what_is_printed(self):
+        status, printed = self.does("status", "--format", "prometheus")
+        with self.made.manager() as xa:
+            printed += xa.metrics()
+        examples = os.path.join(os.path.dirname(os.path.dirname(__file__)), "examples")
+        for name in ("alarms.yml", "dashboard.json"):
+            with open(os.path.join(examples, name)) as it:
+                self.assertEqual(set(re.findall(r"garterfossil_\w+", it.read())) - set(re.findall(r"garterfossil_\w+", printed)), set(), name)
+        with open(os.path.join(examples, "dashboard.json")) as it:
+            self.assertEqual(len(json.load(it)["panels"]), 9)
 
     def test_what_a_dead_manager_left_is_ended_as_an_operator_says(self):
         foreign = branch(UNDECIDED, 1, "shop-2")

@@ -153,6 +153,19 @@ class Kept(Case):
             it.write(b"SQLite format 3\0")
         self.assertEqual(kept_log(program, self.log, 5.0).incarnation, 3)
 
+    def test_a_look_at_the_branches_of_decisions_that_somebody_kills_is_made_again(self):
+        program, gtrid = os.path.join(self.folder, "is_killed"), "0" * 15 + "1" + "0" * 15 + "1"
+        with open(program, "w") as it:
+            it.write(
+                f'#!/bin/sh\n[ "$2" = --explain ] || {{ echo incarnation 3; echo {gtrid} 1; exit; }}\n'
+                f"[ -e {self.folder}/once ] || {{ touch {self.folder}/once; kill -9 $$; }}\n"
+                f'echo "    7:{gtrid}:0000000100000000 at resource manager 0"\n'
+            )
+        os.chmod(program, 0o755)
+        with open(self.log, "wb") as it:
+            it.write(b"SQLite format 3\0")
+        self.assertEqual(list(map(str, kept_log(program, self.log, 5.0).decisions[gtrid])), [f"7:{gtrid}:0000000100000000"])
+
     def test_a_log_that_was_in_use_as_it_was_looked_at_is_looked_at_again(self):
         program = os.path.join(self.folder, "in_use")
         used = f"echo 'xatm: {self.log}: another process runs over it, or it cannot be written' >&2; exit 2"

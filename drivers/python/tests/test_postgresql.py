@@ -39,7 +39,7 @@ class Link:
     """A connection. `says` has, for the beginning of a statement, its tag, its rows, or an error."""
 
     def __init__(self):
-        self.says = {"SHOW": [("64",)], "SELECT pg_current": [("700", "it is there")]}
+        self.says = {"SHOW": [("64",)], "SELECT pg_current": [("700", "it is there", "bank")], "SELECT current_user": [("bank",)]}
         self.statements = []
         self.notices = ["WARNING:  of the connection's start\n"]
         self.status, self.closed = IDLE, 0
@@ -155,7 +155,7 @@ class PostgreSQLs(unittest.TestCase):
             self.assertFalse(self.connection.has_branch)
 
     def test_a_branch_that_only_read_is_committed_at_once(self):
-        self.link.says["SELECT pg_current"] = [(None, "it is there")]
+        self.link.says["SELECT pg_current"] = [(None, "it is there", "bank")]
         self.worked()
         self.assertIs(self.do(f"xa_prepare {XID}"), Code.RDONLY)
         self.assertEqual(self.link.statements[-1], "COMMIT")
@@ -164,6 +164,13 @@ class PostgreSQLs(unittest.TestCase):
         self.worked()
         self.link.says["COMMIT"] = "ROLLBACK"
         self.assertIs(self.do(f"xa_commit {XID} TMONEPHASE"), Code.RBROLLBACK)
+
+    def test_a_role_that_the_program_has_taken_prepares_no_branch(self):
+        self.link.says["SELECT pg_current"] = [("700", "it is there", "some\"body")]
+        self.do(f"xa_start {XID}")
+        self.do(f"xa_end {XID} TMSUCCESS")
+        self.assertIs(self.do(f"xa_prepare {XID}"), Code.OK)
+        self.assertEqual(self.link.statements[-2:], ['SET ROLE "bank"', f"PREPARE TRANSACTION {XID}"])
 
     def test_what_is_told_of_branches_that_cannot_be_ended(self):
         self.link.says["COMMIT PREPARED"] = psycopg2.ProgrammingError("42704")
@@ -194,7 +201,7 @@ class PostgreSQLs(unittest.TestCase):
 
     def test_a_statement_that_ended_the_transaction_and_began_another_one(self):
         self.worked()
-        self.link.says["SELECT pg_current"] = [("700", "")]
+        self.link.says["SELECT pg_current"] = [("700", "", "bank")]
         with self.assertRaises(HeuristicEnd):
             self.do(f"xa_prepare {XID}")
         self.assertEqual([it for it in self.link.statements if it.startswith("PREPARE")], [])

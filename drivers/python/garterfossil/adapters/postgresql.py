@@ -148,6 +148,8 @@ class PostgreSQLConnection(Connection):
         with self.timed(place.patience):
             self.run(f"SET lock_timeout = {int(lock_timeout * 1000)}")
             most = int(self.run("SHOW max_prepared_transactions").rows[0][0])
+            # Whose a branch is that it prepares: it is ended by the same role, or a superuser.
+            self._role = self.run("SELECT current_user").rows[0][0]
         if most < place.threads:
             self.close()
             raise SetupError(
@@ -261,9 +263,14 @@ class PostgreSQLConnection(Connection):
 
     def _see_state(self) -> bool:
         """Sees that the branch's transaction is the one that goes on. Whether it has written."""
-        (written, mark), = self.run(f"SELECT pg_current_xact_id_if_assigned(), current_setting('{MARK}', true)").rows
+        statement = f"SELECT pg_current_xact_id_if_assigned(), current_setting('{MARK}', true), current_user"
+        (written, mark, role), = self.run(statement).rows
         if not mark:
             raise self._ended_by_statement()
+        if role != self._role:
+            # The program has taken another one: no recovery would be let end the branch, and the next transaction would have it.
+            name = str(self._role).replace('"', '""')
+            self.run(f'SET ROLE "{name}"')
         return written is not None
 
     def _see_rolled_back(self) -> None:
