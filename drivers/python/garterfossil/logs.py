@@ -36,6 +36,8 @@ MOMENT = 2.0
 LONGEST_LOOK = 60
 #: How the lines begin that `xatm log` prints before what is decided.
 HEADS = ("name ", "rm ", "incarnation ")
+#: What it says of a log that another program has, or that can't be written.
+USED = "another process runs over it"
 #: How `xatm log --explain` names a branch that a decision waits for.
 EXPLAINED = re.compile(r" +([0-9]+:[0-9a-f]+:[0-9a-f]+) at resource manager ")
 #: What stands for the number of a worker in the path of a log, and the most workers.
@@ -82,7 +84,8 @@ def printed_log(program: str, path: str, *options: str) -> List[str]:
         return done.stdout.splitlines()
     if done.returncode < 0:
         raise LookKilled(f"{program} was ended by the signal {-done.returncode}, while it read the log {path}")
-    if is_log_in_use(path):
+    # (Who had it may have let it go meanwhile.)
+    if is_log_in_use(path) or USED in done.stderr:
         raise LogInUse(f"the log {path} is in use by another program")
     raise SetupError(f"{program} can't read the log {path}: {done.stderr.strip() or f'status {done.returncode}'}")
 
@@ -94,7 +97,10 @@ def _printed_in_time(program: str, path: str, patience: float, *options: str) ->
     while not is_new_log(path):
         try:
             return printed_log(program, path, *options)
-        except (LogInUse, LookKilled):
+        except (LogInUse, LookKilled) as error:
+            fault = None if is_log_in_use(path) else fault_of_log(path)
+            if fault is not None:
+                raise SetupError(f"the log {path}: {fault} ({error})") from error
             if time.monotonic() >= begun + patience:
                 raise
         except SetupError as error:

@@ -168,7 +168,8 @@ class Kept(Case):
 
     def test_a_log_that_was_in_use_as_it_was_looked_at_is_looked_at_again(self):
         program = os.path.join(self.folder, "in_use")
-        used = f"echo 'xatm: {self.log}: another process runs over it, or it cannot be written' >&2; exit 2"
+        # Its look takes longer than a moment, and it is shown as a copy has it.
+        used = f"sleep 2.5; echo 'xatm: {self.log}: another process runs over it, or it cannot be written' >&2; exit 0"
         with open(program, "w") as it:
             it.write(f"#!/bin/sh\n[ -e {self.folder}/once ] || {{ touch {self.folder}/once; {used}; }}\necho incarnation 3\n")
         os.chmod(program, 0o755)
