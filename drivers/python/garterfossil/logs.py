@@ -84,8 +84,8 @@ def printed_log(program: str, path: str, *options: str) -> List[str]:
         return done.stdout.splitlines()
     if done.returncode < 0:
         raise LookKilled(f"{program} was ended by the signal {-done.returncode}, while it read the log {path}")
-    # (Who had it may have let it go meanwhile.)
-    if is_log_in_use(path) or USED in done.stderr:
+    # Who had it may have let it go meanwhile.
+    if is_log_in_use(path) or USED in done.stderr and fault_of_log(path) is None:
         raise LogInUse(f"the log {path} is in use by another program")
     raise SetupError(f"{program} can't read the log {path}: {done.stderr.strip() or f'status {done.returncode}'}")
 
@@ -97,10 +97,7 @@ def _printed_in_time(program: str, path: str, patience: float, *options: str) ->
     while not is_new_log(path):
         try:
             return printed_log(program, path, *options)
-        except (LogInUse, LookKilled) as error:
-            fault = None if is_log_in_use(path) else fault_of_log(path)
-            if fault is not None:
-                raise SetupError(f"the log {path}: {fault} ({error})") from error
+        except (LogInUse, LookKilled):
             if time.monotonic() >= begun + patience:
                 raise
         except SetupError as error:
