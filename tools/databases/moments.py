@@ -1,8 +1,10 @@
-"""Moments within a transaction of the driver in Python, at which a story has something done, once."""
+"""Moments within a transaction of the driver in Python, at which a story has something done,
+once."""
 
 
 def before_a_move(xa, verb, do):
-    """Before the next move of this verb is put on its way to the coordinator: with `tell` before it hears of the votes."""
+    """Before the next move of this verb is put on its way to the coordinator: with `tell` before it
+    hears of the votes."""
     coordinator = xa._session.coordinator
     coordinator.post = before(coordinator.post, verb, [do])
 
@@ -16,7 +18,8 @@ def before_a_call(xa, name, do):
 
 
 def behind_the_decision(xa, do):
-    """Once the coordinator has told that a transaction commits, and before a database hears of it."""
+    """Once the coordinator has told that a transaction commits, and before a database hears of
+    it."""
     session, left = xa._session, [do]
     note = session.note_decision
 

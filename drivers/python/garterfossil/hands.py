@@ -1,5 +1,6 @@
-"""The hands of the coordinator: they make the calls that it tells, and tell how these were answered. What comes next, what an answer means
-and how a transaction ends is the coordinator's to say (docs/MOVES.md)."""
+"""The hands of the coordinator: they make the calls that it tells, and tell how these were
+answered. What comes next, what an answer means and how a transaction ends is the coordinator's to
+say (docs/MOVES.md)."""
 
 from __future__ import annotations
 
@@ -25,7 +26,8 @@ if TYPE_CHECKING:
 
 log = logging.getLogger("garterfossil")
 
-#: The calls of XA behind each verb, and how the last of them may be answered, beside a rollback with its reason: all else is no answer.
+#: The calls of XA behind each verb, and how the last of them may be answered, beside a rollback
+#: with its reason: all else is no answer.
 CALLS = {
     "prepare": ("xa_end TMSUCCESS", "xa_prepare"),
     "commit-at-once": ("xa_end TMSUCCESS", "xa_commit TMONEPHASE"),
@@ -43,7 +45,8 @@ ANSWERS = {
     "undo": {Code.OK, Code.NOTA, Code.HEURRB},
     "forget": {Code.OK, Code.NOTA},
 }
-#: A recovery asks for so many identifiers at a time, and makes a call that has no answer now again for so many seconds.
+#: A recovery asks for so many identifiers at a time, and makes a call that has no answer now again
+#: for so many seconds.
 PAGE, STUCK, PAUSE = 32, 1.0, 0.05
 
 
@@ -113,7 +116,8 @@ class Part:
             raise XaError(f"{self.line.rm.label} has a branch {self.xid} already, of another log")
 
     def send(self, verb: str) -> bool:
-        """Sends a call ahead of its answer, if the database's module can: whether nothing more is to be done but to wait."""
+        """Sends a call ahead of its answer, if the database's module can: whether nothing more is
+        to be done but to wait."""
         if self.is_lost or not self.connection.SENDS or verb not in ("prepare", "commit"):
             return self.is_lost
         try:
@@ -126,7 +130,8 @@ class Part:
         return True
 
     def make(self, verb: str, was_sent: bool = False) -> Optional[Code]:
-        """Makes a call: how it is answered. None if it isn't, and then the connection is given up."""
+        """Makes a call: how it is answered. None if it isn't, and then the connection is given
+        up."""
         calls = self._calls(verb)
         is_last_made = False
         try:
@@ -192,7 +197,8 @@ class Hands:
         self._reply: Optional[Reply] = None
 
     def join(self) -> None:
-        """Says which branches have begun, once there are two: so the calls of the first phase are told while the work goes on."""
+        """Says which branches have begun, once there are two: so the calls of the first phase are
+        told while the work goes on."""
         if len(self.parts) > 1:
             self._say_joined()
 
@@ -215,8 +221,8 @@ class Hands:
         self._reply = self._session.coordinator.post(move, self._thread, is_asked)
 
     def _do(self, first: Callable[[], None]) -> Told:
-        """Does what the coordinator tells until it tells the outcome. Whatever comes in between, the coordinator is never left without an
-        answer in a session that goes on."""
+        """Does what the coordinator tells until it tells the outcome. Whatever comes in between,
+        the coordinator is never left without an answer in a session that goes on."""
         try:
             self._say_joined()
             first()
@@ -279,7 +285,8 @@ class Hands:
 
 
 class Recovery:
-    """The same for what is in doubt at a database, over a connection of its own. `left_out` are branches that no page is to list."""
+    """The same for what is in doubt at a database, over a connection of its own. `left_out` are
+    branches that no page is to list."""
 
     def __init__(self, session: Session, rm: ResourceManager, connection: Connection, left_out: Set[Xid]):
         self._session, self._rm, self._connection, self._left_out = session, rm, connection, left_out
@@ -311,8 +318,9 @@ class Recovery:
             return None
 
     def _made(self, call: Call) -> Optional[Code]:
-        """Makes a call: how it is answered, or None. One that can't be made now is made again for a moment; then a commit is put off, and
-        a rollback left out for a while, so that they hold up no others."""
+        """Makes a call: how it is answered, or None. One that can't be made now is made again for a
+        moment; then a commit is put off, and a rollback left out for a while, so that they hold up
+        no others."""
         until = time.monotonic() + STUCK
         while True:
             try:

@@ -21,7 +21,8 @@ class Line:
         self.connection: Optional[Connection] = None
 
     def make_ready(self) -> Connection:
-        """Its connection, a new one if it has none. Raises ConnectionLost if the database can't be reached."""
+        """Its connection, a new one if it has none. Raises ConnectionLost if the database can't be
+        reached."""
         if self.connection is None:
             self.connection = self.rm.connect()
         return self.connection
@@ -33,7 +34,8 @@ class Line:
             self.rm.drop(connection)
 
     def let_go(self) -> None:
-        """A transaction is over on the line. A branch that it left there, as after an interrupt, is lost."""
+        """A transaction is over on the line. A branch that it left there, as after an interrupt, is
+        lost."""
         if self.connection is not None and self.connection.has_branch:
             self.lose()
 

@@ -258,8 +258,9 @@ class Mirror:
             connection.run("UPDATE garterfossil_manager SET log = %s, rms = %s, incarnation = %s WHERE name = %s", known)
 
     def add(self, gtrid: str, xids: Sequence[Xid]) -> None:
-        """The transaction is decided to commit: those of several threads that come together are by one commit of the mirror's database. Raises
-        CoordinatorGone, and the session is over, if nobody knows whether it is there: it stands all the same, as the log has it."""
+        """The transaction is decided to commit: those of several threads that come together are by one
+        commit of the mirror's database. Raises CoordinatorGone, and the session is over, if nobody
+        knows whether it is there: it stands all the same, as the log has it."""
         mine = _Decision(gtrid, xids)
         with self._lock:
             self._asked.append(mine)

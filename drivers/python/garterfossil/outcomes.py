@@ -27,8 +27,8 @@ TOLD = {"committed": Outcome.COMMITTED, "rolled-back": Outcome.ROLLED_BACK, "unk
 
 
 class Outcomes:
-    """The outcomes that were told, and those that a later session tells: of a transaction that was being decided as its session ended the
-    very next one knows how it ended."""
+    """The outcomes that were told, and those that a later session tells: of a transaction that was
+    being decided as its session ended the very next one knows how it ended."""
 
     def __init__(self) -> None:
         self._lock = threading.Lock()
@@ -62,7 +62,8 @@ class Outcomes:
                     del self._told[next(iter(self._told))]
 
     def note_odd(self) -> None:
-        """A recovery found a branch that somebody else had ended, of a transaction that was told its outcome before."""
+        """A recovery found a branch that somebody else had ended, of a transaction that was told
+        its outcome before."""
         with self._lock:
             self._odd += 1
 
@@ -73,7 +74,8 @@ class Outcomes:
             return self._odd
 
     def of(self, gtrid: str, coordinator: Coordinator) -> Outcome:
-        """How it ended, if that was found. Of one of another run of the program only that it is committed, as long as the log says so."""
+        """How it ended, if that was found. Of one of another run of the program only that it is
+        committed, as long as the log says so."""
         # A thread may have asked since the session began.
         self.find(coordinator)
         with self._lock:

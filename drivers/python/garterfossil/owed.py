@@ -1,5 +1,6 @@
-"""Ends of branches that a database wasn't told yet, or hasn't acknowledged: who pays them is the coordinator's matter, in a recovery. They are
-counted here, and the mirror keeps a decision as long as one of its ends is owed."""
+"""Ends of branches that a database wasn't told yet, or hasn't acknowledged: who pays them is the
+coordinator's matter, in a recovery. They are counted here, and the mirror keeps a decision as long
+as one of its ends is owed."""
 
 from __future__ import annotations
 

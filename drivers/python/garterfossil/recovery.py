@@ -1,4 +1,5 @@
-"""The recovery of a database: what is looked at before the coordinator ends what is in doubt there, and what becomes of that."""
+"""The recovery of a database: what is looked at before the coordinator ends what is in doubt there,
+and what becomes of that."""
 
 from __future__ import annotations
 
@@ -19,8 +20,8 @@ log = logging.getLogger("garterfossil")
 
 
 def recover(session: Session, rm: ResourceManager) -> None:
-    """Ends what is in doubt at a database: what it lists of earlier sessions, and what is owed there. Transactions go on meanwhile. Raises
-    ConnectionLost where it can't be done now."""
+    """Ends what is in doubt at a database: what it lists of earlier sessions, and what is owed
+    there. Transactions go on meanwhile. Raises ConnectionLost where it can't be done now."""
     with rm.is_recovered:
         _recover(session, rm)
 
@@ -58,8 +59,9 @@ def _recover(session: Session, rm: ResourceManager) -> None:
 
 
 def begin_anew(session: Session, rm: ResourceManager, forgotten: Set[Xid]) -> None:
-    """Ends the session, once no transaction is open, since the database has forgotten in a crash that it rolled branches back: to the next
-    session they are an earlier one's, and may stand there."""
+    """Ends the session, once no transaction is open, since the database has forgotten in a crash
+    that it rolled branches back: to the next session they are an earlier one's, and may stand
+    there."""
     with session.threads.all(time.monotonic() + GLANCE):
         session.coordinator.quit()
     raise CoordinatorGone(f"the session is ended: {rm.label} has forgotten the rollback of {sorted(forgotten)[0]}")
@@ -72,8 +74,8 @@ def listed_at(session: Session, connection: Connection) -> List[Xid]:
 
 
 def see_known(session: Session, rm: ResourceManager, connection: Connection) -> None:
-    """Sees that the log may know all that the database lists as the manager's: if it doesn't, it is another one, and all that is behind it
-    would be ended wrongly. Raises SetupError."""
+    """Sees that the log may know all that the database lists as the manager's: if it doesn't, it is
+    another one, and all that is behind it would be ended wrongly. Raises SetupError."""
     unknown = [xid for xid in listed_at(session, connection) if not session.knows(xid)]
     if unknown:
         raise SetupError(
@@ -83,10 +85,12 @@ def see_known(session: Session, rm: ResourceManager, connection: Connection) -> 
 
 
 def see_over(session: Session, rm: ResourceManager, connection: Connection) -> Set[Xid]:
-    """Sees that the database lists no branch that this session has ended there. It may have forgotten in a crash that it rolled one back,
-    as MariaDB does: those are what is returned, and no page is to list them. Anything else is for somebody to look at."""
+    """Sees that the database lists no branch that this session has ended there. It may have
+    forgotten in a crash that it rolled one back, as MariaDB does: those are what is returned, and
+    no page is to list them. Anything else is for somebody to look at."""
     listed = listed_at(session, connection)
-    # A transaction that has a branch by now, and isn't open any more behind the list, is over; what is listed once more stays.
+    # A transaction that has a branch by now, and isn't open any more behind the list, is over; what
+    # is listed once more stays.
     over = _over(session, rm, listed)
     if over:
         over &= set(listed_at(session, connection))
@@ -108,8 +112,8 @@ def _over(session: Session, rm: ResourceManager, listed: List[Xid]) -> Set[Xid]:
 
 
 def stop(session: Session, why: str) -> SetupError:
-    """Ends the session, and has none begin behind it, in this run of the program or another one, until somebody has looked: the next one
-    would roll back what this one doesn't understand."""
+    """Ends the session, and has none begin behind it, in this run of the program or another one,
+    until somebody has looked: the next one would roll back what this one doesn't understand."""
     session.identities.shut(why)
     log.error("%s: nothing is done any more until somebody has looked", why)
     session.coordinator.quit()
@@ -122,8 +126,9 @@ def incarnation_of(xid: Xid) -> int:
 
 
 def see_not_later(rm: ResourceManager, incarnation: int, path: str) -> None:
-    """Sees, before a session, that a database lists no branch of a session that the log at a path hasn't had. Raises SetupError: no
-    coordinator is started then, so that it is refused however often the program is started again."""
+    """Sees, before a session, that a database lists no branch of a session that the log at a path
+    hasn't had. Raises SetupError: no coordinator is started then, so that it is refused however
+    often the program is started again."""
     later = [xid for xid in rm.listed or () if incarnation_of(xid) > incarnation]
     if not later:
         return

@@ -14,8 +14,8 @@ GLANCE = 0.2
 
 
 class Threads:
-    """The coordinator's threads, from 1 on: each is lent to one transaction at a time, or all of them to who ends the session. Which thread
-    of Python has one doesn't matter."""
+    """The coordinator's threads, from 1 on: each is lent to one transaction at a time, or all of
+    them to who ends the session. Which thread of Python has one doesn't matter."""
 
     def __init__(self, count: int):
         self._count = count
@@ -26,8 +26,8 @@ class Threads:
         self._takers = 0
 
     def take(self, until: float, is_given_up: Callable[[], bool] = lambda: False) -> int:
-        """A thread that is free. Waits for one until this moment of the monotonic clock, or until nobody wants it any more, and then raises
-        Overdue."""
+        """A thread that is free. Waits for one until this moment of the monotonic clock, or until
+        nobody wants it any more, and then raises Overdue."""
         with self._change:
             self._takers += 1
             try:
@@ -54,7 +54,8 @@ class Threads:
 
     @contextlib.contextmanager
     def all(self, until: float) -> Iterator[None]:
-        """All threads at once: no new one is lent meanwhile, and those that are out are waited for. Raises Overdue at this moment."""
+        """All threads at once: no new one is lent meanwhile, and those that are out are waited for.
+        Raises Overdue at this moment."""
         with self._change:
             self._wait(lambda: not self._whole_is_wanted, until)
             self._whole_is_wanted = True

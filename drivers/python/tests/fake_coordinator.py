@@ -1,11 +1,13 @@
-"""A stand-in for `xatm serve --moves`: it says what docs/MOVES.md says, and takes no other answers than that page has.
+"""A stand-in for `xatm serve --moves`: it says what docs/MOVES.md says, and takes no other answers
+than that page has.
 
 usage: fake_coordinator.py LOG [DIES_AT]
 
-LOG is a file of JSON with the rows, the incarnation, the names, and all moves that it got, the lines among them. DIES_AT is where it ends in
-place of a reply, the first time: `start`, `commit` or `rollback`, as it gets such a move; `votes`, as it gets votes that are all for commit; `decided`,
-as it has decided these and told nobody. With `stopped`
-it says in place of the first decision that its log failed."""
+LOG is a file of JSON with the rows, the incarnation, the names, and all moves that it got, the
+lines among them. DIES_AT is where it ends in place of a reply, the first time: `start`, `commit` or
+`rollback`, as it gets such a move; `votes`, as it gets votes that are all for commit; `decided`, as
+it has decided these and told nobody. With `stopped` it says in place of the first decision that its
+log failed."""
 
 import json
 import os
@@ -186,7 +188,8 @@ class Coordinator:
         return True
 
     def hear(self, thread, rm, place, answer):
-        """A branch hears how its call was answered. Why the transaction can't be committed, if it can't."""
+        """A branch hears how its call was answered. Why the transaction can't be committed, if it
+        can't."""
         xid, thread.places[rm] = self.xid(thread, rm), "over"
         if place == "preparing":
             if answer == "0":

@@ -1,4 +1,5 @@
-"""The calls that the coordinator tells: how they are made, and what is told of a transaction whatever ends in the middle of it."""
+"""The calls that the coordinator tells: how they are made, and what is told of a transaction
+whatever ends in the middle of it."""
 
 import contextlib
 import threading
@@ -152,7 +153,8 @@ class Owing(Case):
 
 
 class Moments(Case):
-    """Whatever ends at whichever moment of a transfer: what was told is so, and both databases agree."""
+    """Whatever ends at whichever moment of a transfer: what was told is so, and both databases
+    agree."""
 
     def transfer(self, xa, fails):
         t = None
@@ -175,11 +177,12 @@ class Moments(Case):
         self.right.written.clear()
 
     def sweep(self, fails, end):
-        """Has something end at each of the moments at which the coordinator is written to or read from, or a call is made."""
+        """Has something end at each of the moments at which the coordinator is written to or read
+        from, or a call is made."""
         moment, was_there = 0, True
-        while was_there:
-            moment += 1
-            with self.manager(patience=5.0) as xa:
+        with self.manager(patience=5.0) as xa:
+            while was_there:
+                moment += 1
                 self.move(xa)
                 self.left.written.clear()
                 self.right.written.clear()
@@ -187,8 +190,6 @@ class Moments(Case):
                 self.watch(xa, left, end)
                 t = self.transfer(xa, fails)
                 was_there, left[0] = left[0] <= 0, 0
-                for database in (self.left, self.right):
-                    database.called = lambda name: None
                 self.see(xa, t, f"moment {moment}")
         return moment
 
@@ -207,7 +208,9 @@ class Moments(Case):
 
             return stepped
 
-        coordinator.post, coordinator.wait = before(coordinator.post), before(coordinator.wait)
+        for name in ("post", "wait"):
+            # Those of an earlier moment do nothing any more.
+            setattr(coordinator, name, before(getattr(type(coordinator), name).__get__(coordinator)))
         self.left.called = self.right.called = at
 
     def test_the_coordinator_is_killed(self):
