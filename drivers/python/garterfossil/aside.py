@@ -127,7 +127,10 @@ def aside(step: Callable[[], T], may_leave: bool = False) -> T:
 
 
 def side_by_side(steps: Sequence[Callable[[], T]]) -> List[T]:
-    """Does steps at the same time, all but the first on threads of their own, and waits for all of them: what each gives."""
+    """Does steps at the same time, all but the first on threads of their own, and waits for all of
+    them: what each gives. (Threads of gevent take turns.)"""
+    if len(steps) < 2 or _is_of_gevent():
+        return [step() for step in steps]
     jobs = [_Job(step) for step in steps[1:]]
     for job in jobs:
         try:
@@ -136,7 +139,7 @@ def side_by_side(steps: Sequence[Callable[[], T]]) -> List[T]:
             # There is no thread to be had any more, as at the interpreter's end.
             job.do()
     try:
-        first = [step() for step in steps[:1]]
+        first = steps[0]()
     finally:
         for job in jobs:
             while not job.is_over:
@@ -144,7 +147,7 @@ def side_by_side(steps: Sequence[Callable[[], T]]) -> List[T]:
     for job in jobs:
         if job.error is not None:
             raise job.error
-    return [*first, *(cast(T, job.result) for job in jobs)]
+    return [first, *(cast(T, job.result) for job in jobs)]
 
 
 def is_interrupt(error: BaseException) -> bool:
