@@ -21,7 +21,7 @@ log = logging.getLogger("garterfossil")
 
 #: The coordinator ends so where another one has the log, or the log can't be opened. The status is told as 0 where the program takes
 #: those of all its children itself, as gunicorn does while `post_fork` runs.
-LOG_STATUSES = (2, 0)
+IN_USE, LOG_STATUSES = 5, (2, 5, 0)
 #: It ends so where it doesn't know the words that it is started with.
 WRONG_WORDS = 3
 OLDER = "the coordinator {} is older than this driver: program= is to be the xatm that it came with"
@@ -128,13 +128,13 @@ class Coordinator:
             except CoordinatorGone as gone:
                 if gone.status == WRONG_WORDS:
                     raise SetupError(OLDER.format(command[0]) + f" ({gone})") from gone
-                if gone.status not in LOG_STATUSES:
-                    raise
-                waited = time.monotonic() - begun
-                is_used = path is None or is_log_in_use(path)
                 if REFUSED_LOG in str(gone):
                     # The coordinator has said why.
                     raise SetupError(str(gone)) from gone
+                if gone.status not in LOG_STATUSES:
+                    raise
+                waited = time.monotonic() - begun
+                is_used = path is None or gone.status == IN_USE or is_log_in_use(path)
                 if is_used and waited >= patience:
                     raise LogInUse(f"the log {path} is in use by another program: {gone}") from gone
                 # One that has just ended has let the log go meanwhile.

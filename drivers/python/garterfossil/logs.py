@@ -37,7 +37,7 @@ LONGEST_LOOK = 60
 #: How the lines begin that `xatm log` prints before what is decided.
 HEADS = ("name ", "rm ", "incarnation ")
 #: What it says of a log that another program has, or that can't be written.
-USED = "another process runs over it"
+USED = ("another process runs over it", "in use by another process")
 #: How `xatm log --explain` names a branch that a decision waits for.
 EXPLAINED = re.compile(r" +([0-9]+:[0-9a-f]+:[0-9a-f]+) at resource manager ")
 #: What stands for the number of a worker in the path of a log, and the most workers.
@@ -85,7 +85,7 @@ def printed_log(program: str, path: str, *options: str) -> List[str]:
     if done.returncode < 0:
         raise LookKilled(f"{program} was ended by the signal {-done.returncode}, while it read the log {path}")
     # Who had it may have let it go meanwhile.
-    if is_log_in_use(path) or USED in done.stderr and fault_of_log(path) is None:
+    if is_log_in_use(path) or any(said in done.stderr for said in USED) and fault_of_log(path) is None:
         raise LogInUse(f"the log {path} is in use by another program")
     raise SetupError(f"{program} can't read the log {path}: {done.stderr.strip() or f'status {done.returncode}'}")
 

@@ -12,7 +12,7 @@ from concurrent.futures import ThreadPoolExecutor
 from unittest import mock
 
 from garterfossil.coordinator import Coordinator
-from garterfossil.errors import CoordinatorGone, NotNow, SetupError
+from garterfossil.errors import CoordinatorGone, LogInUse, NotNow, SetupError
 from garterfossil.xid import Xid
 
 ECHO = """
@@ -161,6 +161,19 @@ class Coordinators(unittest.TestCase):
         with tempfile.TemporaryDirectory() as folder:
             coordinator = Coordinator.start([sys.executable, "-c", program, os.path.join(folder, "mark")], 5)
             coordinator.quit()
+
+    def test_whatever_the_status_is_a_log_that_it_refuses_is_not_tried_again(self):
+        for status in (2, 4, 6, 7, 8):
+            program = f"import sys; print('xatm: log: a.db: it is shut', file=sys.stderr); sys.exit({status})"
+            begun = time.monotonic()
+            with self.assertRaisesRegex(SetupError, "it is shut"):
+                Coordinator.start([sys.executable, "-c", program], 20.0, "a.db")
+            self.assertLess(time.monotonic() - begun, 15)
+
+    def test_a_log_in_use_is_waited_for_also_if_nobody_has_it_any_more(self):
+        program = "import sys; print('xatm: a.db: in use by another process', file=sys.stderr); sys.exit(5)"
+        with self.assertRaises(LogInUse):
+            Coordinator.start([sys.executable, "-c", program], 0.5, "a.db")
 
     def test_one_that_takes_no_moves_is_too_old(self):
         for program in (
