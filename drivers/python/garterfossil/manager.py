@@ -380,7 +380,8 @@ class TransactionManager:
             except (CoordinatorGone, NotNow) as gone:
                 if self._is_closed or time.monotonic() >= until:
                     raise
-                log.warning("%s", gone)
+                if isinstance(gone, CoordinatorGone):
+                    log.warning("%s", gone)
                 time.sleep(PAUSE)
 
     def _begin_on(self, session: Session, thread: int) -> str:
