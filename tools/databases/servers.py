@@ -89,16 +89,23 @@ class Server:
         return server
 
     def start(self):
-        """Starts it, and waits until it answers."""
+        """Starts it, and waits until it answers. On a busy machine a process that was killed may
+        still be there: so it is started again."""
+        until = time.monotonic() + 60
+        self.begin()
+        while not self.answers():
+            if time.monotonic() > until:
+                sys.exit(f"{self.name} doesn't start; the end of its log:\n{self.last_of_log()}")
+            time.sleep(0.05)
+            if self.process.poll() is not None:
+                time.sleep(0.5)
+                self.begin()
+
+    def begin(self):
         with open(f"{self.home}/log", "ab") as it:
             self.process = subprocess.Popen(
                 self.words(), cwd=self.home, stdin=subprocess.DEVNULL, stdout=it, stderr=it, start_new_session=True, **as_server_user()
             )
-        until = time.monotonic() + 60
-        while not self.answers():
-            if self.process.poll() is not None or time.monotonic() > until:
-                sys.exit(f"{self.name} doesn't start; the end of its log:\n{self.last_of_log()}")
-            time.sleep(0.05)
 
     def adapter(self):
         """The driver's class for it."""
