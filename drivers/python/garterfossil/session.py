@@ -236,9 +236,10 @@ class Session:
             self._rms[rm].is_recovery_due = True
         if self.mirror is not None and told.outcome is Outcome.COMMITTED and not owed:
             self.mirror.over(gtrid)
-        for rm in told.owed:
-            # Mostly a connection alone was lost, and the branch is ended at once.
-            self.keeper.see_to(self._rms[rm])
+        # Mostly a connection alone was lost, and the branch is ended at once.
+        for patience in (0, GLANCE):
+            for rm in told.owed:
+                self.keeper.see_to(self._rms[rm], patience)
 
     # ** recovery
 
