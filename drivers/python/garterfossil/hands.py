@@ -45,6 +45,9 @@ ANSWERS = {
     "undo": {Code.OK, Code.NOTA, Code.HEURRB},
     "forget": {Code.OK, Code.NOTA},
 }
+#: What may answer a decided commit, and how a branch was ended otherwise.
+NOT_ODD = (Code.OK, Code.RETRY, Code.HEURCOM, None)
+ODD = {Code.NOTA: Code.HEURHAZ, **{code: code for code in HEURISTIC}}
 #: A recovery asks for so many identifiers at a time, and makes a call that has no answer now again
 #: for so many seconds.
 PAGE, STUCK, PAUSE = 32, 1.0, 0.05
@@ -194,6 +197,8 @@ class Hands:
         self.fate: Optional[Outcome] = Outcome.ROLLED_BACK
         self._session, self._thread, self._gtrid = session, thread, gtrid
         self._joined: Set[int] = set()
+        # Where a branch was ended otherwise than it was decided, if the coordinator tells no more.
+        self._odd: Dict[int, Code] = {}
         self._reply: Optional[Reply] = None
 
     def join(self) -> None:
@@ -232,7 +237,7 @@ class Hands:
         except CoordinatorGone as gone:
             if self.fate is Outcome.COMMITTED:
                 log.warning("%s is committed, and ended by the next session: %s", self._gtrid, gone)
-                return Told(Outcome.COMMITTED)
+                return Told(Outcome.COMMITTED, mixed=self._odd)
             self._ask_later()
             if self.fate is not Outcome.ROLLED_BACK:
                 raise OutcomeUnknown(f"{self._gtrid}: {gone}", self._gtrid) from gone
@@ -279,6 +284,9 @@ class Hands:
             self._session.coordinator.see_up()
             self.fate = Outcome.UNKNOWN if verb == "commit-at-once" else self.fate
         answers = make_all(verb, parts)
+        if verb == "commit":
+            odd = [(part, code) for part, code in zip(parts, answers) if code not in NOT_ODD]
+            self._odd = {part.line.rm.number: ODD.get(code, Code.HEURRB) for part, code in odd if code is not None}
         if verb == "commit-at-once" and answers[0] is not None:
             self.fate = Outcome.COMMITTED if answers[0] is Code.OK else Outcome.ROLLED_BACK
         return answers

@@ -42,6 +42,18 @@ class Case(unittest.TestCase):
         """The requests of these names, as the coordinator got them."""
         return [line for line in self.in_the_log()["requests"] if line.split(" ")[0] in names]
 
+    def before_the_votes_are_told(self, xa, do):
+        """Has something done once, when each database has voted."""
+        coordinator, left = xa._session.coordinator, [do]
+        post = coordinator.post
+
+        def posts(move, *words, **more):
+            if move.startswith("tell ") and left:
+                left.pop()()
+            return post(move, *words, **more)
+
+        coordinator.post = posts
+
     def move(self, xa):
         with xa.transaction() as t:
             t[0].execute("take")

@@ -7,7 +7,7 @@ import time
 import unittest
 from concurrent.futures import ThreadPoolExecutor
 
-from garterfossil import CoordinatorGone, Outcome, OutcomeUnknown, RolledBack, SetupError, TransactionManager, XaError, Xid
+from garterfossil import CoordinatorGone, HeuristicEnd, Outcome, OutcomeUnknown, RolledBack, SetupError, TransactionManager, XaError, Xid
 from garterfossil.codes import Code
 from garterfossil.errors import ConnectionLost
 from garterfossil.hands import Told
@@ -96,6 +96,17 @@ class Calls(Case):
                 self.assertIs(t.outcome, Outcome.ROLLED_BACK)
                 self.move(xa)
         self.assertEqual(self.written(), (["take", "take"], ["give", "give"]))
+
+    def test_a_branch_that_was_ended_by_hand_is_told_although_the_coordinator_ends(self):
+        with self.manager() as xa:
+            self.before_the_votes_are_told(xa, self.right.prepared.clear)
+            self.right.before["commit_prepared"] = lambda: xa._session.coordinator.kill()
+            with self.assertRaisesRegex(HeuristicEnd, "by hand"):
+                with xa.transaction() as t:
+                    t[0].execute("take")
+                    t[1].execute("give")
+            self.right.before.clear()
+            self.assertIs(t.outcome, Outcome.COMMITTED)
 
     def test_an_outcome_that_is_asked_for_after_the_next_session_has_begun(self):
         with self.manager(dies_at="votes") as xa:

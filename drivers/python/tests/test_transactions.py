@@ -82,7 +82,7 @@ class Transactions(Case):
 
     def test_a_branch_that_was_ended_by_hand_before_its_commit(self):
         with self.manager() as xa:
-            self.left.before["commit_prepared"] = self.right.prepared.clear
+            self.before_the_votes_are_told(xa, self.right.prepared.clear)
             with self.assertLogs("garterfossil", "ERROR"), self.assertRaisesRegex(HeuristicEnd, "by hand"):
                 with xa.transaction() as t:
                     t[0].execute("take")
@@ -96,8 +96,8 @@ class Transactions(Case):
 
     def test_a_branch_that_was_ended_by_hand_before_its_rollback(self):
         self.right.next["prepare"] = Code.RBINTEGRITY
-        self.right.before["prepare"] = self.left.prepared.clear
         with self.manager() as xa:
+            self.before_the_votes_are_told(xa, self.left.prepared.clear)
             with self.assertLogs("garterfossil", "ERROR"), self.assertRaisesRegex(RolledBack, "voted RBINTEGRITY.*by hand"):
                 with xa.transaction() as t:
                     t[0].execute("take")
