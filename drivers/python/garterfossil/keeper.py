@@ -35,12 +35,12 @@ class Keeper:
         self._stop = threading.Event()
 
     def see_to(self, rm: ResourceManager, patience: float = GLANCE) -> None:
-        """Sees to it that the database is recovered, if something is due there, and waits for that until so many seconds after its
-        beginning."""
-        if not rm.is_recovery_due:
+        """Sees to it that the database is recovered, if something is due there, and waits for that,
+        or for the recovery that is under way, until so many seconds after its beginning."""
+        if not rm.is_recovery_due and rm.number not in self._working:
             return
         with self._lock:
-            if self._is_over:
+            if self._is_over or not rm.is_recovery_due and rm.number not in self._working:
                 return
             if rm.number not in self._working:
                 thread = threading.Thread(target=self._work, args=[rm], name=f"garterfossil {rm.label}", daemon=True)

@@ -308,6 +308,8 @@ class TransactionManager:
         try:
             if session is not None and not session.coordinator.is_gone:
                 session.close(patience)
+            if session is not None and session.is_to_be_followed:
+                self._end_what_was_left()
         except Overdue:
             self._end_what_was_left()
             raise

@@ -63,6 +63,7 @@ def begin_anew(session: Session, rm: ResourceManager, forgotten: Set[Xid]) -> No
     that it rolled branches back: to the next session they are an earlier one's, and may stand
     there."""
     with session.threads.all(time.monotonic() + GLANCE):
+        session.is_to_be_followed = True
         session.coordinator.quit()
     raise CoordinatorGone(f"the session is ended: {rm.label} has forgotten the rollback of {sorted(forgotten)[0]}")
 

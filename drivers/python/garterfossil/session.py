@@ -70,6 +70,8 @@ class Session:
             ResourceManager(database, place, settings.databases.label(place.number), self.identities)
             for database, place in settings.databases.placed(settings.names.manager, settings.threads, settings.patience)
         ]
+        #: Whether it has ended so that the next one ends what it couldn't.
+        self.is_to_be_followed = False
         #: The transactions that the mirror says are decided, and the log doesn't know.
         self.unknown_to_log: Set[str] = set()
         self.mirror: Optional[Mirror] = None
