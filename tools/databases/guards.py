@@ -52,12 +52,13 @@ PROGRAM = """
         until, met = time.monotonic() + seconds, 0
         while time.monotonic() < until:
             try:
-                signal.setitimer(signal.ITIMER_REAL, 0.001 + 0.0003 * (met % 60))
-                move()
+                try:
+                    signal.setitimer(signal.ITIMER_REAL, 0.001 + 0.0003 * (met % 60))
+                    move()
+                finally:
+                    signal.setitimer(signal.ITIMER_REAL, 0)
             except Exception:
                 met += 1
-            finally:
-                signal.setitimer(signal.ITIMER_REAL, 0)
         until = time.monotonic() + 10
         while (len(xa._session.threads._free) < 5 or xa.counts()["open"]) and time.monotonic() < until:
             time.sleep(0.1)
