@@ -4,25 +4,26 @@ use crate::failure::Failure;
 use crate::lists::head_of;
 use crate::log_reasons::{in_use, opening_failure, refused};
 use crate::stores::{close_in_files, shut_in_files};
-use sqlite::{FileFrom, Files, Unknown};
-use xa_sql_log::{LockFault, LogHead, SqlLog};
+use sqlite::Unknown;
+use xa_sql_log::{LockFault, SqlLog};
 
-/// The files of the log at a path, which are locked, and what it says of itself then.
-fn lock_log(rt: &HostRuntime, path: &str) -> Result<(Files<FileFrom<Unknown>>, LogHead), Failure> {
-    // Where there is no log, a lock would make its files.
-    let _there = head_of(rt, path)?;
-    let files = match SqlLog::lock(rt, path, Unknown) {
-        Ok(files) => files,
-        Err(LockFault::InUse) => return Err(in_use(rt.alloc(), path)),
-        Err(LockFault::Log(fault)) => return Err(opening_failure(rt, path, fault)),
-    };
-    Ok((files, head_of(rt, path)?))
+/// The failure of a log that can't be locked.
+fn lock_failure(rt: &HostRuntime, path: &str, fault: LockFault) -> Failure {
+    match fault {
+        LockFault::InUse => in_use(rt.alloc(), path),
+        LockFault::Log(fault) => opening_failure(rt, path, fault),
+    }
 }
 
 /// Shuts the log at a path, so that every start refuses it. One that is shut stays so.
 pub fn shut_log(rt: &HostRuntime, path: &str) -> Result<(), Failure> {
-    let (files, head) = lock_log(rt, path)?;
-    if head.is_shut {
+    // If there is no log, a lock would make its files.
+    let _there = head_of(rt, path)?;
+    let files = match SqlLog::lock(rt, path, Unknown) {
+        Ok(files) => files,
+        Err(fault) => return Err(lock_failure(rt, path, fault)),
+    };
+    if head_of(rt, path)?.is_shut {
         return Ok(());
     }
     let shut = match SqlLog::open_locked(rt, files, "") {
@@ -34,8 +35,13 @@ pub fn shut_log(rt: &HostRuntime, path: &str) -> Result<(), Failure> {
 
 /// Opens the log at a path again, which has to be shut.
 pub fn open_log(rt: &HostRuntime, path: &str) -> Result<(), Failure> {
-    let (files, head) = lock_log(rt, path)?;
-    if !head.is_shut {
+    // If there is no log, a lock would make its files.
+    let _there = head_of(rt, path)?;
+    let files = match SqlLog::lock(rt, path, Unknown) {
+        Ok(files) => files,
+        Err(fault) => return Err(lock_failure(rt, path, fault)),
+    };
+    if !head_of(rt, path)?.is_shut {
         return Err(refused(rt.alloc(), path, "it isn't shut")?);
     }
     let opened = match SqlLog::reopen_locked(rt, files) {
