@@ -5,6 +5,7 @@ import java.util.Iterator;
 import java.util.List;
 import java.util.Optional;
 import java.util.concurrent.CopyOnWriteArrayList;
+import java.util.stream.Collectors;
 import javax.transaction.xa.XAResource;
 
 /** The branches of a transaction, in the order in which they began, and the thread of the coordinator that it has from the first one on. */
@@ -13,9 +14,10 @@ final class Branches {
     private final Manager manager;
     // Another thread may look at them as the session or the time is over.
     private final List<Branch> all = new CopyOnWriteArrayList<>();
-    private Session session;
+    private final List<Integer> unjoined = new ArrayList<>();
+    private volatile Session session;
     private Session.Slot slot;
-    private String gtrid;
+    private volatile String gtrid;
 
     Branches(GlobalTransaction transaction, Manager manager) {
         this.transaction = transaction;
@@ -24,6 +26,10 @@ final class Branches {
 
     List<Branch> all() {
         return all;
+    }
+
+    private List<Branch> begun() {
+        return all.stream().filter(Branch::isBegun).collect(Collectors.toList());
     }
 
     Session session() {
@@ -42,7 +48,7 @@ final class Branches {
 
     Optional<Branch> at(ResourceManager rm) {
         for (Branch branch : all) {
-            if (branch.rm() == rm) {
+            if (branch.rm == rm) {
                 return Optional.of(branch);
             }
         }
@@ -53,32 +59,23 @@ final class Branches {
         return all.stream().filter(branch -> branch.resource() == xaResource).findFirst();
     }
 
-    /** Those that voted XA_OK. */
-    List<Branch> prepared() {
-        List<Branch> found = new ArrayList<>(all);
-        found.removeIf(branch -> !branch.isPrepared());
-        return found;
-    }
-
     // ** their beginning
 
     /** Begins a branch, over a connection of the pool or one that the program brought. */
     Branch begin(ResourceManager rm, XAResource brought) throws Fault {
-        join();
-        session.keeper(rm).usage.enter(transaction.left());
+        take();
         Branch branch = made(rm, brought);
         branch.start();
-        if (all.size() > 1) {
-            // It will be committed in two phases: so the calls of the first are issued while the work goes on.
-            all.forEach(Branch::issueVoteAhead);
-            slot.post();
-            session.commits.flush();
+        unjoined.add(rm.number);
+        if (begun().size() > 1) {
+            // The calls of the first phase wait behind that, while the work goes on.
+            join(true);
         }
         return branch;
     }
 
-    /** Has the coordinator begin the transaction, once something takes part. */
-    private void join() throws Fault {
+    /** A thread of the coordinator, once something takes part, and its next transaction. */
+    private void take() throws Fault {
         if (slot != null) {
             return;
         }
@@ -95,14 +92,11 @@ final class Branches {
         session.add(transaction);
     }
 
-    /** Posts what its branches have to ask and to tell. */
-    void post() {
-        slot.post();
-    }
-
-    /** The same, and asks for the thread's next transaction. */
-    void postAndBeginNext() {
-        slot.postAndBegin();
+    private void join(boolean isNow) throws Fault.Gone {
+        if (!unjoined.isEmpty()) {
+            slot.join(unjoined, isNow);
+            unjoined.clear();
+        }
     }
 
     /** A branch that is among the others, and ends with them. */
@@ -111,15 +105,10 @@ final class Branches {
         try {
             lease = brought == null ? rm.borrow(transaction.left()) : null;
             XAResource resource = brought == null ? lease.link.xaResource() : brought;
-            Branch branch = new Branch(BranchXid.of(session.name, gtrid, slot.number, rm.number), slot.line(rm), lease, resource,
-                transaction::left, session.counts);
+            Branch branch = new Branch(BranchXid.of(session.name, gtrid, slot.number, rm.number), rm, lease, resource, transaction::left);
             all.add(branch);
             return branch;
         } catch (Fault | RuntimeException | Error error) {
-            session.keeper(rm).usage.leave();
-            if (error instanceof Fault.Lost) {
-                session.keeper(rm).scanLater();
-            }
             if (lease != null) {
                 lease.lose();
             }
@@ -128,6 +117,12 @@ final class Branches {
     }
 
     // ** their end
+
+    /** What makes their calls. */
+    Hands hands() throws Fault.Gone {
+        join(false);
+        return new Hands(transaction, begun(), session, slot, manager);
+    }
 
     /** Cuts short what runs on their connections. */
     void cancelWork() {
@@ -140,33 +135,15 @@ final class Branches {
     }
 
     /** The session is over: their connections are closed, and work that isn't prepared is undone as far as that can be done here. */
-    void abandon(String why, boolean isUndone) {
-        all.forEach(branch -> branch.abandon(why, isUndone));
-    }
-
-    /** Leaves the end of a branch to the keeper of its resource. */
-    Debt owe(Branch branch, boolean isCommit, Runnable paid) {
-        branch.giveUp(transaction + " is over");
-        Debt debt = new Debt(branch.xid, isCommit, branch.may(), paid);
-        session.keeper(branch.rm()).owe(debt);
-        return debt;
+    void abandon(String why) {
+        all.forEach(branch -> branch.abandon(why));
     }
 
     /** The transaction is over: the connections go back to their pools, and its thread to the session. */
     void release() {
-        if (slot == null) {
-            return;
-        }
-        Session.Slot over = slot;
-        slot = null;
-        try {
-            // The answers come before whatever a recovery tells from now on.
-            over.post();
-        } catch (RuntimeException | Error error) {
-            // The thread's next transaction would begin behind half of this one.
-            session.coordinator.failed(error);
-            throw error;
-        } finally {
+        if (slot != null) {
+            Session.Slot over = slot;
+            slot = null;
             release(all.iterator(), over);
         }
     }
@@ -181,12 +158,11 @@ final class Branches {
         Branch branch = left.next();
         try {
             if (session.coordinator.isGone()) {
-                branch.abandon("the coordinator ended", true);
+                branch.abandon("the coordinator ended");
             } else {
                 branch.release();
             }
         } finally {
-            session.keeper(branch.rm()).usage.leave();
             release(left, over);
         }
     }

@@ -18,52 +18,42 @@ import java.util.concurrent.locks.LockSupport;
 import java.util.concurrent.locks.ReentrantLock;
 
 /**
- * The coordinator: {@code xatm serve}, a process that this one starts and asks (docs/SERVE.md).
+ * The coordinator: {@code xatm serve --moves}, a process that this one starts, and that says what to do (docs/MOVES.md).
  *
- * <p>Any thread may ask. What is posted is a line of one or several requests, with {@link #AND} between them. It is written with the
- * next one that is waited for, and the replies come in the order of the lines: whichever thread waits reads what has come, and wakes the
- * threads whose replies are among it.
+ * <p>Any thread may ask. What is posted is written with the next move that is waited for, and the replies come in the order of the lines:
+ * whichever thread waits reads what has come, and wakes the threads whose replies are among it. Moves that may lead to a decision are
+ * gathered: while a line of such has no reply, those of other threads wait, and then go on one line, which is one write of the log.
  */
 class Coordinator {
-    /** The rules by which a step is refused because the manager is down, or the transaction is over. */
-    static final int MANAGER_DOWN = 1, UNKNOWN_TRANSACTION = 5, LOG_FAULT = 15;
-    /** Stands between the requests of a line, and in its reply for each that was done before the one that it replies to. */
+    /** Stands between the moves of a line, and between their replies. */
     static final String AND = ";";
-    /** So many lines may be written without a reply that was read: their replies fit into the pipe, so neither side blocks the other. */
+    /** So many moves may be written without a reply that was read: their replies fit into the pipe, so neither side blocks the other. */
     private static final int AHEAD = 400;
     private static final String PROTOCOL = "1";
     static final String OLDER = "older than this driver";
     /** So the coordinator gets a process group of its own: Ctrl-C in a terminal is for the program alone. */
     private static final File SETSID = new File("/usr/bin/setsid");
 
-    /** A line of requests that is on its way, and the place of its reply. */
+    /** A move that is on its way, and the place of its reply. */
     static final class Reply {
-        private final String requests;
-        private volatile boolean isWritten;
-        private volatile String line;
+        private final String move;
+        private volatile String text;
         // The thread that waits for it, where another one reads.
         private volatile Thread waiter;
 
-        private Reply(String requests) {
-            this.requests = requests;
+        private Reply(String move) {
+            this.move = move;
         }
+    }
 
-        /** What it replies to: the first request that isn't done, or the last. */
-        private String request() {
-            return requests.split(AND)[done()];
-        }
+    /** What was written as one line. */
+    private static final class Line {
+        final List<Reply> replies;
+        final boolean isGathered;
 
-        /** How many requests were done before that. */
-        private int done() {
-            int count = 0;
-            while (line.startsWith(AND, count)) {
-                count++;
-            }
-            return count;
-        }
-
-        private String words() {
-            return line.substring(done());
+        Line(List<Reply> replies, boolean isGathered) {
+            this.replies = replies;
+            this.isGathered = isGathered;
         }
     }
 
@@ -72,12 +62,14 @@ class Coordinator {
     private final Process process;
     private final OutputStream output;
     private final InputStream input;
-    // What is to be written, and the requests without a reply, in the same order: whoever has the lock writes.
-    private final Queue<Reply> unwritten = new ConcurrentLinkedQueue<>();
+    // What is to be written: each on a line of its own, and what is gathered. Whoever has the lock writes.
+    private final Queue<Reply> unwritten = new ConcurrentLinkedQueue<>(), gathered = new ConcurrentLinkedQueue<>();
     private final ReentrantLock writing = new ReentrantLock();
     private final ByteArrayOutputStream block = new ByteArrayOutputStream(8192);
-    private final Queue<Reply> waiting = new ConcurrentLinkedQueue<>();
-    private long written;
+    // The lines without a reply, in the order in which they are written, and whether a gathered one is among them.
+    private final Queue<Line> waiting = new ConcurrentLinkedQueue<>();
+    private volatile boolean isDeciding;
+    private volatile long written;
     // Whether a thread reads, and those whose threads sleep meanwhile. What follows is the reader's.
     private final AtomicBoolean isRead = new AtomicBoolean();
     private final Queue<Reply> asleep = new ConcurrentLinkedQueue<>();
@@ -86,6 +78,8 @@ class Coordinator {
     private volatile long replied;
     private byte[] came = new byte[8192];
     private int begun;
+    // What is to be written waits until more replies are read.
+    private volatile boolean isPutOff;
     private final Object ending = new Object();
     private volatile String killedFor, fault;
 
@@ -115,18 +109,6 @@ class Coordinator {
         if (!greeting.startsWith("restarted ")) {
             throw gone("it began with the line: " + greeting);
         }
-        seeSeveral();
-    }
-
-    /** Sees that it takes several requests on a line. */
-    private void seeSeveral() throws Fault.Gone {
-        try {
-            ask("status" + AND + "status");
-        } catch (Fault.Gone gone) {
-            throw gone;
-        } catch (Fault refused) {
-            throw gone("it is " + OLDER + ", and takes one request a line");
-        }
     }
 
     /** A line that it begins with. */
@@ -135,15 +117,16 @@ class Coordinator {
             return early.remove();
         }
         Reply reply = new Reply("the start");
-        reply.isWritten = true;
-        waiting.add(reply);
+        waiting.add(new Line(List.of(reply), false));
         written++;
         try {
             readUntil(reply);
         } catch (IOException error) {
-            throw gone(error.getMessage());
+            Fault.Gone gone = gone(error.getMessage());
+            boolean isOlder = gone.getMessage().contains("--moves");
+            throw isOlder ? new Fault.Gone("it is " + OLDER + ", which it has to conduct (--moves)") : gone;
         }
-        return reply.line;
+        return reply.text;
     }
 
     /** Starts a program, in a process group of its own if there is what makes one. */
@@ -164,117 +147,153 @@ class Coordinator {
         }
     }
 
-    // ** requests
+    // ** moves
 
-    /** The reply to a request. */
-    String ask(String request) throws Fault {
-        return await(post(request));
+    /** The reply to a move. */
+    String ask(String move) throws Fault.Gone {
+        return await(post(move));
     }
 
-    /** Puts a line of requests on its way. They are done in turn, up to the first that is refused. */
-    Reply post(String requests) {
-        Reply reply = new Reply(requests);
+    /** Puts a move on its way, on a line of its own. */
+    Reply post(String move) {
+        Reply reply = new Reply(move);
         unwritten.add(reply);
         return reply;
     }
 
-    /** Sees that what was posted until this line is written. */
-    void flush(Reply reply) throws Fault.Gone {
-        if (!reply.isWritten) {
-            write();
-        }
+    /** Puts a move of a thread on its way that may lead to a decision: with those of other threads. */
+    Reply gather(String move) {
+        Reply reply = new Reply(move);
+        gathered.add(reply);
+        return reply;
     }
 
-    /** Sees that all that was posted is written. */
+    /** Sees that what was posted is written: now, or once a decision that is under way is made, since nothing else is done before that. */
     void flush() throws Fault.Gone {
-        if (!unwritten.isEmpty()) {
+        if (!isDeciding) {
             write();
         }
     }
 
-    /** The reply to a line that was posted: that to its last request. */
-    String await(Reply reply) throws Fault {
-        if (reply.line == null) {
-            flush(reply);
+    /** The reply to a move that was posted. */
+    String await(Reply reply) throws Fault.Gone {
+        if (reply.text == null) {
+            write();
             try {
                 readUntil(reply);
             } catch (IOException error) {
                 throw gone(error.getMessage());
             }
         }
-        return judged(reply);
+        if (reply.text.equals("stopped")) {
+            throw gone("its log or its memory failed, at " + reply.move);
+        }
+        return reply.text;
     }
 
-    private String judged(Reply reply) throws Fault {
-        String line = reply.words();
-        if (line.startsWith("refused ")) {
-            String[] words = line.split(" ");
-            int number = Integer.parseInt(words[1]);
-            if (number == MANAGER_DOWN || number == LOG_FAULT) {
-                throw gone("its log failed: " + line);
-            }
-            throw new Fault.Refused(number, line + ", to the request: " + reply.request());
-        }
-        if (line.equals("error the branch is in no such state")) {
-            throw new Fault.Unexplained(line + ", to the request: " + reply.request());
-        }
-        if (line.startsWith("error ")) {
-            throw new Fault.Refused(0, line + ", to the request: " + reply.request());
-        }
-        return line;
+    // ** its input
+
+    private boolean hasToWrite() {
+        return !unwritten.isEmpty() || !isDeciding && !gathered.isEmpty();
     }
 
-    /** Writes all that was posted before. */
+    /** Writes what was posted, unless another thread does: that writes this too. */
     private void write() throws Fault.Gone {
-        writing.lock();
         try {
-            while (!unwritten.isEmpty()) {
-                writeSome();
+            while (hasToWrite() && writing.tryLock()) {
+                try {
+                    while (hasToWrite()) {
+                        seeReplies();
+                        writeSome();
+                    }
+                } finally {
+                    writing.unlock();
+                }
             }
         } catch (IOException error) {
             throw gone(error.getMessage());
         } catch (RuntimeException | Error error) {
             // What was taken to be written may never be, and others wait for its replies.
             throw failed(error);
-        } finally {
-            writing.unlock();
         }
+    }
+
+    /** The same by the thread that reads, behind the reply to a decision, so that the next one is made at once. It waits for no reply. */
+    private void writeNext() {
+        isPutOff = false;
+        try {
+            while (hasToWrite() && !writing.isHeldByCurrentThread() && writing.tryLock()) {
+                try {
+                    while (hasToWrite() && !isFull()) {
+                        writeSome();
+                    }
+                    isPutOff = hasToWrite();
+                } finally {
+                    writing.unlock();
+                }
+                if (isPutOff) {
+                    return;
+                }
+            }
+        } catch (IOException error) {
+            // Whoever waits for a reply finds that out, too.
+        } catch (RuntimeException | Error error) {
+            failed(error);
+        }
+    }
+
+    private boolean isFull() {
+        return written - replied > AHEAD / 2;
     }
 
     private void writeSome() throws IOException {
         if (fault != null) {
             throw new IOException(fault);
         }
-        block.reset();
-        List<Reply> some = new ArrayList<>();
-        for (Reply reply = unwritten.peek(); reply != null && some.size() < AHEAD / 2; reply = unwritten.peek()) {
-            some.add(unwritten.remove());
-            block.writeBytes(reply.requests.getBytes(StandardCharsets.ISO_8859_1));
-            block.write('\n');
+        List<Line> lines = new ArrayList<>();
+        for (Reply reply = unwritten.poll(); reply != null; reply = lines.size() < AHEAD / 4 ? unwritten.poll() : null) {
+            lines.add(new Line(List.of(reply), false));
         }
-        seeReplies(some.size());
-        waiting.addAll(some);
-        written += some.size();
+        List<Reply> together = new ArrayList<>();
+        if (!isDeciding) {
+            for (Reply reply = gathered.poll(); reply != null; reply = together.size() < AHEAD / 4 ? gathered.poll() : null) {
+                together.add(reply);
+            }
+        }
+        if (!together.isEmpty()) {
+            isDeciding = true;
+            lines.add(new Line(together, true));
+        }
+        block.reset();
+        for (Line line : lines) {
+            for (Reply reply : line.replies) {
+                block.writeBytes(((reply == line.replies.get(0) ? "" : AND) + reply.move).getBytes(StandardCharsets.ISO_8859_1));
+            }
+            block.write('\n');
+            written += line.replies.size();
+        }
+        waiting.addAll(lines);
         block.writeTo(output);
         output.flush();
-        some.forEach(reply -> reply.isWritten = true);
     }
 
-    /** Waits until so many more requests may be written. */
-    private void seeReplies(int count) throws IOException {
-        while (written - replied + count > AHEAD) {
-            Reply first = waiting.peek();
-            if (first == null) {
-                return;
+    /** Waits until more moves may be written. Another thread may wait for the reply to the oldest, and is the one that is woken for that. */
+    private void seeReplies() throws IOException {
+        for (Line first = waiting.peek(); isFull() && first != null && fault == null; first = waiting.peek()) {
+            if (isRead.compareAndSet(false, true)) {
+                readAsOnly(first.replies.get(0));
+            } else {
+                LockSupport.parkNanos(100_000);
             }
-            readUntil(first);
         }
     }
+
+    // ** its output
 
     /** Waits for a reply: reads, or lets another thread read, which wakes this one. An interrupt waits: what was asked for is done. */
     private void readUntil(Reply reply) throws IOException {
         boolean isInterrupted = false;
-        while (reply.line == null && fault == null) {
+        while (reply.text == null && fault == null) {
             if (isRead.compareAndSet(false, true)) {
                 readAsOnly(reply);
             } else {
@@ -285,7 +304,7 @@ class Coordinator {
         if (isInterrupted) {
             Thread.currentThread().interrupt();
         }
-        if (reply.line == null) {
+        if (reply.text == null) {
             throw new IOException(fault);
         }
     }
@@ -304,7 +323,7 @@ class Coordinator {
     /** Reads until the reply has come; without one, what is there. */
     private void readAsOnly(Reply reply) throws IOException {
         try {
-            while (fault == null && (reply == null ? input.available() > 0 : reply.line == null)) {
+            while (fault == null && (reply == null ? input.available() > 0 : reply.text == null)) {
                 read();
             }
         } catch (RuntimeException | Error error) {
@@ -320,31 +339,15 @@ class Coordinator {
     private void sleepUnlessRead(Reply reply) {
         reply.waiter = Thread.currentThread();
         asleep.add(reply);
-        if (reply.line == null && fault == null && isRead.get()) {
+        if (reply.text == null && fault == null && isRead.get()) {
             LockSupport.park(this);
-        }
-    }
-
-    /** Wakes a thread that waits for a reply in another way: once it is there, or as soon as nobody else reads. At once, if there is none to come. */
-    void wake(Thread thread, Reply reply) {
-        boolean isWokenLater = false;
-        try {
-            if (reply != null) {
-                reply.waiter = thread;
-                asleep.add(reply);
-                isWokenLater = reply.line == null && fault == null && isRead.get();
-            }
-        } finally {
-            if (!isWokenLater) {
-                LockSupport.unpark(thread);
-            }
         }
     }
 
     /** Somebody has to read on. */
     private void wakeNext() {
         for (Reply reply = asleep.poll(); reply != null; reply = asleep.poll()) {
-            if (reply.line == null) {
+            if (reply.text == null) {
                 LockSupport.unpark(reply.waiter);
                 return;
             }
@@ -360,34 +363,53 @@ class Coordinator {
         if (count < 0) {
             throw new IOException("its output ended");
         }
+        List<Reply> given = new ArrayList<>();
+        boolean isDecided = false;
         int from = 0, end = begun + count;
         for (int at = begun; at < end; at++) {
             if (came[at] == '\n') {
-                give(new String(came, from, at - from, StandardCharsets.ISO_8859_1));
+                isDecided |= give(new String(came, from, at - from, StandardCharsets.ISO_8859_1), given);
                 from = at + 1;
             }
         }
         begun = end - from;
         System.arraycopy(came, from, came, 0, begun);
+        // What was gathered meanwhile goes first: the coordinator needn't wait until another thread runs.
+        if (isDecided || isPutOff) {
+            writeNext();
+        }
+        for (Reply reply : given) {
+            if (reply.waiter != null) {
+                LockSupport.unpark(reply.waiter);
+            }
+        }
     }
 
-    private void give(String line) {
-        Reply first = waiting.poll();
+    /** Gives a line out. Whether it is that of what was gathered. */
+    private boolean give(String line, List<Reply> given) {
+        Line first = waiting.poll();
         if (first == null) {
             early.add(line);
-            return;
+            return false;
         }
-        replied++;
-        first.line = line;
-        if (first.waiter != null) {
-            LockSupport.unpark(first.waiter);
+        String[] texts = first.replies.size() > 1 ? line.split(AND, -1) : new String[] {line};
+        for (int at = 0; at < first.replies.size(); at++) {
+            Reply reply = first.replies.get(at);
+            // A session that is over replies by one word.
+            reply.text = texts.length == first.replies.size() ? texts[at] : line;
+            given.add(reply);
         }
+        replied += first.replies.size();
+        if (first.isGathered) {
+            isDeciding = false;
+        }
+        return first.isGathered;
     }
 
     // ** its end
 
-    /** The oldest request that waits for its reply, or null. */
-    Reply oldest() {
+    /** The oldest line that waits for its reply, or null. */
+    Object oldest() {
         return waiting.peek();
     }
 

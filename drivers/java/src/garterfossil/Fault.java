@@ -17,23 +17,11 @@ public abstract class Fault extends Exception {
         }
     }
 
-    /** The coordinator refuses a request by a rule of the protocol, and nothing has changed (docs/PROTOCOL.md). */
+    /** The coordinator says that a move isn't one, or not now, and nothing has changed (docs/MOVES.md). */
     public static final class Refused extends Fault {
         private static final long serialVersionUID = 1;
-        /** The number of the rule, 1 to 16, or 0 where the request was none. */
-        final int number;
 
-        Refused(int number, String text) {
-            super(text, null);
-            this.number = number;
-        }
-    }
-
-    /** No state of the branch explains what a resource answered, by all that it answered before. Nothing has changed. */
-    public static final class Unexplained extends Fault {
-        private static final long serialVersionUID = 1;
-
-        Unexplained(String text) {
+        Refused(String text) {
             super(text, null);
         }
     }

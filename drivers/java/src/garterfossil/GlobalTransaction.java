@@ -2,10 +2,12 @@ package garterfossil;
 
 import java.lang.System.Logger.Level;
 import java.time.Duration;
-import java.util.Collection;
+import java.util.ArrayList;
 import java.util.HashMap;
 import java.util.Map;
+import java.util.List;
 import java.util.Optional;
+import java.util.StringJoiner;
 import java.util.concurrent.Future;
 import java.util.concurrent.TimeUnit;
 import java.util.concurrent.locks.ReentrantLock;
@@ -50,7 +52,7 @@ public final class GlobalTransaction {
     private volatile String fault;
     // What made that so, if it was an exception, or a call of setRollbackOnly.
     private volatile Throwable cause;
-    private volatile boolean isGivenUp, isEnded, isOwing;
+    private volatile boolean isGivenUp, isEnded;
 
     GlobalTransaction(Manager manager, Duration timeout) {
         this.manager = manager;
@@ -66,10 +68,14 @@ public final class GlobalTransaction {
         return (gtrid == null ? "a transaction" : "transaction " + gtrid) + " that thread '" + begunBy + "' began";
     }
 
-    /** The same, and how it stands. */
+    String gtrid() {
+        return branches.gtrid();
+    }
+
+    /** Its name, and how it stands. */
     String told() {
         return this + ": " + outcome + ", for " + (System.nanoTime() - begun) / 1_000_000_000 + " s, at " + branches.all().stream()
-            .map(branch -> branch.rm().toString()).collect(java.util.stream.Collectors.joining(", "));
+            .map(branch -> branch.rm.toString()).collect(java.util.stream.Collectors.joining(", "));
     }
 
     /** How it stands. */
@@ -202,18 +208,6 @@ public final class GlobalTransaction {
         return true;
     }
 
-    /** Whether it does something that isn't only owed to a resource. */
-    boolean isUnderWay() {
-        return !isOwing;
-    }
-
-    /** Waits so many milliseconds for what it owes. */
-    void awaitAll(Collection<Debt> debts, long millis) {
-        isOwing = true;
-        Debt.awaitAll(debts, millis);
-        isOwing = false;
-    }
-
     // ** its branches
 
     /** The branch at a resource, over a connection of the pool. It begins as it is first asked for. */
@@ -276,7 +270,7 @@ public final class GlobalTransaction {
         Optional<Branch> found = branches.of(xaResource);
         if (found.isPresent() && isFailed) {
             found.get().fail();
-            mark("work at " + found.get().rm() + " failed, as its end by TMFAIL says", null);
+            mark("work at " + found.get().rm + " failed, as its end by TMFAIL says", null);
         }
         return found.isPresent();
     }
@@ -343,19 +337,71 @@ public final class GlobalTransaction {
         }
         for (Branch branch : branches.all()) {
             if (branch.isLost()) {
-                mark("the connection to " + branch.rm() + " was lost", null);
+                mark("the connection to " + branch.rm + " was lost", null);
             }
         }
         if (fault != null) {
-            rollBack();
+            rollBack(false);
             throw rolledBack();
         }
-        if (branches.all().isEmpty()) {
+        if (branches.gtrid() == null) {
             outcome = Outcome.COMMITTED;
-        } else if (branches.all().size() == 1) {
-            new OnePhase(this, branches).commit();
-        } else {
-            new TwoPhases(this, branches, manager).commit();
+            return;
+        }
+        Hands hands = branches.hands();
+        Told told;
+        try {
+            told = hands.commit();
+        } catch (Fault.Gone gone) {
+            seeFate(hands, gone);
+            return;
+        }
+        outcome = told.outcome();
+        seePlain(told, hands);
+        seeCommitted(told, hands);
+    }
+
+    /** Sees that no resource ended its branch otherwise. The log has a record. */
+    private void seePlain(Told told, Hands hands) throws Fault.Heuristic {
+        if (told.mixed.isEmpty()) {
+            return;
+        }
+        List<Integer> codes = new ArrayList<>();
+        StringJoiner how = new StringJoiner(", ");
+        for (int at = 0; at < told.mixed.size(); at += 2) {
+            codes.add(told.mixed.get(at + 1));
+            how.add(hands.at(told.mixed.get(at)).rm + " answered " + Code.name(told.mixed.get(at + 1)));
+        }
+        boolean isCommitted = outcome == Outcome.COMMITTED;
+        long rolledBack = codes.stream().filter(code -> code == Code.HEURRB).count();
+        throw new Fault.Heuristic(this + (isCommitted ? " is committed" : " is rolled back") + ", but not everywhere: " + how + ". See xatm log",
+            isCommitted && rolledBack == hands.rows(), !isCommitted || codes.contains(Code.HEURHAZ));
+    }
+
+    private void seeCommitted(Told told, Hands hands) throws Fault {
+        if (outcome == Outcome.UNKNOWN) {
+            throw new Fault.OutcomeUnknown(this + ": " + hands.at(told.owed.get(0)).rm + " was asked to commit, and how it ended isn't known", null);
+        }
+        if (outcome == Outcome.ROLLED_BACK) {
+            Fault why = told.rms.size() == 2 ? hands.at(told.rms.get(1)).fault() : null;
+            String text = why != null ? why.getMessage() : told.rms.size() == 2 ? "a branch voted " + Code.name(told.rms.get(0)) : "it can't be committed";
+            throw new Fault.RolledBack(this + " is rolled back: " + text, why);
+        }
+    }
+
+    /** The coordinator ended meanwhile: how the transaction ends. The next session ends the branches, too. */
+    private void seeFate(Hands hands, Fault.Gone gone) throws Fault {
+        if (hands.sure() == null) {
+            branches.abandon("the coordinator ended");
+            isGivenUp = true;
+        }
+        Outcome fate = hands.sure() != null ? hands.sure() : manager.fateOf(branches.gtrid());
+        outcome = fate;
+        if (fate == Outcome.UNKNOWN) {
+            throw new Fault.OutcomeUnknown(this + ": " + gone.getMessage() + ". The next session ends it everywhere alike", gone);
+        }
+        if (fate == Outcome.ROLLED_BACK) {
+            throw new Fault.RolledBack(this + " is rolled back: " + gone.getMessage(), gone);
         }
     }
 
@@ -366,13 +412,6 @@ public final class GlobalTransaction {
         }
     }
 
-    /** The coordinator ended in the decision: what is prepared stays so, and the next session ends it. */
-    void leaveToNextSession() {
-        branches.abandon("the coordinator ended", false);
-        isGivenUp = true;
-        outcome = Outcome.UNKNOWN;
-    }
-
     /** Rolls it back. */
     public void rollback() throws Fault {
         lock.lock();
@@ -380,23 +419,28 @@ public final class GlobalTransaction {
             requireNotEnded();
             if (outcome != Outcome.ROLLED_BACK) {
                 requireOpen();
-                rollBack();
+                rollBack(false);
             }
         } finally {
             end();
         }
     }
 
-    void rollBack() throws Fault {
-        rollBack(false);
-    }
-
     private void rollBack(boolean isApart) throws Fault {
         outcome = Outcome.ROLLING_BACK;
         try {
             if (branches.gtrid() != null && !branches.isSessionOver()) {
-                new Rollback(this, branches, manager).make(isApart);
+                if (isApart) {
+                    branches.all().forEach(Branch::makeHaste);
+                }
+                Hands hands = branches.hands();
+                Told told = hands.rollBack(isApart);
+                outcome = Outcome.ROLLED_BACK;
+                seePlain(told, hands);
             }
+        } catch (Fault.Gone gone) {
+            // It isn't decided, so it is rolled back.
+            Manager.LOG.log(Level.DEBUG, () -> this + ": " + gone.getMessage());
         } catch (RuntimeException | Error error) {
             giveUp(error);
             throw error;
@@ -417,7 +461,7 @@ public final class GlobalTransaction {
         try {
             isMine = lock.tryLock(5, TimeUnit.SECONDS);
             if (isMine) {
-                branches.abandon(why, true);
+                branches.abandon(why);
             }
         } catch (InterruptedException error) {
             Thread.currentThread().interrupt();

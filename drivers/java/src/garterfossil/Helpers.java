@@ -114,8 +114,14 @@ final class Helpers {
     /**
      * Makes a step for each branch, and returns once all are made. Where the processors are busy, this thread makes them all: a helper
      * would only cost one the time to change threads. A branch on a connection of the program's own stays in this thread, too.
+     *
+     * <p>With {@code isApart} each has a thread of its own in any case, since a resource may be silent, and keeps no other waiting.
      */
-    void each(List<Branch> branches, boolean isBusy, Step step) {
+    void each(List<Branch> branches, boolean isApart, boolean isBusy, Step step) {
+        if (isApart) {
+            apart(branches, step);
+            return;
+        }
         try {
             if (asking.incrementAndGet() <= most && !isBusy) {
                 together(branches, step);
@@ -127,17 +133,40 @@ final class Helpers {
         }
     }
 
-    private void together(List<Branch> branches, Step step) {
+    private static void apart(List<Branch> branches, Step step) {
+        List<Part> parts = partsOf(branches, step);
+        for (Part part : parts) {
+            try {
+                Apart.run(part::makeUnlessBegun);
+            } catch (Error error) {
+                // There is no thread to be had.
+                part.makeUnlessBegun();
+            }
+        }
+        seeMade(parts);
+    }
+
+    private static List<Part> partsOf(List<Branch> branches, Step step) {
         List<Part> parts = new ArrayList<>(branches.size());
         for (Branch branch : branches) {
             parts.add(new Part(step, branch));
         }
+        return parts;
+    }
+
+    private void together(List<Branch> branches, Step step) {
+        List<Part> parts = partsOf(branches, step);
         for (int at = 1; at < parts.size(); at++) {
             if (branches.get(at).link() != null) {
                 give(parts.get(at));
             }
         }
         parts.forEach(Part::makeUnlessBegun);
+        seeMade(parts);
+    }
+
+    /** Waits until all are made. */
+    private static void seeMade(List<Part> parts) {
         Throwable thrown = null;
         for (Part part : parts) {
             part.await();

@@ -140,7 +140,7 @@ public final class Manager implements AutoCloseable {
         }
     }
 
-    final Decisions decisions = new Decisions();
+    final Fates fates = new Fates();
     final Counts counts = new Counts();
     private final ManagerBean bean = new ManagerBean(this);
     final Helpers helpers;
@@ -227,7 +227,7 @@ public final class Manager implements AutoCloseable {
         Session next = new Session(coordinator, names.manager, List.copyOf(rms), made.threads, identities, counts);
         try {
             identities.begin(next.incarnation);
-            decisions.find(next.incarnation, next.owed());
+            fates.find(coordinator);
             Duration longest = session == null || made.patience.compareTo(AGAIN) < 0 ? made.patience : AGAIN;
             session = next;
             next.recover(longest);
@@ -247,7 +247,7 @@ public final class Manager implements AutoCloseable {
         if (session != null) {
             LogNames.seeThere(made.log);
         }
-        List<String> words = new ArrayList<>(List.of(made.program, "serve"));
+        List<String> words = new ArrayList<>(List.of(made.program, "serve", "--moves"));
         words.addAll(names.options());
         words.addAll(List.of("--log", made.log.toString(), Integer.toString(made.threads + 1), Integer.toString(names.resources.size())));
         return untilFree(() -> new Coordinator(made.starter, words));
@@ -329,14 +329,14 @@ public final class Manager implements AutoCloseable {
         }
     }
 
-    /** Whether a transaction of an earlier session was decided to commit; null if nobody can say so now. */
-    Boolean outcomeOf(String gtrid) {
+    /** What became of a transaction of the session before; unknown if nobody can say so now. */
+    Outcome fateOf(String gtrid) {
         try {
             session();
         } catch (Fault error) {
             LOG.log(Level.WARNING, () -> "no coordinator: " + error.getMessage());
         }
-        return decisions.await(gtrid, made.patience);
+        return fates.await(gtrid, made.patience);
     }
 
     /** Has work done later, by a thread of its own, since it may wait for a resource. Once the manager is closed it is done at once. */

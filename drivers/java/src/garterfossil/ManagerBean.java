@@ -90,18 +90,18 @@ final class ManagerBean implements ManagerMXBean {
         Session up = manager.up();
         Map<String, Map<String, Integer>> found = new LinkedHashMap<>();
         if (up != null) {
-            up.keepers().forEach(keeper -> found.put(keeper.rm.toString(), of(keeper)));
+            up.recoveries().forEach(recovery -> found.put(recovery.rm.toString(), of(recovery)));
         }
         return found;
     }
 
-    private static Map<String, Integer> of(Keeper keeper) {
+    private static Map<String, Integer> of(Recovery recovery) {
         Map<String, Integer> found = new LinkedHashMap<>();
-        found.put("used", keeper.rm.used());
-        found.put("idle", keeper.rm.idle());
-        found.put("most", keeper.rm.resource.maxConnections());
-        found.put("owed", keeper.debts());
-        found.put("recovered", keeper.isRecovered() ? 1 : 0);
+        found.put("used", recovery.rm.used());
+        found.put("idle", recovery.rm.idle());
+        found.put("most", recovery.rm.resource.maxConnections());
+        found.put("owed", recovery.owed());
+        found.put("recovered", recovery.isRecovered() ? 1 : 0);
         return found;
     }
 

@@ -133,7 +133,7 @@ public class BrokerTest {
         begin();
         session();
         transaction.commit();
-        // Once to see that it is gone, and once to have it; and so the keeper, which ends the branch that was lost.
+        // Once to see that it is gone, and once to have it; and so the recovery, which ends the branch that was lost.
         assertTrue("made " + made, made.size() <= 5);
     }
 

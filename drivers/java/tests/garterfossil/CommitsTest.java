@@ -7,49 +7,28 @@ import static org.junit.Assert.assertTrue;
 
 import java.nio.file.Files;
 import java.nio.file.Path;
-import java.util.ArrayDeque;
 import java.util.ArrayList;
-import java.util.Deque;
 import java.util.List;
 import java.util.Map;
 import java.util.concurrent.CountDownLatch;
-import java.util.concurrent.TimeUnit;
 import org.junit.After;
 import org.junit.Before;
 import org.junit.Rule;
 import org.junit.Test;
 import org.junit.rules.TemporaryFolder;
 
-/** Threads that ask for decisions, while the one that acts for all of them fails: each wakes, and none is told that it is decided unless it is. */
+/** Threads whose moves are gathered, while the one that acts for all of them fails: each wakes, and none is told another's reply. */
 public class CommitsTest {
-    /** There is no memory for a request that begins so, once something was done. */
-    private static final class CoordinatorWithoutMemory extends Coordinator {
-        volatile String request;
-        volatile Runnable before = () -> { };
+    private static final OutOfMemoryError NO_MEMORY = new OutOfMemoryError("a test's");
 
-        CoordinatorWithoutMemory(Starter starter) throws Fault.Gone {
-            super(starter, List.of("xatm", "serve", "--log", "log", "5", "2"));
-        }
-
-        @Override
-        Reply post(String requests) {
-            if (request != null && requests.startsWith(request)) {
-                before.run();
-                throw new OutOfMemoryError("a test's");
-            }
-            return super.post(requests);
-        }
-    }
-
-    /** A thread that asks for a decision. */
+    /** A thread that waits for the reply to a gathered move. */
     private final class Asking extends Thread {
-        final String gtrid;
-        private final Runnable behind;
+        final String move;
+        private volatile String reply;
         private volatile Throwable thrown;
 
-        Asking(String gtrid, Runnable behind) {
-            this.gtrid = gtrid;
-            this.behind = behind;
+        Asking(String move) {
+            this.move = move;
             setDaemon(true);
             start();
         }
@@ -57,22 +36,13 @@ public class CommitsTest {
         @Override
         public void run() {
             try {
-                commits.decide(gtrid, new Commits.Behind() {
-                    @Override
-                    public void post() {
-                        behind.run();
-                    }
-
-                    @Override
-                    public void takeBack() {
-                    }
-                });
+                reply = coordinator.await(coordinator.gather(move));
             } catch (Throwable error) {
                 thrown = error;
             }
         }
 
-        /** What it ends in; null where it is told that its transaction is decided. */
+        /** What it ends in; null where it has its reply. */
         Throwable end() throws InterruptedException {
             join(5000);
             assertFalse("it waits for ever", isAlive());
@@ -82,152 +52,157 @@ public class CommitsTest {
 
     @Rule
     public final TemporaryFolder temporary = new TemporaryFolder();
-    private final Deque<String> gtrids = new ArrayDeque<>();
     private final List<Asking> others = new ArrayList<>();
-    private final CountDownLatch othersAsked = new CountDownLatch(1);
+    private final CountDownLatch mayReply = new CountDownLatch(1);
     private Path folder;
     private StandInCoordinator process;
-    private CoordinatorWithoutMemory coordinator;
-    private Commits commits;
+    private Coordinator coordinator;
 
     @Before
     public void start() throws Exception {
         folder = temporary.getRoot().toPath();
-        coordinator = new CoordinatorWithoutMemory(words -> process = (StandInCoordinator) StandInCoordinator.of(folder, words));
-        commits = new Commits(coordinator);
-        // A request that is waited for would write what another thread has posted.
-        for (int count = 0; count < 6; count++) {
-            gtrids.add(coordinator.ask("begin 1").substring("begun ".length()));
-        }
+        coordinator = new Coordinator(words -> process = (StandInCoordinator) StandInCoordinator.of(folder, words),
+            List.of("xatm", "serve", "--moves", "--log", "log", "5", "2"));
+        process.before = () -> {
+            try {
+                mayReply.await();
+            } catch (InterruptedException error) {
+                // It is ended.
+                Thread.currentThread().interrupt();
+            }
+        };
     }
 
     @After
     public void stop() {
+        mayReply.countDown();
         coordinator.kill("the test is over");
     }
 
-    private void waitForOthers() {
-        try {
-            assertTrue(othersAsked.await(10, TimeUnit.SECONDS));
-        } catch (InterruptedException error) {
-            throw new AssertionError(error);
-        }
+    private static String fate(int number) {
+        return "fate " + String.format("%016x%016x", 5, number);
     }
 
-    /** A thread that decides, and waits in that until others have asked, too. */
+    /** A thread that reads for all, and others that ask meanwhile. */
     private Asking first() throws Exception {
-        Asking first = new Asking(gtrids.remove(), this::waitForOthers);
+        Asking first = new Asking(fate(0));
         World.eventually(() -> first.getState() == Thread.State.TIMED_WAITING);
-        return first;
-    }
-
-    private interface Failing {
-        void begin() throws Exception;
-    }
-
-    /** Others ask while that one decides; then something fails, and it goes on. */
-    private void othersAsk(Failing failing) throws Exception {
-        for (int count = 0; count < 3; count++) {
-            Asking other = new Asking(gtrids.remove(), () -> { });
+        for (int count = 1; count <= 3; count++) {
+            Asking other = new Asking(fate(count));
             others.add(other);
             World.eventually(() -> other.getState() == Thread.State.WAITING);
         }
-        failing.begin();
-        othersAsked.countDown();
+        return first;
     }
 
-    /** Nobody knows whether it is decided. */
-    private void isUnknown(Asking asking) throws Exception {
+    private void isLost(Asking asking) throws Exception {
         Throwable thrown = asking.end();
         assertTrue("it ended in " + thrown, thrown instanceof Fault.Gone);
-        assertTrue(thrown.getMessage(), thrown.getMessage().contains("an error of the driver: java.lang.OutOfMemoryError: a test's"));
+        assertTrue(thrown.getMessage(), thrown.getMessage().contains("an error of the driver: " + NO_MEMORY));
         assertTrue(coordinator.isGone());
     }
 
-    private void othersAreUnknown() throws Exception {
+    private void othersAreLost() throws Exception {
         for (Asking other : others) {
-            isUnknown(other);
+            isLost(other);
         }
     }
 
-    private long decided() throws Exception {
-        return Files.readAllLines(folder.resolve("requests")).stream().filter(it -> it.startsWith("decide")).count();
+    private List<String> lines() throws Exception {
+        return Files.readAllLines(folder.resolve("requests"));
     }
 
     @Test
-    public void noMemoryForTheFirstRequest() throws Exception {
-        coordinator.before = this::waitForOthers;
-        coordinator.request = "decide";
-        Asking first = new Asking(gtrids.remove(), () -> { });
-        World.eventually(() -> first.getState() == Thread.State.TIMED_WAITING);
-        othersAsk(() -> { });
-        othersAreUnknown();
-        isUnknown(first);
-        // So it is for whoever asks from now on, since it is the session that is over.
-        coordinator.request = null;
-        isUnknown(new Asking(gtrids.remove(), () -> { }));
-        assertEquals(0, decided());
-    }
-
-    @Test
-    public void noMemoryForTheRequestOfOthers() throws Exception {
+    public void movesOfOneLine() throws Exception {
         Asking first = first();
-        othersAsk(() -> coordinator.request = "decide");
-        othersAreUnknown();
+        mayReply.countDown();
         assertNull(first.end());
-        assertEquals(1, decided());
+        for (Asking other : others) {
+            assertNull(other.end());
+            assertEquals("unknown", other.reply);
+        }
+        assertEquals(List.of(fate(0), fate(1) + ";" + fate(2) + ";" + fate(3)), lines());
     }
 
     @Test
-    public void noMemoryBehindTheRequestOfOthers() throws Exception {
-        Asking first = first();
-        others.add(new Asking(gtrids.remove(), () -> {
-            throw new OutOfMemoryError("a test's");
-        }));
-        othersAsk(() -> { });
-        assertNull(first.end());
-        othersAreUnknown();
+    public void eachHasItsOwnReply() throws Exception {
+        Asking start = new Asking("start 1");
+        World.eventually(() -> start.getState() == Thread.State.TIMED_WAITING);
+        for (String move : List.of("start 2", "nonsense", fate(1), "start 2")) {
+            Asking other = new Asking(move);
+            others.add(other);
+            World.eventually(() -> other.getState() == Thread.State.WAITING);
+        }
+        mayReply.countDown();
+        assertNull(start.end());
+        List<String> replies = new ArrayList<>();
+        for (Asking other : others) {
+            assertNull(other.end());
+            replies.add(other.reply);
+        }
+        assertEquals(List.of("started next 00000000000000010000000000000002", "error not a move", "unknown", "error not now"), replies);
     }
 
     @Test
-    public void noMemoryWhereEachIsAskedForAlone() throws Exception {
+    public void anErrorInTheWriteOfOthers() throws Exception {
         Asking first = first();
-        othersAsk(() -> {
-            // None is decided with one that is refused. Then the second one alone can't be asked for.
-            Files.writeString(folder.resolve("refuse-at"), "decide " + others.get(0).gtrid + " " + others.get(1).gtrid);
-            coordinator.request = "decide " + others.get(1).gtrid + " commit";
-        });
-        assertNull(first.end());
-        assertNull(others.get(0).end());
-        isUnknown(others.get(1));
-        isUnknown(others.get(2));
-    }
-
-    @Test
-    public void anErrorInTheWriteOfADecision() throws Exception {
-        Asking first = first();
-        othersAsk(() -> process.writing = Map.entry("decide " + others.get(0).gtrid, new OutOfMemoryError("a test's")));
-        othersAreUnknown();
+        process.writing = Map.entry(fate(1), NO_MEMORY);
+        mayReply.countDown();
+        othersAreLost();
         assertNull(first.end());
     }
 
     @Test
     public void anErrorInTheReadOfAReply() throws Exception {
         Asking first = first();
-        othersAsk(() -> process.reading = Map.entry("decided", new OutOfMemoryError("a test's")));
-        isUnknown(first);
-        othersAreUnknown();
+        process.reading = Map.entry("unknown", NO_MEMORY);
+        mayReply.countDown();
+        isLost(first);
+        othersAreLost();
+    }
+
+    @Test
+    public void theSessionIsOverAtOneOfThem() throws Exception {
+        Asking first = first();
+        World.eventually(() -> {
+            try {
+                return lines().size() == 1;
+            } catch (Exception error) {
+                return false;
+            }
+        });
+        Files.writeString(folder.resolve("stop-at"), fate(2));
+        mayReply.countDown();
+        assertNull(first.end());
+        for (Asking other : others) {
+            assertTrue("it ended in " + other.end(), other.end() instanceof Fault.Gone);
+        }
     }
 
     @Test
     public void nobodyWaitsOnceTheSessionIsOver() throws Exception {
         Asking first = first();
-        othersAsk(() -> {
-            coordinator.failed(new OutOfMemoryError("a test's"));
-            commits.abandon();
-            // As if the one that acts for them never came back.
-            othersAreUnknown();
-        });
-        isUnknown(first);
+        coordinator.failed(NO_MEMORY);
+        othersAreLost();
+        isLost(first);
+        isLost(new Asking(fate(4)));
+    }
+
+    @Test
+    public void moreMovesThanMayBeWithoutAReply() throws Exception {
+        mayReply.countDown();
+        List<Coordinator.Reply> posted = new ArrayList<>();
+        for (int count = 0; count < 3000; count++) {
+            posted.add(coordinator.post(fate(count)));
+            if (count % 3 == 0) {
+                others.add(new Asking(fate(count)));
+            }
+        }
+        for (Coordinator.Reply reply : posted) {
+            assertEquals("unknown", coordinator.await(reply));
+        }
+        for (Asking other : others) {
+            assertNull(other.end());
+        }
     }
 }

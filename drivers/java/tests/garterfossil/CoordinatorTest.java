@@ -55,7 +55,7 @@ public class CoordinatorTest {
     @Before
     public void start() throws Exception {
         coordinator = new Coordinator(words -> process = (StandInCoordinator) StandInCoordinator.of(temporary.getRoot().toPath(), words),
-            List.of("xatm", "serve", "--log", "log", "5", "2"));
+            List.of("xatm", "serve", "--moves", "--log", "log", "5", "2"));
     }
 
     @After
@@ -74,10 +74,10 @@ public class CoordinatorTest {
                 Thread.currentThread().interrupt();
             }
         };
-        Coordinator.Reply first = coordinator.post("status"), second = coordinator.post("begin 1"), third = coordinator.post("begin 2");
+        Coordinator.Reply first = coordinator.post("start 3"), second = coordinator.post("start 1"), third = coordinator.post("start 2");
         Waiting reads = new Waiting(second, Thread.State.TIMED_WAITING);
         Waiting sleeps = new Waiting(first, Thread.State.WAITING), sleepsToo = new Waiting(third, Thread.State.WAITING);
-        process.reading = Map.entry("up", NO_MEMORY);
+        process.reading = Map.entry("started", NO_MEMORY);
         mayReply.countDown();
         sleeps.isLost();
         sleepsToo.isLost();
@@ -86,8 +86,8 @@ public class CoordinatorTest {
 
     @Test
     public void anErrorOfTheThreadThatWrites() throws Exception {
-        Coordinator.Reply first = coordinator.post("status"), second = coordinator.post("begin 1");
-        process.writing = Map.entry("begin", NO_MEMORY);
+        Coordinator.Reply first = coordinator.post("start 3"), second = coordinator.post("start 1");
+        process.writing = Map.entry("start", NO_MEMORY);
         Waiting writes = new Waiting(second, Thread.State.TERMINATED);
         new Waiting(first, Thread.State.TERMINATED).isLost();
         writes.isLost();

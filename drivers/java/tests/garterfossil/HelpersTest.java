@@ -26,11 +26,11 @@ public class HelpersTest {
         ResourceManager rm = new ResourceManager(0, new StandInResource("a"));
         List<Branch> branches = new ArrayList<>();
         for (int count = 0; count < 3; count++) {
-            branches.add(new Branch(BranchXid.of("", "0".repeat(32), 1, count), null, rm.borrow(Duration.ofSeconds(1)), null, () -> Duration.ZERO, new Counts()));
+            branches.add(new Branch(BranchXid.of("", "0".repeat(32), 1, count), rm, rm.borrow(Duration.ofSeconds(1)), null, () -> Duration.ZERO));
         }
         CountDownLatch othersMade = new CountDownLatch(2);
         Set<Branch> made = ConcurrentHashMap.newKeySet();
-        helpers.each(branches, false, branch -> {
+        helpers.each(branches, false, false, branch -> {
             // The one helper's call takes longer than those of the thread that asks.
             if (Thread.currentThread() == threads.get(0)) {
                 await(othersMade);

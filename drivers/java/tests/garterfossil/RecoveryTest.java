@@ -35,7 +35,7 @@ public class RecoveryTest {
     @Test
     public void theCoordinatorEndsBeforeTheDecision() throws Exception {
         GlobalTransaction transaction = world.overBoth();
-        world.dieAt("decide");
+        world.dieAt("tell");
         assertThrows(Fault.RolledBack.class, transaction::commit);
         nothingIsLeft();
         assertTrue(world.a.committed.isEmpty() && world.b.committed.isEmpty());
@@ -93,7 +93,7 @@ public class RecoveryTest {
     @Test
     public void theCoordinatorEndsInTheWork() throws Exception {
         GlobalTransaction transaction = world.overBoth();
-        world.dieAt("begin");
+        world.dieAt("start");
         assertThrows(Fault.Gone.class, () -> {
             for (int count = 0; count < 4; count++) {
                 world.begin().enlist(world.a);
@@ -180,15 +180,16 @@ public class RecoveryTest {
         world.a.answer("prepare", StandInResource.LOST_AFTER);
         assertThrows(Fault.RolledBack.class, transaction::commit);
         nothingIsLeft();
-        // It comes back after a crash, as MariaDB's do.
+        // It comes back after a crash, as MariaDB's do. The next session ends it.
         world.a.branches.put(old, StandInResource.State.PREPARED);
-        world.manager.session().keeper(world.manager.resourceManager(world.a)).scanLater();
+        world.loseOneAt(world.a);
         nothingIsLeft();
+        assertEquals(2, world.manager.session().incarnation);
         world.overBoth().commit();
         // Another is nothing that anybody rolled back: then nothing goes on.
         world.a.branches.put(world.own(2, 1), StandInResource.State.PREPARED);
-        world.manager.session().keeper(world.manager.resourceManager(world.a)).scanLater();
         Session session = world.manager.session();
+        world.loseOneAt(world.a);
         World.eventually(() -> session.fatal() != null);
         assertThrows(Fault.Unavailable.class, () -> world.begin().enlist(world.a));
         assertEquals(1, world.a.branches.size());
@@ -197,7 +198,7 @@ public class RecoveryTest {
     @Test
     public void aLogThatIsMissingWhileItIsUsed() throws Exception {
         Files.delete(world.folder.resolve("log"));
-        world.dieAt("begin");
+        world.dieAt("start");
         assertThrows(Fault.class, () -> {
             for (int count = 0; count < 5; count++) {
                 world.begin().enlist(world.a);
@@ -359,9 +360,9 @@ public class RecoveryTest {
     }
 
     @Test
-    public void aCoordinatorThatTakesOneRequestALine() throws Exception {
+    public void aCoordinatorThatDoesNotConduct() throws Exception {
         world.manager.close();
-        Files.createFile(world.folder.resolve("one-a-line"));
+        Files.createFile(world.folder.resolve("older"));
         Fault.Unavailable error = assertThrows(Fault.Unavailable.class, () -> world.builder().start());
         assertTrue(error.getMessage(), error.getMessage().contains("older than this driver"));
     }
@@ -380,7 +381,7 @@ public class RecoveryTest {
     @Test
     public void anErrorOfTheDriverAsItAsksForADecision() throws Exception {
         GlobalTransaction transaction = world.overBoth();
-        standIn().writing = Map.entry("decide", new OutOfMemoryError("a test's"));
+        standIn().writing = Map.entry("tell", new OutOfMemoryError("a test's"));
         Fault.RolledBack error = assertThrows(Fault.RolledBack.class, transaction::commit);
         assertTrue(error.getMessage(), error.getMessage().contains("an error of the driver: java.lang.OutOfMemoryError"));
         nothingIsLeft();
@@ -391,7 +392,7 @@ public class RecoveryTest {
     @Test
     public void anErrorOfTheDriverAsItReadsThatItIsDecided() throws Exception {
         GlobalTransaction transaction = world.overBoth();
-        standIn().reading = Map.entry("decided", new OutOfMemoryError("a test's"));
+        standIn().reading = Map.entry("commit", new OutOfMemoryError("a test's"));
         transaction.commit();
         nothingIsLeft();
         assertEquals(1, world.a.committed.size());
@@ -403,7 +404,7 @@ public class RecoveryTest {
         world.manager.close();
         world.manager = world.builder().patience(Duration.ofSeconds(1)).start();
         GlobalTransaction open = world.overBoth();
-        world.put("silent", "decide");
+        world.put("silent", "rollback");
         FutureTask<Void> closing = new FutureTask<>(world.manager::close, null);
         new Thread(closing).start();
         closing.get(10, TimeUnit.SECONDS);
@@ -417,10 +418,10 @@ public class RecoveryTest {
     public void aCoordinatorThatIsSilent() throws Exception {
         world.manager.close();
         world.manager = world.builder().patience(Duration.ofSeconds(1)).start();
-        // Its row is to leave the log: the manager's clock asks for that, and gets no reply either.
+        // Its row is to leave the log: a recovery is begun for that, and gets no reply either.
         world.overBoth().commit();
         GlobalTransaction transaction = world.overBoth();
-        world.put("silent", "decide");
+        world.put("silent", "tell");
         FutureTask<Fault> committing = new FutureTask<>(() -> assertThrows(Fault.RolledBack.class, transaction::commit));
         Thread thread = new Thread(committing);
         thread.setDaemon(true);
@@ -530,8 +531,13 @@ public class RecoveryTest {
 
     @Test
     public void aRecoveryThatFailsByAnError() throws Exception {
-        world.a.before = World.failingOnce();
-        world.manager.session().keeper(world.manager.resourceManager(world.a)).scanLater();
+        Runnable failing = World.failingOnce();
+        world.a.before = () -> {
+            if (Thread.currentThread().getName().startsWith("garterfossil recovery")) {
+                failing.run();
+            }
+        };
+        world.loseOneAt(world.a);
         nothingIsLeft();
         world.overBoth().commit();
     }

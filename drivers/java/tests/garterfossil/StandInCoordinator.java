@@ -22,29 +22,28 @@ import java.util.Deque;
 import java.util.HashMap;
 import java.util.HashSet;
 import java.util.HexFormat;
+import java.util.LinkedHashMap;
 import java.util.List;
 import java.util.Map;
 import java.util.Set;
 import java.util.TreeMap;
+import java.util.TreeSet;
 import java.util.concurrent.CountDownLatch;
 import java.util.concurrent.TimeUnit;
 import java.util.concurrent.locks.LockSupport;
 import java.util.stream.Collectors;
 
 /**
- * A stand-in for {@code xatm serve}: it replies as docs/SERVE.md says, keeps its rows in files of a folder, and takes an answer only
- * where XA's branch state table (C193, chapter 6) has a state that explains it.
+ * A stand-in for {@code xatm serve --moves}: it replies as docs/MOVES.md says, and keeps its rows in files of a folder.
  *
- * <p>It writes each request that it reads to the file `requests` of its folder. Where the file `one-a-line` is there, it takes no line of
- * several. Where `slow` is there, a decision takes 20 ms. The file `refuse-at` has the beginning of a request that is refused once.
- * Where the file `die-at` has a word, it ends at the first request that begins with it, instead of a reply, and removes the file;
- * {@code decided} is a decision to commit that it makes and doesn't tell. It begins with the line of the protocol where the file
- * `protocol` has its words. The files `names` and `rows` have what {@code xatm log} prints of its log. From the first request that begins with the word of
- * the file `silent` on it says nothing, and the file is removed.
+ * <p>It writes each line that it reads to the file `requests` of its folder. Where `slow` is there, a decision takes 20 ms. The file
+ * `stop-at` has the beginning of a move at which its memory fails, once. Where the file `die-at` has a word, it ends at the first move that
+ * begins with it, instead of a reply, and removes the file; {@code decided} is a decision to commit that it makes and doesn't tell. It begins
+ * with the line of the protocol where the file `protocol` has its words. Where `older` is there it knows no moves. The files `names` and
+ * `rows` have what {@code xatm log} prints of its log. From the first move that begins with the word of the file `silent` on it says nothing,
+ * and the file is removed.
  */
 final class StandInCoordinator extends Process {
-    private static final int S0 = 1, S1 = 2, S2 = 4, S3 = 8, S4 = 16, S5 = 32;
-
     private final PipedOutputStream input = new PipedOutputStream();
     private final PipedInputStream output = new PipedInputStream(65536);
     private final PipedInputStream fromDriver;
@@ -53,25 +52,54 @@ final class StandInCoordinator extends Process {
     private final Thread thread;
     private final Path folder;
     private final long incarnation;
+    private final boolean isOlder;
     // Of the manager, in hexadecimal digits.
     private final String name;
     private final Map<String, List<String>> rows = new TreeMap<>();
     private final Map<String, List<String>> found;
-    private final Map<String, Deque<String>> waiting = new HashMap<>();
-    private final Map<String, Integer> states = new HashMap<>();
-    private final Map<String, Set<String>> branches = new HashMap<>();
-    private final Map<String, String> outcomes = new HashMap<>();
-    private final Map<String, List<String>> yes = new HashMap<>(), pages = new HashMap<>();
-    private final Map<String, Integer> asked = new HashMap<>();
-    private final Set<String> recorded = new HashSet<>();
+    private final Map<Integer, Transaction> transactions = new HashMap<>();
+    private final Map<Integer, Recovering> recoveries = new HashMap<>();
+    // The calls by which branches of this session are to be ended; and the branches of rows that are.
+    private final Map<String, String> debts = new LinkedHashMap<>();
+    private final Set<String> settled = new HashSet<>();
     private long sequence;
-    private boolean isSilent;
+    private boolean isSilent, isStopped;
     /** Before each reply. */
     volatile Runnable before = () -> { };
     /** What the driver's write, or read, of such a text ends in: once a half is written, or all is read. */
     volatile Map.Entry<String, Error> writing, reading;
     /** What its next try to end this ends in. */
     volatile Error ending;
+
+    /** The transaction of a thread. */
+    private static final class Transaction {
+        final String gtrid;
+        /** By resource manager: the call that waits there, or how far its branch has come. */
+        final Map<Integer, String> places = new TreeMap<>();
+        final Set<Integer> owed = new TreeSet<>();
+        final Map<Integer, String> mixed = new TreeMap<>();
+        /** The outcome, once it is decided. */
+        String outcome;
+        boolean hasRow;
+
+        Transaction(String gtrid) {
+            this.gtrid = gtrid;
+        }
+
+        List<Integer> asked() {
+            return places.keySet().stream().filter(rm -> CALLS.contains(places.get(rm))).collect(Collectors.toList());
+        }
+    }
+
+    /** The recovery of a resource manager. */
+    private static final class Recovering {
+        final Deque<String> calls = new ArrayDeque<>();
+        final Set<String> prepared = new HashSet<>();
+        boolean isPaging, isLast, isPaying;
+        int putOff;
+    }
+
+    private static final Set<String> CALLS = Set.of("prepare", "commit-at-once", "commit", "rollback", "undo", "refuse", "forget");
 
     /** The process of a command, as {@code xatm} has it. */
     static Process of(Path folder, List<String> words) throws IOException {
@@ -99,6 +127,7 @@ final class StandInCoordinator extends Process {
             }
         }
         found = new TreeMap<>(rows);
+        isOlder = Files.exists(folder.resolve("older")) && command.contains("--moves");
         save();
         thread = new Thread(this::serve, "a stand-in for the coordinator");
         thread.setDaemon(true);
@@ -149,278 +178,287 @@ final class StandInCoordinator extends Process {
         }
     }
 
-    /** The requests of a line are done in turn, up to the first that is refused. The reply is that to the last which was asked. */
+    /** The moves of a line. What leads to decisions is one write of the log. */
     private String replyToAll(String line) throws IOException {
-        if (Files.exists(folder.resolve("one-a-line")) && line.contains(";")) {
-            return "error not a request";
-        }
-        String reply = "";
-        for (String request : line.split(";")) {
-            reply = reply.replaceFirst("[^;].*", ";") + reply(request);
-            if (reply.matches(";*(refused|error) .*")) {
-                return reply;
+        Files.writeString(folder.resolve("requests"), line + "\n", StandardOpenOption.CREATE, StandardOpenOption.APPEND);
+        String[] moves = line.split(";");
+        for (String move : moves) {
+            before.run();
+            dieAt(move);
+            beSilentAt(move);
+            Path stopping = folder.resolve("stop-at");
+            if (Files.exists(stopping) && move.startsWith(Files.readString(stopping))) {
+                Files.delete(stopping);
+                isStopped = true;
             }
         }
-        return reply;
+        if (isStopped) {
+            return "stopped";
+        }
+        List<String> replies = new ArrayList<>();
+        int before = rows.size();
+        for (String move : moves) {
+            replies.add(reply(move.split(" ")));
+        }
+        if (rows.size() != before) {
+            save();
+        }
+        if (rows.size() > before) {
+            LockSupport.parkNanos(Files.exists(folder.resolve("slow")) ? 20_000_000 : 1);
+            dieAt("decided");
+        }
+        return String.join(";", replies);
     }
 
-    private String reply(String line) throws IOException {
-        Files.writeString(folder.resolve("requests"), line + "\n", StandardOpenOption.CREATE, StandardOpenOption.APPEND);
-        before.run();
-        dieAt(line);
-        beSilentAt(line);
-        Path refused = folder.resolve("refuse-at");
-        if (Files.exists(refused) && line.startsWith(Files.readString(refused))) {
-            Files.delete(refused);
-            return "refused 16 Memory";
-        }
-        String[] words = line.split(" ");
+    private String reply(String[] words) {
+        List<String> rest = Arrays.asList(words).subList(Math.min(2, words.length), words.length);
         switch (words[0]) {
-            case "begin": return begin();
-            case "status": return "status up 0";
-            case "issue": return issue(words);
-            case "answer": return answer(words);
-            case "decide": return decide(words);
-            case "done": return done(words);
-            case "resolve": return resolve(words[1]);
-            case "waiting": return waitingAt(words[1] + " " + words[2]).isEmpty() ? "nothing" : "waits " + waitingAt(words[1] + " " + words[2]).peek();
-            case "owed": return owed(words[1]);
-            case "crash": return crash(words[2] + " " + words[3]);
+            case "start": return start(Integer.parseInt(words[1]));
+            case "join": return join(transactions.get(Integer.parseInt(words[1])), rest);
+            case "commit": return commit(Integer.parseInt(words[1]));
+            case "rollback": return rollBack(Integer.parseInt(words[1]));
+            case "tell": return tell(Integer.parseInt(words[1]), rest);
+            case "recover": return recover(words[1]);
+            case "page": return page(words[1], rest);
+            case "end": return end(words[1], words[2]);
+            case "fate": return found.containsKey(words[1]) ? "committed"
+                : Long.parseLong(words[1].substring(0, 16), 16) + 1 == incarnation ? "rolled-back" : "unknown";
             case "quit": return "bye";
-            default: return "error not a request";
+            default: return "error not a move";
         }
     }
 
-    private String begin() {
+    // ** threads
+
+    private String next(int thread) {
         String gtrid = String.format("%016x%016x", incarnation, ++sequence);
-        branches.put(gtrid, new HashSet<>());
-        return "begun " + gtrid;
+        transactions.put(thread, new Transaction(gtrid));
+        return " next " + gtrid;
     }
 
-    private Deque<String> waitingAt(String line) {
-        return waiting.computeIfAbsent(line, it -> new ArrayDeque<>());
+    private String start(int thread) {
+        return transactions.containsKey(thread) ? "error not now" : "started" + next(thread);
     }
 
-    /** The whole identifier of a branch that a request names by its transaction. */
-    private static String whole(String branch, String thread, String rm) {
-        return branch.contains(":") ? branch : String.format("7:%s:%08x%08x", branch, Integer.parseInt(thread), Integer.parseInt(rm));
+    private String join(Transaction it, List<String> rms) {
+        if (it.outcome != null || !List.of("working", "prepare").containsAll(it.places.values())) {
+            return "error not now";
+        }
+        rms.forEach(rm -> it.places.put(Integer.parseInt(rm), "working"));
+        if (it.places.size() > 1) {
+            it.places.replaceAll((rm, place) -> "prepare");
+        }
+        return it.places.size() > 1 ? told(it) : "joined";
     }
+
+    private String commit(int thread) {
+        Transaction it = transactions.get(thread);
+        if (it.outcome != null || it.places.size() > 1 || !it.asked().isEmpty()) {
+            return "error not now";
+        }
+        it.places.replaceAll((rm, place) -> "commit-at-once");
+        it.outcome = it.places.isEmpty() ? "committed" : null;
+        return told(thread);
+    }
+
+    private String rollBack(int thread) {
+        Transaction it = transactions.get(thread);
+        if (it.outcome != null || !List.of("working", "prepare").containsAll(it.places.values())) {
+            return "error not now";
+        }
+        undo(it, "rolled-back");
+        return told(thread);
+    }
+
+    private void undo(Transaction it, String outcome) {
+        it.outcome = outcome;
+        it.places.replaceAll((rm, place) -> place.equals("prepared") ? "rollback" : place.equals("over") ? place : "undo");
+    }
+
+    private String told(Transaction it) {
+        List<Integer> asked = it.asked();
+        return it.places.get(asked.get(0)) + asked.stream().map(rm -> " " + rm).collect(Collectors.joining());
+    }
+
+    private String told(int thread) {
+        Transaction it = transactions.get(thread);
+        if (!it.asked().isEmpty()) {
+            return told(it);
+        }
+        String owed = it.owed.isEmpty() ? "" : " owed" + it.owed.stream().map(rm -> " " + rm).collect(Collectors.joining());
+        String usual = it.outcome.equals("committed") ? "7" : "6";
+        it.mixed.values().removeIf(usual::equals);
+        String mixed = it.mixed.isEmpty() ? "" : " mixed" + it.mixed.entrySet().stream().map(one -> " " + one.getKey() + " " + one.getValue()).collect(Collectors.joining());
+        if (it.hasRow) {
+            rows.get(it.gtrid).stream().filter(branch -> !debts.containsKey(branch)).forEach(settled::add);
+        }
+        return it.outcome + owed + mixed + next(thread);
+    }
+
+    private String tell(int thread, List<String> answers) {
+        Transaction it = transactions.get(thread);
+        List<Integer> asked = it == null ? List.of() : it.asked();
+        boolean areAnswers = asked.size() == answers.size() && !asked.isEmpty();
+        for (int at = 0; areAnswers && at < asked.size(); at++) {
+            areAnswers = isAnswer(it.places.get(asked.get(at)), answers.get(at));
+        }
+        if (!areAnswers) {
+            return "error not now";
+        }
+        boolean isOpen = it.outcome == null, isVote = it.places.containsValue("prepare");
+        for (int at = 0; at < asked.size(); at++) {
+            hear(it, thread, asked.get(at), answers.get(at));
+        }
+        if (isOpen && isVote) {
+            decide(it, thread, asked, answers);
+        }
+        return told(thread);
+    }
+
+    private static boolean isAnswer(String call, String answer) {
+        boolean isRollback = answer.matches("10[0-7]");
+        switch (call) {
+            case "prepare": return isRollback || answer.matches("0|3|lost");
+            case "commit-at-once": return isRollback || answer.matches("0|-3|lost");
+            case "commit": return isRollback || answer.matches("[04-8]|-[34]|lost");
+            case "rollback": return isRollback || answer.matches("[05-8]|-4|lost");
+            case "undo": return isRollback || answer.matches("[06]|-4|lost");
+            default: return answer.matches("0|-[34]|lost");
+        }
+    }
+
+    private void hear(Transaction it, int thread, int rm, String answer) {
+        String call = it.places.get(rm);
+        boolean isAlone = !call.equals("undo") && answer.matches(call.equals("commit") ? "[5-8]|-[34]|10." : "[5-8]|-4") && !call.equals("forget");
+        it.places.put(rm, call.equals("prepare") && answer.equals("0") ? "prepared" : isAlone && call.matches("commit|rollback") ? "forget" : "over");
+        if (it.places.get(rm).equals("forget")) {
+            it.mixed.put(rm, answer.equals("-4") ? "8" : answer.matches("-3|10.") ? "6" : answer);
+        }
+        if (answer.equals("lost") || answer.equals("4")) {
+            it.owed.add(rm);
+            debts.put(xid(it.gtrid, thread, rm), call.equals("commit") ? "xa_commit" : call.equals("forget") ? "xa_forget" : "xa_rollback");
+        }
+        if (call.equals("commit-at-once")) {
+            it.outcome = answer.equals("lost") ? "unknown" : answer.equals("0") ? "committed" : "rolled-back " + (answer.equals("-3") ? "104" : answer) + " " + rm;
+        }
+    }
+
+    private void decide(Transaction it, int thread, List<Integer> asked, List<String> answers) {
+        for (int at = 0; at < asked.size(); at++) {
+            if (!answers.get(at).matches("[03]")) {
+                undo(it, "rolled-back " + (answers.get(at).equals("lost") ? "101" : answers.get(at)) + " " + asked.get(at));
+                return;
+            }
+        }
+        it.outcome = "committed";
+        it.hasRow = it.places.containsValue("prepared");
+        it.places.replaceAll((rm, place) -> place.equals("prepared") ? "commit" : place);
+        if (it.hasRow) {
+            rows.put(it.gtrid, it.asked().stream().map(rm -> xid(it.gtrid, thread, rm)).collect(Collectors.toList()));
+        }
+    }
+
+    private static String xid(String gtrid, int thread, int rm) {
+        return String.format("7:%s:%08x%08x", gtrid, thread, rm);
+    }
+
+    // ** recoveries
 
     private static String gtridOf(String branch) {
         return branch.split(":")[1];
     }
 
-    private String issue(String[] words) {
-        List<String> call = new ArrayList<>(Arrays.asList(words).subList(3, words.length));
-        if (call.size() > 1 && !call.get(0).equals("xa_recover")) {
-            String branch = whole(call.get(1), words[1], words[2]);
-            call.set(1, branch);
-            String refusal = refusal(call, branch, gtridOf(branch));
-            if (refusal != null) {
-                return refusal;
+    private String recover(String rm) {
+        if (recoveries.containsKey(rm(rm))) {
+            return "error not now";
+        }
+        Recovering it = new Recovering();
+        it.isPaging = true;
+        recoveries.put(rm(rm), it);
+        return "recover 32 TMSTARTRSCAN";
+    }
+
+    private static int rm(String word) {
+        return Integer.parseInt(word);
+    }
+
+    private String page(String rm, List<String> xids) {
+        Recovering it = recoveries.get(rm(rm));
+        if (it == null || !it.isPaging) {
+            return "error not now";
+        }
+        it.isPaging = false;
+        it.isLast = xids.size() < 32;
+        for (String branch : xids) {
+            long begun = Long.parseLong(gtridOf(branch).substring(0, 16), 16), number = Long.parseLong(gtridOf(branch).substring(16), 16);
+            if (begun > incarnation || begun == incarnation && number > sequence) {
+                isStopped = true;
+                return "strange " + branch;
+            }
+            if (begun < incarnation) {
+                it.prepared.add(branch);
+                it.calls.add((rows.containsKey(gtridOf(branch)) ? "xa_commit " : "xa_rollback ") + branch);
             }
         }
-        waitingAt(words[1] + " " + words[2]).add(String.join(" ", call));
-        return "issued " + String.join(" ", call);
+        return goOn(rm);
     }
 
-    private String refusal(List<String> call, String branch, String gtrid) {
-        boolean isBegun = branches.containsKey(gtrid), isOnePhase = call.contains("TMONEPHASE");
-        if (!isBegun && !(call.get(0).equals("xa_commit") && rows.containsKey(gtrid))) {
-            return "refused 5 UnknownTransaction";
+    private String goOn(String rm) {
+        Recovering it = recoveries.get(rm(rm));
+        if (it.calls.isEmpty() && !it.isLast) {
+            it.isPaging = true;
+            return "recover 32";
         }
-        switch (call.get(0)) {
-            case "xa_start":
-                return branches.get(gtrid).add(branch) ? null : "refused 7 AlreadyStarted";
-            case "xa_commit":
-                if (isOnePhase) {
-                    outcomes.put(gtrid, "handed over");
-                }
-                return isOnePhase || rows.containsKey(gtrid) ? null : "refused 9 NotDecided";
-            case "xa_rollback":
-                return outcomes.containsKey(gtrid) && !outcomes.get(gtrid).equals("commit") ? null : "refused 9 NotDecided";
-            case "xa_forget":
-                return recorded.contains(branch) ? null : "refused 9 NotDecided";
-            default:
-                return null;
+        if (it.calls.isEmpty() && !it.isPaying) {
+            it.isPaying = true;
+            String end = String.format("%08x", rm(rm));
+            debts.forEach((branch, call) -> it.calls.add(branch.endsWith(end) ? call + " " + branch : ""));
+            found.values().forEach(row -> row.forEach(branch -> it.calls.add(branch.endsWith(end) && !settled.contains(branch) ? "xa_commit " + branch : "")));
+            it.calls.removeIf(String::isEmpty);
         }
+        if (!it.calls.isEmpty()) {
+            return it.calls.peek();
+        }
+        recoveries.remove(rm(rm));
+        rows.values().removeIf(settled::containsAll);
+        return "recovered" + (it.putOff > 0 ? " owed " + it.putOff : "");
     }
 
-    private String answer(String[] words) {
-        Deque<String> calls = waitingAt(words[1] + " " + words[2]);
-        if (calls.isEmpty()) {
-            return "error nothing waits";
+    private String end(String rm, String answer) {
+        Recovering it = recoveries.get(rm(rm));
+        if (it == null) {
+            return "error not now";
         }
-        String[] call = calls.peek().split(" ");
-        if (!call[0].equals(words[3])) {
-            return "error another call waits first";
+        if (answer.equals("lost")) {
+            recoveries.remove(rm(rm));
+            return "later";
         }
-        if (call[0].equals("xa_open")) {
-            calls.remove();
-            return "heard xa_open 0";
+        String[] call = it.calls.isEmpty() ? new String[] {"none"} : it.calls.peek().split(" ");
+        if (!isAnswer(call[0].replace("xa_", ""), answer)) {
+            return "error not now";
         }
-        return call[0].equals("xa_recover") ? page(calls, words) : heard(calls, call, Integer.parseInt(words[5]));
+        it.calls.remove();
+        boolean isPrepared = it.prepared.contains(call[1]);
+        if (answer.equals("4")) {
+            it.putOff++;
+            it.prepared.add(call[1]);
+        } else if (!call[0].equals("xa_forget") && (answer.matches("[5-8]") || answer.equals("-4") && isPrepared
+            || call[0].equals("xa_commit") && answer.matches("-3|10."))) {
+            it.calls.addFirst("xa_forget " + call[1]);
+        } else {
+            debts.remove(call[1]);
+            settled.add(call[1]);
+            it.prepared.remove(call[1]);
+        }
+        return goOn(rm);
     }
 
-    private String page(Deque<String> calls, String[] words) {
-        List<String> page = Arrays.asList(words).subList(5, words.length);
-        for (String branch : page) {
-            int states = state(branch) & (S3 | S5);
-            if (states == 0) {
-                return "error the branch is in no such state";
-            }
-            this.states.put(branch, states);
-        }
-        calls.remove();
-        pages.put(words[2], page);
-        return "heard xa_recover " + words[4];
-    }
-
-    private int state(String branch) {
-        long begun = Long.parseLong(gtridOf(branch).substring(0, 16), 16);
-        return states.getOrDefault(branch, begun < incarnation ? S0 | S3 | S5 : S0);
-    }
-
-    private String heard(Deque<String> calls, String[] call, int code) {
-        String branch = call[1];
-        int after = after(call, code, state(branch));
-        if (after == 0) {
-            return "error the branch is in no such state";
-        }
-        states.put(branch, after);
-        calls.remove();
-        if (call[0].equals("xa_prepare") && code == 0) {
-            yes.computeIfAbsent(gtridOf(branch), it -> new ArrayList<>()).add(branch);
-        }
-        if (call[0].equals("xa_prepare") && code != 4) {
-            asked.merge(gtridOf(branch), code == 0 || code == 3 ? 1 : 1000, Integer::sum);
-        }
-        if (code >= 5 && code <= 8) {
-            recorded.add(branch);
-        }
-        return "heard " + call[0] + " " + code;
-    }
-
-    /** The states of the table behind a call that was answered so. */
-    private static int after(String[] call, int code, int before) {
-        int states = (before & S3) != 0 ? before | S5 : before;
-        boolean isRollback = code >= 100 && code <= 107, isHeuristic = code >= 5 && code <= 8;
-        if (code == -4) {
-            return call[0].equals("xa_start") ? 0 : states & S0;
-        }
-        switch (call[0]) {
-            case "xa_start": return code == 0 ? to(states, S0, S1) : 0;
-            case "xa_end":
-                return call[2].equals("TMFAIL") ? code == 100 ? to(states, S1, S4) : 0 : code == 0 ? to(states, S1, S2) : 0;
-            case "xa_prepare": return code == 0 ? to(states, S2, S3) : code == 3 || isRollback ? to(states, S2, S0) : 0;
-            case "xa_commit":
-                if (call.length > 2) {
-                    return code == 0 || isRollback ? to(states, S2, S0) : isHeuristic ? states & S5 : 0;
-                }
-                return code == 0 ? to(states, S3, S0) : code == 4 ? states & S3 : isHeuristic ? states & S5 : 0;
-            case "xa_rollback":
-                return code == 0 ? to(states, S2 | S3, S0) : code == 100 ? to(states, S4, S0) : isHeuristic ? states & S5 : 0;
-            default: return code == 0 ? to(states, S5, S0) : 0;
-        }
-    }
-
-    private static int to(int states, int from, int into) {
-        return (states & from) != 0 ? into : 0;
-    }
-
-    private String decide(String[] words) throws IOException {
-        if (Files.exists(folder.resolve("slow"))) {
-            LockSupport.parkNanos(20_000_000);
-        }
-        List<String> gtrids = Arrays.asList(words).subList(1, words.length - 1);
-        boolean isCommit = words[words.length - 1].equals("commit");
-        for (String gtrid : gtrids) {
-            if (!branches.containsKey(gtrid)) {
-                return "refused 5 UnknownTransaction";
-            }
-            if (outcomes.containsKey(gtrid)) {
-                return "refused 8 Decided";
-            }
-            if (isCommit && asked.getOrDefault(gtrid, 0) != branches.get(gtrid).size()) {
-                return "refused 10 Votes";
-            }
-        }
-        for (String gtrid : gtrids) {
-            outcomes.put(gtrid, isCommit ? "commit" : "rollback");
-            if (isCommit && yes.containsKey(gtrid)) {
-                rows.put(gtrid, new ArrayList<>(yes.get(gtrid)));
-            }
-        }
-        save();
-        if (isCommit) {
-            dieAt("decided");
-        }
-        return "decided";
-    }
-
-    private String done(String[] words) throws IOException {
-        for (String gtrid : Arrays.asList(words).subList(1, words.length)) {
-            if (!rows.containsKey(gtrid)) {
-                return "refused 5 UnknownTransaction";
-            }
-            for (String branch : rows.get(gtrid)) {
-                if (state(branch) != S0 && !recorded.contains(branch)) {
-                    return "refused 11 Busy";
-                }
-            }
-        }
-        Arrays.asList(words).subList(1, words.length).forEach(rows::remove);
-        save();
-        return "noted";
-    }
-
-    private String resolve(String rm) {
-        List<String> calls = new ArrayList<>();
-        for (String branch : pages.getOrDefault(rm, List.of())) {
-            String gtrid = gtridOf(branch);
-            boolean isLive = branches.containsKey(gtrid) && !outcomes.containsKey(gtrid);
-            if (!isLive) {
-                calls.add((recorded.contains(branch) ? "xa_forget " : rows.containsKey(gtrid) ? "xa_commit " : "xa_rollback ") + branch);
-            }
-        }
-        waitingAt("0 " + rm).addAll(calls);
-        return "resolved " + calls.size();
-    }
-
-    private String owed(String rm) {
-        List<String> xids = new ArrayList<>();
-        found.values().forEach(row -> row.stream().filter(branch -> Integer.parseInt(branch.substring(branch.length() - 8), 16) == Integer.parseInt(rm))
-            .forEach(xids::add));
-        return ("owed " + xids.size() + " " + String.join(" ", xids)).trim();
-    }
-
-    private String crash(String line) {
-        Deque<String> calls = waitingAt(line);
-        if (!calls.isEmpty() && calls.peek().contains(" ")) {
-            String[] call = calls.peek().split(" ");
-            if (!call[0].equals("xa_recover")) {
-                states.put(call[1], maybeDone(call, state(call[1])));
-            }
-        }
-        calls.clear();
-        String[] words = line.split(" ");
-        String own = String.format("%08x%08x", Integer.parseInt(words[0]), Integer.parseInt(words[1]));
-        states.replaceAll((branch, states) -> !branch.endsWith(own) || (states & (S1 | S2 | S4)) == 0 ? states : states & ~(S1 | S2 | S4) | S0);
-        return "crashed";
-    }
-
-    private static int maybeDone(String[] call, int states) {
-        switch (call[0]) {
-            case "xa_start": return (states & S0) != 0 ? states | S1 : states;
-            case "xa_prepare": return (states & S2) != 0 ? states | S0 | S3 : states;
-            case "xa_end": return (states & S1) != 0 ? states | S2 : states;
-            default: return states | S0;
-        }
-    }
-
-    /** Replies to requests until it is told to end. */
+    /** Replies to moves until it is told to end. */
     private void serve() {
         try (OutputStream replies = toDriver) {
+            if (isOlder) {
+                return;
+            }
             if (Files.exists(folder.resolve("protocol"))) {
                 write(replies, "protocol " + Files.readString(folder.resolve("protocol")).trim());
             }
@@ -430,7 +468,7 @@ final class StandInCoordinator extends Process {
                 // The name stands in front of the transaction in each identifier that leaves.
                 String reply = replyToAll(line.replaceAll("(^| )7:" + name, "$17:"));
                 write(replies, reply.replaceAll("(^| )7:", "$17:" + name));
-                if (line.equals("quit")) {
+                if (line.equals("quit") || isStopped) {
                     return;
                 }
             }
@@ -531,7 +569,7 @@ final class StandInCoordinator extends Process {
 
     @Override
     public InputStream getErrorStream() {
-        return InputStream.nullInputStream();
+        return isOlder ? new java.io.ByteArrayInputStream("xatm: not an option: --moves".getBytes(StandardCharsets.US_ASCII)) : InputStream.nullInputStream();
     }
 
     @Override

@@ -50,7 +50,7 @@ public class TransactionsTest {
     @Test
     public void commitsWithoutBranchesOrCoordinator() throws Exception {
         world.begin().commit();
-        assertFalse(world.folder.resolve("requests").toFile().exists() && world.requests().stream().anyMatch(it -> it.startsWith("begin")));
+        assertFalse(world.folder.resolve("requests").toFile().exists() && world.requests().stream().anyMatch(it -> it.startsWith("start")));
     }
 
     @Test
@@ -69,7 +69,7 @@ public class TransactionsTest {
         world.a.answer("end", XAException.XA_RBTIMEOUT);
         assertThrows(Fault.RolledBack.class, transaction::commit);
         assertEquals(1, world.b.rolledBack.size());
-        assertTrue(world.requests().stream().anyMatch(it -> it.contains("xa_prepare") && it.endsWith(" 106")));
+        assertTrue(world.requests().contains("tell 1 106 0"));
     }
 
     @Test
@@ -121,14 +121,14 @@ public class TransactionsTest {
     }
 
     @Test
-    public void anOkToTmfailIsReportedAsRollbackOnly() throws Exception {
+    public void workThatFailedIsEndedByTmfail() throws Exception {
         GlobalTransaction transaction = world.begin();
         XAResource brought = world.a.connect().xaResource();
         transaction.enlist(world.a, brought);
         assertTrue(transaction.delist(brought, true));
         transaction.rollback();
         assertEquals(List.of("start", "end TMFAIL", "rollback"), callsOf(world.a));
-        assertTrue(world.requests().stream().anyMatch(it -> it.contains("answer") && it.contains("xa_end") && it.endsWith(" 100")));
+        assertTrue(world.a.branches.isEmpty() && world.requests().contains("rollback 1"));
     }
 
     @Test
@@ -167,7 +167,8 @@ public class TransactionsTest {
         GlobalTransaction transaction = world.overBoth();
         world.a.answer("commit", XAException.XA_RETRY);
         transaction.commit();
-        assertEquals(1, world.a.committed.size());
+        // By a thread of the manager's: the program has its answer.
+        World.eventually(() -> world.a.committed.size() == 1 && world.manager.owing() == 0);
     }
 
     @Test
@@ -207,16 +208,30 @@ public class TransactionsTest {
     }
 
     @Test
-    public void noVoteOrEndBeforeItIsIssued() throws Exception {
-        // Behind xa_end comes xa_prepare, and behind that xa_commit: the coordinator has read by then that it is to be issued.
+    public void noCallBeforeItIsTold() throws Exception {
+        // The coordinator has read by then that the branches began, and how they voted.
         world.a.before = () -> {
             String last = world.a.calls.isEmpty() ? "" : world.a.calls.get(world.a.calls.size() - 1);
-            if (last.equals("end") || last.equals("prepare")) {
-                assertTrue(isRead("issue 1 0 " + (last.equals("end") ? "xa_prepare" : "xa_commit")));
+            if (last.equals("start") || last.equals("prepare")) {
+                assertTrue(isRead(last.equals("start") ? "join 1 0 1" : "tell 1 0 0"));
             }
         };
         world.overBoth().commit();
         assertEquals(1, world.a.committed.size());
+    }
+
+    @Test
+    public void aTransferIsThreeLines() throws Exception {
+        world.overBoth().commit();
+        GlobalTransaction next = world.begin();
+        for (int count = 0; count < 4; count++) {
+            // The threads go round: the last line of the first is written with what others ask.
+            next.enlist(world.a);
+            next.commit();
+            next = world.begin();
+        }
+        List<String> moves = world.requests().stream().filter(it -> it.matches("\\w+ 1( .*)?")).collect(Collectors.toList());
+        assertEquals(List.of("start 1", "join 1 0 1", "tell 1 0 0", "tell 1 0 0"), moves.subList(moves.indexOf("start 1"), moves.indexOf("start 1") + 4));
     }
 
     private boolean isRead(String beginning) {
@@ -228,23 +243,26 @@ public class TransactionsTest {
     }
 
     @Test
-    public void aRequestThatIsRefusedAmongOthersOfItsLine() throws Exception {
-        // The coordinator has no memory for it. Nothing that stands behind it on its line is done.
-        for (String refused : List.of("issue 1 0 xa_start", "answer 1 0 xa_start", "issue 1 1 xa_prepare", "answer 1 0 xa_prepare",
-            "decide")) {
-            GlobalTransaction transaction = world.overBothRefusing(refused);
-            assertThrows(refused, Fault.RolledBack.class, transaction::commit);
-            World.eventually(() -> world.manager.owing() == 0);
-            assertTrue(refused, world.a.branches.isEmpty() && world.b.branches.isEmpty());
-            assertTrue(refused, world.a.committed.isEmpty() && world.b.committed.isEmpty());
+    public void aCoordinatorThatFailsAtAMove() throws Exception {
+        // It has no memory for it. The next session ends what is prepared.
+        for (String move : List.of("join 1", "tell 1 0 0", "tell 1 106 0", "rollback 1")) {
+            GlobalTransaction transaction = world.overBothStopping(move);
+            if (move.equals("tell 1 106 0")) {
+                world.a.answer("end", XAException.XA_RBTIMEOUT);
+            }
+            if (move.equals("rollback 1")) {
+                transaction.setRollbackOnly("a test");
+            }
+            assertThrows(move, Fault.RolledBack.class, transaction::commit);
+            World.eventually(() -> world.a.branches.isEmpty() && world.b.branches.isEmpty() && world.manager.owing() == 0);
+            assertTrue(move, world.a.committed.isEmpty() && world.b.committed.isEmpty());
         }
-        int committed = 0;
-        for (String refused : List.of("issue 1 0 xa_commit", "issue 1 1 xa_commit", "begin 1", "answer 1 0 xa_commit")) {
-            world.overBothRefusing(refused).commit();
-            committed++;
-            int count = committed;
-            World.eventually(() -> world.manager.owing() == 0 && world.a.committed.size() == count && world.b.committed.size() == count);
-        }
+        // What was told to commit is committed.
+        GlobalTransaction transaction = world.overBothStopping("tell 1 0 lost");
+        world.b.answer("commit", StandInResource.LOST_BEFORE);
+        transaction.commit();
+        World.eventually(() -> world.b.committed.size() == 1 && world.manager.owing() == 0);
+        assertEquals(1, world.a.committed.size());
     }
 
     @Test
@@ -274,8 +292,7 @@ public class TransactionsTest {
     public void aRollbackWhileTheVotesWait() throws Exception {
         world.overBoth().rollback();
         assertEquals(List.of("start", "end", "rollback"), callsOf(world.a));
-        // The calls of the first phase were issued ahead: the work's end is told by a no.
-        assertTrue(world.requests().contains("answer 1 0 xa_prepare 00000000000000010000000000000001 100"));
+        assertTrue(world.requests().containsAll(List.of("join 1 0 1", "rollback 1")));
         world.a.answer("end", StandInResource.LOST_AFTER);
         world.overBoth().rollback();
         World.eventually(() -> world.manager.owing() == 0);
@@ -296,33 +313,30 @@ public class TransactionsTest {
         world.put("slow", "");
         ExecutorService pool = Executors.newFixedThreadPool(4);
         try {
-            assertEquals(0, refusedOf(pool));
+            assertEquals(0, rolledBackBy(pool));
             assertEquals(40, world.a.committed.size());
-            assertTrue(world.requests().stream().anyMatch(it -> it.startsWith("decide ") && it.split(" ").length > 3));
-            // None of them is decided with one that is refused. Each is then asked for alone.
-            world.put("refuse-at", "decide ");
-            int refused = refusedOf(pool);
-            assertTrue("refused: " + refused, refused <= 1);
-            assertEquals(80 - refused, world.a.committed.size());
+            assertTrue(world.requests().stream().anyMatch(it -> it.contains(";tell ")));
+            // At one of these lines the coordinator fails: all on it are told alike, and so is it.
+            world.put("stop-at", "tell 2 0 0");
+            int rolledBack = rolledBackBy(pool);
+            assertTrue("rolled back: " + rolledBack, rolledBack <= 4);
+            World.eventually(() -> world.manager.owing() == 0 && world.a.branches.isEmpty() && world.b.branches.isEmpty());
+            assertEquals(80 - rolledBack, world.a.committed.size());
             assertEquals(new HashSet<>(transactions(world.a)), new HashSet<>(transactions(world.b)));
-            assertEquals(80 - refused, world.b.committed.size());
+            assertEquals(80 - rolledBack, world.b.committed.size());
         } finally {
             pool.shutdown();
         }
     }
 
-    /** 4 threads commit 10 transactions each: how many are refused. */
-    private int refusedOf(ExecutorService pool) throws Exception {
-        AtomicInteger refused = new AtomicInteger();
+    /** 4 threads commit 10 transactions each: how many are rolled back. */
+    private int rolledBackBy(ExecutorService pool) throws Exception {
+        AtomicInteger rolledBack = new AtomicInteger();
         List<Future<?>> threads = new ArrayList<>();
         for (int thread = 0; thread < 4; thread++) {
             threads.add(pool.submit(() -> {
                 for (int count = 0; count < 10; count++) {
-                    try {
-                        world.overBoth().commit();
-                    } catch (Fault.RolledBack error) {
-                        refused.incrementAndGet();
-                    }
+                    committed(rolledBack);
                 }
                 return null;
             }));
@@ -330,7 +344,22 @@ public class TransactionsTest {
         for (Future<?> thread : threads) {
             thread.get(60, TimeUnit.SECONDS);
         }
-        return refused.get();
+        return rolledBack.get();
+    }
+
+    /** Commits one transaction, if the coordinator doesn't end in its work. */
+    private void committed(AtomicInteger rolledBack) throws Fault {
+        GlobalTransaction transaction = world.begin();
+        try {
+            transaction.enlist(world.a);
+            transaction.enlist(world.b);
+            transaction.commit();
+        } catch (Fault.RolledBack error) {
+            rolledBack.incrementAndGet();
+        } catch (Fault.Gone | Fault.Unavailable error) {
+            transaction.rollback();
+            rolledBack.incrementAndGet();
+        }
     }
 
     private static List<String> transactions(StandInResource resource) {
@@ -423,8 +452,6 @@ public class TransactionsTest {
         world.a.beforeConnect = World.failingOnce();
         assertThrows(OutOfMemoryError.class, () -> transaction.enlist(world.a));
         transaction.rollback();
-        // Nobody uses the resource now, so it can be recovered.
-        world.manager.session().keeper(world.manager.resourceManager(world.a)).scanLater();
         World.eventually(() -> world.manager.owing() == 0);
         world.overBoth().commit();
     }

@@ -60,8 +60,8 @@ final class World extends ExternalResource {
         return transaction;
     }
 
-    /** The same on the coordinator's thread 1, whose next request that begins so is refused. */
-    GlobalTransaction overBothRefusing(String request) throws Exception {
+    /** The same on the coordinator's thread 1, which fails at its next move that begins so. */
+    GlobalTransaction overBothStopping(String move) throws Exception {
         // The threads go round.
         GlobalTransaction transaction = begin();
         transaction.enlist(a);
@@ -70,12 +70,19 @@ final class World extends ExternalResource {
             transaction = begin();
             transaction.enlist(a);
         }
-        put("refuse-at", request);
+        put("stop-at", move);
         transaction.enlist(b);
         return transaction;
     }
 
-    /** The coordinator ends at this request. */
+    /** A transaction whose connection to a resource is lost as it is prepared: so that resource is recovered. */
+    void loseOneAt(StandInResource resource) throws Exception {
+        GlobalTransaction transaction = overBoth();
+        resource.answer("prepare", StandInResource.LOST_BEFORE);
+        org.junit.Assert.assertThrows(Fault.RolledBack.class, transaction::commit);
+    }
+
+    /** The coordinator ends at this move. */
     void dieAt(String moment) throws IOException {
         put("die-at", moment);
     }

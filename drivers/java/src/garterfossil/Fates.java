@@ -1,0 +1,46 @@
+package garterfossil;
+
+import java.time.Duration;
+import java.util.Map;
+import java.util.concurrent.CompletableFuture;
+import java.util.concurrent.ConcurrentHashMap;
+import java.util.concurrent.ExecutionException;
+import java.util.concurrent.TimeUnit;
+import java.util.concurrent.TimeoutException;
+
+/** Transactions whose votes were told, and to which the coordinator didn't reply before it ended: the very next session knows what became of them. */
+final class Fates {
+    private final Map<String, CompletableFuture<Outcome>> expected = new ConcurrentHashMap<>();
+
+    /** Its votes are about to be told. */
+    void expect(String gtrid) {
+        expected.put(gtrid, new CompletableFuture<>());
+    }
+
+    /** The reply has come. */
+    void forget(String gtrid) {
+        expected.remove(gtrid);
+    }
+
+    /** The next session begins, and is asked. */
+    void find(Coordinator coordinator) throws Fault {
+        for (Map.Entry<String, CompletableFuture<Outcome>> it : expected.entrySet()) {
+            it.getValue().complete(Told.of(coordinator.ask("fate " + it.getKey())).outcome());
+        }
+    }
+
+    /** What became of it; unknown, if no session can tell in time. */
+    Outcome await(String gtrid, Duration patience) {
+        CompletableFuture<Outcome> found = expected.get(gtrid);
+        try {
+            return found == null ? Outcome.UNKNOWN : found.get(patience.toMillis(), TimeUnit.MILLISECONDS);
+        } catch (InterruptedException error) {
+            Thread.currentThread().interrupt();
+        } catch (ExecutionException | TimeoutException error) {
+            // It isn't known.
+        } finally {
+            expected.remove(gtrid);
+        }
+        return Outcome.UNKNOWN;
+    }
+}

@@ -1,0 +1,158 @@
+package garterfossil;
+
+import java.util.ArrayList;
+import java.util.List;
+import java.util.stream.Collectors;
+
+/**
+ * The calls of a transaction's end: what the coordinator tells is made, and told as it was answered, until it tells the outcome. Nothing is
+ * decided here (docs/MOVES.md).
+ */
+final class Hands {
+    private final GlobalTransaction transaction;
+    private final List<Branch> branches;
+    private final Session session;
+    private final Session.Slot slot;
+    private final Manager manager;
+    // What becomes of the transaction if the coordinator ends now; null if the next session knows.
+    private Outcome sure = Outcome.ROLLED_BACK;
+    // How many branches were to be committed, as the log has them.
+    private int rows;
+
+    Hands(GlobalTransaction transaction, List<Branch> begun, Session session, Session.Slot slot, Manager manager) {
+        this.transaction = transaction;
+        branches = begun;
+        this.session = session;
+        this.slot = slot;
+        this.manager = manager;
+    }
+
+    /** The work is over: how the transaction ended. */
+    Told commit() throws Fault.Gone {
+        try {
+            return conduct(branches.size() > 1 ? slot.joined() : slot.end("commit"), false);
+        } catch (Fault fault) {
+            throw gone(fault);
+        }
+    }
+
+    /** Rolls back. With {@code isApart} no branch waits for another: one's resource may be silent. */
+    Told rollBack(boolean isApart) throws Fault.Gone {
+        try {
+            return conduct(slot.end("rollback"), isApart);
+        } catch (Fault fault) {
+            throw gone(fault);
+        }
+    }
+
+    /** What becomes of the transaction now that the coordinator has ended; null if the next session knows. */
+    Outcome sure() {
+        return sure;
+    }
+
+    int rows() {
+        return rows;
+    }
+
+    /** The coordinator has ended; or it refused what can't be refused, and so is ended. */
+    private Fault.Gone gone(Fault fault) {
+        return fault instanceof Fault.Gone ? (Fault.Gone) fault : session.coordinator.failed(fault);
+    }
+
+    private Told conduct(Told first, boolean isApart) throws Fault {
+        Told told = first;
+        while (told.outcome() == null) {
+            List<Branch> called = called(told);
+            make(told, called, isApart);
+            String answers = called.stream().map(branch -> " " + branch.answer()).collect(Collectors.joining());
+            Outcome outcome = plainEnd(told, called);
+            if (outcome != null) {
+                slot.tellLast(answers, outcome);
+                return over(Told.of(outcome == Outcome.COMMITTED ? "committed" : "rolled-back"));
+            }
+            told = tell(answers, told.verb.equals("prepare"));
+        }
+        slot.over(told);
+        return over(told);
+    }
+
+    private Told over(Told told) {
+        for (int rm : told.owed) {
+            session.recovery(at(rm).rm).owe();
+        }
+        if (rows > 0) {
+            session.noteRow();
+        }
+        return told;
+    }
+
+    /** The branches of which calls are told. The first calls are told of all. */
+    private List<Branch> called(Told told) throws Fault {
+        List<Branch> found = new ArrayList<>();
+        for (int rm : told.rms) {
+            found.add(at(rm));
+        }
+        boolean isFirst = told.verb.equals("prepare") || told.verb.equals("commit-at-once");
+        if (found.isEmpty() || told.stage() == null && !told.verb.equals("forget") || isFirst && found.size() != branches.size()) {
+            throw new Fault.Refused("the coordinator told " + told.verb + " at " + told.rms);
+        }
+        return found;
+    }
+
+    /** The branch at a resource manager. */
+    Branch at(int number) {
+        return branches.stream().filter(branch -> branch.rm.number == number).findFirst().orElseThrow();
+    }
+
+    private void make(Told told, List<Branch> called, boolean isApart) {
+        if (told.stage() != null) {
+            transaction.become(told.stage());
+        }
+        if (told.verb.equals("commit")) {
+            sure = Outcome.COMMITTED;
+            rows = called.size();
+        } else if (told.verb.equals("forget")) {
+            called.forEach(it -> session.counts.heuristicEnd(it.xid, it.rm, rows > 0 ? "xa_commit" : "xa_rollback", it.code()));
+        }
+        // An xa_commit in one phase may have been made whatever comes.
+        sure = told.verb.equals("commit-at-once") ? Outcome.UNKNOWN : sure;
+        manager.helpers.each(called, isApart, session.isBusy(), branch -> branch.make(told.verb));
+        note(told.verb, called);
+    }
+
+    /** What the answers say, if the coordinator ends before its next reply (docs/MOVES.md, "If the coordinator ends"). */
+    private void note(String verb, List<Branch> called) {
+        boolean isYes = called.stream().allMatch(it -> !it.isLost() && (it.code() == Code.OK || it.code() == Code.RDONLY));
+        if (verb.equals("prepare")) {
+            sure = isYes ? null : Outcome.ROLLED_BACK;
+        } else if (verb.equals("commit-at-once") && !called.get(0).isLost()) {
+            sure = isYes ? Outcome.COMMITTED : Outcome.ROLLED_BACK;
+        } else if (verb.equals("rollback")) {
+            called.stream().filter(it -> !it.isLost()).forEach(it -> session.noteUndone(it.xid));
+        }
+    }
+
+    /** The outcome, if these answers leave no other: then nothing is waited for. */
+    private Outcome plainEnd(Told told, List<Branch> called) {
+        boolean isPlain = called.stream().allMatch(it -> !it.isLost() && it.code() == Code.OK);
+        boolean isEnd = told.verb.equals("commit") || told.verb.equals("commit-at-once") || told.verb.equals("undo");
+        return isPlain && isEnd ? sure : null;
+    }
+
+    private Told tell(String answers, boolean isVote) throws Fault {
+        if (sure != null) {
+            return slot.tell(answers, isVote);
+        }
+        manager.fates.expect(transaction.gtrid());
+        if (session.coordinator.isGone()) {
+            // It wasn't told, so nothing was decided.
+            manager.fates.forget(transaction.gtrid());
+            sure = Outcome.ROLLED_BACK;
+            throw session.coordinator.lost();
+        }
+        Told told = slot.tell(answers, isVote);
+        manager.fates.forget(transaction.gtrid());
+        sure = told.verb.equals("commit") || told.outcome() == Outcome.COMMITTED ? Outcome.COMMITTED : Outcome.ROLLED_BACK;
+        return told;
+    }
+}

@@ -1,0 +1,353 @@
+package garterfossil;
+
+import java.lang.System.Logger.Level;
+import java.util.ArrayList;
+import java.util.HashSet;
+import java.util.LinkedHashSet;
+import java.util.List;
+import java.util.Optional;
+import java.util.Set;
+import java.util.TreeSet;
+import java.util.concurrent.CompletableFuture;
+import java.util.concurrent.ExecutionException;
+import java.util.concurrent.TimeUnit;
+import java.util.concurrent.TimeoutException;
+import javax.transaction.xa.XAException;
+import javax.transaction.xa.XAResource;
+import javax.transaction.xa.Xid;
+
+/**
+ * Recovers a resource as the coordinator says, in a thread of its own: at the start of a session, and whenever a branch there is owed. So no
+ * other thread ever waits for a resource that is away.
+ */
+final class Recovery {
+    /** How many identifiers a page lists. */
+    private static final int PAGE = 32;
+    private static final long PAUSE = 300;
+    private static final int MOST_NOTED = 100;
+
+    final ResourceManager rm;
+    private final Session session;
+    private final Coordinator coordinator;
+    private final Thread thread;
+    private final CompletableFuture<Void> first = new CompletableFuture<>();
+    // How often it was due, and how often of these that was seen to: a branch may be left to it while it goes on.
+    private volatile long due = 1, seenTo;
+    // How many branches are owed there, as far as is known.
+    private volatile int owed;
+    // Whether it is of use all the same: behind it rows may leave the log.
+    private volatile boolean isWanted, isOver;
+    private Link link;
+    private XAResource resource;
+    // What the resource listed, and how much of that was told.
+    private List<BranchXid> listed = List.of();
+    private int told;
+    // The call that was made last, and how it was answered.
+    private String call = "";
+    private BranchXid xid;
+    private int code;
+    // What was ended in this session, and how many branches of earlier sessions weren't there.
+    private final Recent<BranchXid> ended = new Recent<>(10_000);
+    private int gone;
+    private final Set<String> noted = new HashSet<>();
+    private boolean areOthersNoted;
+
+    Recovery(Session session, ResourceManager rm) {
+        this.session = session;
+        this.rm = rm;
+        coordinator = session.coordinator;
+        thread = new Thread(this::keep, "garterfossil recovery of " + rm);
+        thread.setDaemon(true);
+    }
+
+    void start() {
+        thread.start();
+    }
+
+    /** Waits until it has worked once. An error in that is thrown here. */
+    void awaitFirst(long until) {
+        try {
+            first.get(Math.max(1, until - System.nanoTime()), TimeUnit.NANOSECONDS);
+        } catch (ExecutionException error) {
+            if (error.getCause() instanceof Error) {
+                throw (Error) error.getCause();
+            }
+            throw (RuntimeException) error.getCause();
+        } catch (InterruptedException error) {
+            Thread.currentThread().interrupt();
+        } catch (TimeoutException error) {
+            Manager.LOG.log(Level.WARNING, () -> rm + " isn't recovered yet: it is silent, and the others go on");
+        }
+    }
+
+    synchronized void stop() {
+        isOver = true;
+        notifyAll();
+    }
+
+    /** A branch is owed there. */
+    synchronized void owe() {
+        owed++;
+        due++;
+        notifyAll();
+    }
+
+    /** A recovery is of use, and not due. */
+    synchronized void want() {
+        isWanted = true;
+        notifyAll();
+    }
+
+    boolean isRecovered() {
+        return due == seenTo;
+    }
+
+    int owed() {
+        return owed;
+    }
+
+    /** How many branches and recoveries wait for the resource. */
+    int owing() {
+        return isRecovered() ? 0 : Math.max(1, owed);
+    }
+
+    // ** the thread
+
+    private void keep() {
+        try {
+            recoverFirst();
+            while (!isOver && !coordinator.isGone()) {
+                if (isRecovered() && !isWanted) {
+                    disconnect();
+                    pause(0);
+                } else if (!recoverOnce()) {
+                    pause(PAUSE);
+                }
+            }
+            disconnect();
+        } catch (RuntimeException | Error error) {
+            coordinator.failed(error);
+        }
+    }
+
+    private void recoverFirst() {
+        try {
+            recover();
+            first.complete(null);
+        } catch (RuntimeException | Error error) {
+            first.completeExceptionally(error);
+            throw error;
+        }
+    }
+
+    /** What is owed waits for this thread alone: so whatever goes wrong, it goes on, over another connection. */
+    private boolean recoverOnce() {
+        try {
+            return recover();
+        } catch (RuntimeException | Error error) {
+            putOff(error.toString());
+            breakOff();
+            return false;
+        }
+    }
+
+    /** Waits so many milliseconds, or with 0 until something is due. */
+    private synchronized void pause(long millis) {
+        long until = System.nanoTime() + millis * 1_000_000;
+        try {
+            while (!isOver && (millis > 0 ? System.nanoTime() < until : isRecovered() && !isWanted)) {
+                wait(millis > 0 ? Math.max(1, (until - System.nanoTime()) / 1_000_000) : 0);
+            }
+        } catch (InterruptedException error) {
+            isOver = true;
+        }
+    }
+
+    private void putOff(String why) {
+        // The same is said once, until all is well again.
+        boolean isNew = noted.size() < MOST_NOTED && noted.add(why);
+        Manager.LOG.log(isNew ? Level.WARNING : Level.DEBUG, () -> rm + " is recovered later: " + why);
+        disconnect();
+    }
+
+    /** The coordinator may still wait for an answer. */
+    private void breakOff() {
+        try {
+            coordinator.ask("end " + rm.number + " lost");
+        } catch (Fault.Gone error) {
+            isOver = true;
+        }
+    }
+
+    /** A connection, once those that were lost are known to be gone: what they had under way could happen behind a call that is made here. */
+    private void connect() throws Fault.Lost {
+        if (link != null && !rm.hasStrays()) {
+            return;
+        }
+        disconnect();
+        link = rm.connect(rm.resource.patience());
+        link.bound(rm.resource.patience());
+        resource = link.xaResource();
+    }
+
+    private void disconnect() {
+        Link old = link;
+        link = null;
+        if (old != null) {
+            rm.discard(old);
+        }
+    }
+
+    // ** a recovery
+
+    /** Recovers it, if it can be reached. False if something is left. */
+    private boolean recover() {
+        long seen = due;
+        int before = owed;
+        isWanted = false;
+        try {
+            connect();
+            int left = conduct();
+            if (left == 0) {
+                seeReturned(seen);
+            }
+            synchronized (this) {
+                owed += left - before;
+                seenTo = left == 0 ? seen : seenTo;
+            }
+            noted.clear();
+        } catch (Fault.Gone error) {
+            isOver = true;
+        } catch (Fault error) {
+            putOff(error.getMessage());
+        }
+        return isRecovered();
+    }
+
+    /** Does what the coordinator says, until it says that the resource is recovered: how many branches are still owed there. */
+    private int conduct() throws Fault {
+        gone = 0;
+        String[] words = asked("recover");
+        while (true) {
+            switch (words[0]) {
+                case "recover": words = page(words.length == 3); break;
+                case "xa_commit": case "xa_rollback": case "xa_forget": words = asked("end", make(words[0], BranchXid.parse(words[1]))); break;
+                case "recovered": noteGone(); return words.length == 3 ? Integer.parseInt(words[2]) : 0;
+                case "later": throw new Fault.Lost("its connection was lost at " + (listed == null ? "xa_recover" : call + " of " + xid), null);
+                case "strange": session.strange(rm, words[1]); break;
+                default: throw coordinator.failed(new Fault.Refused(String.join(" ", words)));
+            }
+        }
+    }
+
+    private String[] asked(String move, String... words) throws Fault.Gone {
+        return coordinator.ask((move + " " + rm.number + " " + String.join(" ", words)).trim()).split(" ");
+    }
+
+    /** Tells a page of what the resource lists. It is asked once for all of it. */
+    private String[] page(boolean isFirst) throws Fault.Gone {
+        if (isFirst) {
+            listed = null;
+            told = 0;
+            try {
+                listed = listed();
+            } catch (Fault.Lost error) {
+                putOff(error.getMessage());
+                return asked("end", "lost");
+            }
+        }
+        List<BranchXid> page = listed.subList(told, Math.min(listed.size(), told + PAGE));
+        told += page.size();
+        return asked("page", page.stream().map(BranchXid::toString).toArray(String[]::new));
+    }
+
+    /** Makes a call: how it was answered. */
+    private String make(String asked, BranchXid of) {
+        try {
+            connect();
+            int answer = Calls.end(asked, resource, of);
+            note(asked, of, answer);
+            return Integer.toString(answer);
+        } catch (Fault.Lost error) {
+            call = asked;
+            xid = of;
+            putOff(error.getMessage());
+            return "lost";
+        }
+    }
+
+    /** What operators are told of an answer. */
+    private void note(String asked, BranchXid of, int answer) {
+        Manager.LOG.log(Level.INFO, () -> rm + ": " + asked + " of " + of + ", which was in doubt, is answered " + Code.name(answer));
+        if (asked.equals("xa_forget") && of.equals(xid)) {
+            session.counts.heuristicEnd(of, rm, call, code);
+        }
+        if (asked.equals("xa_commit") && answer == Code.NOTA && of.incarnation() != session.incarnation && !ended.contains(of)) {
+            gone++;
+        }
+        if (asked.equals("xa_rollback")) {
+            session.noteUndone(of);
+        }
+        ended.add(of);
+        call = asked;
+        xid = of;
+        code = answer;
+    }
+
+    private void noteGone() {
+        if (gone > 0) {
+            Manager.LOG.log(Level.WARNING, () -> rm + ": of " + gone + " branches that were decided to commit nothing is there any more. They were"
+                + " committed before, unless this isn't the database that had them, or somebody ended them by hand");
+        }
+    }
+
+    /** Sees that what it lists of this session's transactions belongs to one that goes on. They end their branches by themselves. */
+    private void seeReturned(long seen) throws Fault {
+        List<BranchXid> over = new ArrayList<>(listed);
+        over.removeIf(it -> it.incarnation() != session.incarnation || session.has(it.transaction()));
+        if (!over.isEmpty()) {
+            // They may have been over only since it was listed.
+            over.retainAll(listed());
+        }
+        // What is owed came before its transaction was over.
+        if (!over.isEmpty() && due == seen) {
+            session.returned(rm, over);
+        }
+    }
+
+    private List<BranchXid> listed() throws Fault.Lost {
+        Set<BranchXid> found = new LinkedHashSet<>();
+        Set<String> others = new TreeSet<>();
+        try {
+            Xid[] xids = resource.recover(XAResource.TMSTARTRSCAN);
+            while (xids != null && xids.length > 0) {
+                boolean isNew = false;
+                for (Xid it : xids) {
+                    Optional<BranchXid> own = BranchXid.ownOf(it, session.name, rm.number);
+                    isNew |= own.isPresent() && found.add(own.get());
+                    if (own.isEmpty()) {
+                        BranchXid.managerOf(it).ifPresent(others::add);
+                    }
+                }
+                // Some list all of them again without a flag.
+                xids = isNew ? resource.recover(XAResource.TMNOFLAGS) : null;
+            }
+            resource.recover(XAResource.TMENDRSCAN);
+        } catch (XAException error) {
+            throw Calls.unanswered("xa_recover", error);
+        } catch (RuntimeException error) {
+            throw new Fault.Lost("xa_recover", error);
+        }
+        noteOthers(others);
+        return new ArrayList<>(found);
+    }
+
+    /** What others have in doubt stays: those of managers that run, and of logs that are lost. A new log says so, once. */
+    private void noteOthers(Set<String> others) {
+        if (session.incarnation == 1 && !others.isEmpty() && !areOthersNoted) {
+            areOthersNoted = true;
+            Manager.LOG.log(Level.WARNING, () -> rm + " lists branches in doubt of other managers: " + others
+                + ". Where one of them doesn't run any more, its log ends them");
+        }
+    }
+}
