@@ -23,6 +23,11 @@ final class Code {
         return code >= HEURMIX && code <= HEURHAZ;
     }
 
+    /** Whether the answer to a call that ends a prepared branch says that the resource had ended it by itself. */
+    static boolean isAlone(String call, int code) {
+        return isHeuristic(code) || call.equals("xa_commit") && (isRollback(code) || code == XAException.XAER_RMERR);
+    }
+
     /** XA's name of the code. */
     static String name(int code) {
         switch (code) {

@@ -408,6 +408,7 @@ public final class GlobalTransaction {
     /** An error of the driver itself: the next session ends what is open. */
     private void giveUp(Throwable error) {
         if (branches.session() != null) {
+            manager.fates.forget(branches.gtrid());
             branches.session().coordinator.failed(error);
         }
     }

@@ -1,6 +1,5 @@
 package garterfossil;
 
-import java.util.ArrayList;
 import java.util.List;
 import java.util.stream.Collectors;
 
@@ -30,7 +29,8 @@ final class Hands {
     /** The work is over: how the transaction ended. */
     Told commit() throws Fault.Gone {
         try {
-            return conduct(branches.size() > 1 ? slot.joined() : slot.end("commit"), false);
+            Told joined = slot.joined();
+            return conduct(branches.size() > 1 ? joined : slot.end("commit"), false);
         } catch (Fault fault) {
             throw gone(fault);
         }
@@ -61,6 +61,8 @@ final class Hands {
 
     private Told conduct(Told first, boolean isApart) throws Fault {
         Told told = first;
+        // The first calls are at all branches: else the coordinator doesn't know of one.
+        seeExpected(told, told.rms.size() == branches.size());
         while (told.outcome() == null) {
             List<Branch> called = called(told);
             make(told, called, isApart);
@@ -86,17 +88,16 @@ final class Hands {
         return told;
     }
 
-    /** The branches of which calls are told. The first calls are told of all. */
+    /** The branches of which calls are told. */
     private List<Branch> called(Told told) throws Fault {
-        List<Branch> found = new ArrayList<>();
-        for (int rm : told.rms) {
-            found.add(at(rm));
-        }
-        boolean isFirst = told.verb.equals("prepare") || told.verb.equals("commit-at-once");
-        if (found.isEmpty() || told.stage() == null && !told.verb.equals("forget") || isFirst && found.size() != branches.size()) {
+        seeExpected(told, !told.rms.isEmpty() && (told.stage() != null || told.verb.equals("forget")));
+        return told.rms.stream().map(this::at).collect(Collectors.toList());
+    }
+
+    private static void seeExpected(Told told, boolean isExpected) throws Fault {
+        if (!isExpected) {
             throw new Fault.Refused("the coordinator told " + told.verb + " at " + told.rms);
         }
-        return found;
     }
 
     /** The branch at a resource manager. */

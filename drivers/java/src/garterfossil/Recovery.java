@@ -210,12 +210,12 @@ final class Recovery {
             int left = conduct();
             if (left == 0) {
                 seeReturned(seen);
+                noted.clear();
+                seenTo = seen;
             }
             synchronized (this) {
-                owed += left - before;
-                seenTo = left == 0 ? seen : seenTo;
+                owed += left < 0 ? 0 : left - before;
             }
-            noted.clear();
         } catch (Fault.Gone error) {
             isOver = true;
         } catch (Fault error) {
@@ -224,7 +224,7 @@ final class Recovery {
         return isRecovered();
     }
 
-    /** Does what the coordinator says, until it says that the resource is recovered: how many branches are still owed there. */
+    /** Does what the coordinator says, until it says that the resource is recovered: how many branches are still owed there; -1 if it is later. */
     private int conduct() throws Fault {
         gone = 0;
         String[] words = asked("recover");
@@ -233,7 +233,7 @@ final class Recovery {
                 case "recover": words = page(words.length == 3); break;
                 case "xa_commit": case "xa_rollback": case "xa_forget": words = asked("end", make(words[0], BranchXid.parse(words[1]))); break;
                 case "recovered": noteGone(); return words.length == 3 ? Integer.parseInt(words[2]) : 0;
-                case "later": throw new Fault.Lost("its connection was lost at " + (listed == null ? "xa_recover" : call + " of " + xid), null);
+                case "later": return -1;
                 case "strange": session.strange(rm, words[1]); break;
                 default: throw coordinator.failed(new Fault.Refused(String.join(" ", words)));
             }
@@ -269,8 +269,6 @@ final class Recovery {
             note(asked, of, answer);
             return Integer.toString(answer);
         } catch (Fault.Lost error) {
-            call = asked;
-            xid = of;
             putOff(error.getMessage());
             return "lost";
         }
@@ -279,8 +277,10 @@ final class Recovery {
     /** What operators are told of an answer. */
     private void note(String asked, BranchXid of, int answer) {
         Manager.LOG.log(Level.INFO, () -> rm + ": " + asked + " of " + of + ", which was in doubt, is answered " + Code.name(answer));
-        if (asked.equals("xa_forget") && of.equals(xid)) {
-            session.counts.heuristicEnd(of, rm, call, code);
+        // One that isn't there any more was ended by somebody else, if the coordinator has it forgotten.
+        boolean wasGone = asked.equals("xa_forget") && of.equals(xid) && code == Code.NOTA;
+        if (wasGone || Code.isAlone(asked, answer)) {
+            session.counts.heuristicEnd(of, rm, wasGone ? call : asked, wasGone ? code : answer);
         }
         if (asked.equals("xa_commit") && answer == Code.NOTA && of.incarnation() != session.incarnation && !ended.contains(of)) {
             gone++;

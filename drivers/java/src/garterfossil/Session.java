@@ -71,9 +71,11 @@ final class Session {
             }
         }
 
-        /** What is told behind the branches that began last. */
+        /** What is told behind the branches that began last; null, if none began. */
         Told joined() throws Fault {
-            return Told.of(coordinator.await(joined));
+            Coordinator.Reply asked = joined;
+            joined = null;
+            return asked == null ? null : Told.of(coordinator.await(asked));
         }
 
         /** The work is over. */
