@@ -114,8 +114,17 @@ class JdbcXaResource implements OwnedXaResource {
             if (isOnePhase) {
                 seeWhole(xid);
             }
-            inner.commit(xid, isOnePhase);
+            commitInner(xid, isOnePhase);
         });
+    }
+
+    private void commitInner(Xid xid, boolean isOnePhase) throws XAException {
+        try {
+            inner.commit(xid, isOnePhase);
+        } catch (XAException error) {
+            // By XA the branch is rolled back then. MariaDB says so of whatever went wrong in its commit.
+            throw error.errorCode == XAException.XAER_RMERR && dialect == Dialect.MARIADB ? failed(XAException.XAER_RMFAIL, new SQLException(error)) : error;
+        }
     }
 
     final void seeWhole(Xid xid) throws XAException {

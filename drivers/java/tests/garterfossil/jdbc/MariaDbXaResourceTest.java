@@ -93,12 +93,12 @@ public class MariaDbXaResourceTest {
         failsBy(1614, XAException.XAER_RMFAIL, TEXT, "rollback");
     }
 
-    /** An XAResource that answers by 1402 to the xa_commit of a branch, which it lists then or not. */
-    private MariaDbXaResource answering1402(boolean isListed) {
+    /** An XAResource that answers so to the xa_commit of a branch, which it lists then or not. */
+    private MariaDbXaResource answering(int code, boolean isListed) {
         XAResource inner = (XAResource) Proxy.newProxyInstance(getClass().getClassLoader(), new Class<?>[] {XAResource.class},
             (proxy, method, words) -> {
                 if (method.getName().equals("commit")) {
-                    throw new XAException(XAException.XA_RBROLLBACK);
+                    throw new XAException(code);
                 }
                 return isListed ? new Xid[] {xid} : new Xid[0];
             });
@@ -108,8 +108,18 @@ public class MariaDbXaResourceTest {
     @Test
     public void aBranchThatOnlyRead() throws Exception {
         // Its connection is gone: MariaDB has nothing of it any more, and had nothing to commit.
-        answering1402(false).commit(xid, false);
-        assertEquals(XAException.XA_RBROLLBACK, assertThrows(XAException.class, () -> answering1402(true).commit(xid, false)).errorCode);
+        answering(XAException.XA_RBROLLBACK, false).commit(xid, false);
+        assertEquals(XAException.XA_RBROLLBACK,
+            assertThrows(XAException.class, () -> answering(XAException.XA_RBROLLBACK, true).commit(xid, false)).errorCode);
+    }
+
+    @Test
+    public void aFatalErrorIsNoAnswer() {
+        // XA has it that the branch was rolled back then (1401, XAER_RMERR). It may as well have been committed.
+        for (boolean isOnePhase : new boolean[] {false, true}) {
+            XAException error = assertThrows(XAException.class, () -> answering(XAException.XAER_RMERR, false).commit(xid, isOnePhase));
+            assertEquals(XAException.XAER_RMFAIL, error.errorCode);
+        }
     }
 
     @Test
