@@ -33,7 +33,7 @@ public final class Manager implements AutoCloseable {
         private final List<Resource> resources = new ArrayList<>();
         private String program = "xatm";
         private String name = "";
-        private int threads = 32, helpers = Math.max(2, Runtime.getRuntime().availableProcessors());
+        private int threads = 32, helpers = -1;
         private Duration timeout = Duration.ofSeconds(60), patience = Duration.ofSeconds(20), grace = Duration.ofSeconds(10);
         private Coordinator.Starter starter = Coordinator::start;
 
@@ -75,8 +75,8 @@ public final class Manager implements AutoCloseable {
         }
 
         /**
-         * How many threads of the manager's own help those that commit: each calls one more resource at the same time. As many as there are
-         * processors, where none is given; with 0 all calls of a transaction are made by the thread that commits, one after the other.
+         * How many threads of the manager's own help those that commit: each calls one more resource at the same time. As many as transactions
+         * may run, where none is given; with 0 all calls of a transaction are made by the thread that commits, one after the other.
          */
         public Builder helpers(int count) {
             if (count < 0) {
@@ -159,7 +159,7 @@ public final class Manager implements AutoCloseable {
 
     private Manager(Builder made) {
         this.made = made;
-        helpers = new Helpers(made.helpers);
+        helpers = new Helpers(made.helpers < 0 ? made.threads : made.helpers);
         clock.setRemoveOnCancelPolicy(true);
     }
 

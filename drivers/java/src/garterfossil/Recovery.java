@@ -276,7 +276,9 @@ final class Recovery {
 
     /** What operators are told of an answer. */
     private void note(String asked, BranchXid of, int answer) {
-        Manager.LOG.log(Level.INFO, () -> rm + ": " + asked + " of " + of + ", which was in doubt, is answered " + Code.name(answer));
+        // Of what was decided and is over the row is mostly still there.
+        Manager.LOG.log(answer == Code.NOTA ? Level.DEBUG : Level.INFO,
+            () -> rm + ": " + asked + " of " + of + ", which was in doubt, is answered " + Code.name(answer));
         // One that isn't there any more was ended by somebody else, if the coordinator has it forgotten.
         boolean wasGone = asked.equals("xa_forget") && of.equals(xid) && code == Code.NOTA;
         if (wasGone || Code.isAlone(asked, answer)) {

@@ -110,6 +110,7 @@ final class Session {
     private final int threads;
     private final Identities identities;
     final Counts counts;
+    private final Load load = new Load();
     private final Set<GlobalTransaction> live = ConcurrentHashMap.newKeySet();
     // Branches that were prepared and that this session rolled back: a resource may forget that in a crash of its own, if it was a moment ago.
     private final Recent<BranchXid> undone = new Recent<>(UNDONE);
@@ -247,6 +248,7 @@ final class Session {
 
     /** Does once in a while what nobody waits for: what waits is written, and behind a recovery rows leave the log that may. */
     void tick() {
+        load.look();
         try {
             coordinator.flush();
         } catch (Fault.Gone error) {
@@ -258,9 +260,9 @@ final class Session {
         }
     }
 
-    /** Whether so many transactions are open that the processors are busy, and each write for one goes with some of others. */
+    /** Whether the processors are busy with other transactions: then a second thread for one costs more than it gains. */
     boolean isBusy() {
-        return open() > PROCESSORS;
+        return open() > PROCESSORS && load.isHigh();
     }
 
     int open() {
