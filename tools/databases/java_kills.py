@@ -48,6 +48,11 @@ class JavaKills(kills.Kills):
                 time.sleep(self.rng.uniform(0, 0.7))
                 self.servers[what].start()
 
+    def refused(self):
+        """How often the coordinator was ended since it, or the driver, said what the other didn't expect, by the driver's notes."""
+        with open(f"{self.world.home}/driver.log") as it:
+            return sum("an error of the driver" in line or "its memory failed" in line for line in it)
+
     def run(self, count):
         self.start_driver()
         while sum(self.done.values()) < count:
@@ -179,6 +184,7 @@ def run(world, count, threads, seed):
     print(f"java: {sum(it.done.values())} kills in {time.monotonic() - begun:.0f} seconds, seed {seed}:", dict(sorted(it.done.items())))
     for name, number in {**good, **bad}.items():
         print(f"java: {number} {name}")
-    print(f"java: {it.unexplained()} answers that no state of the branch explains")
+    refused = it.refused()
+    print(f"java: {refused} moves that the coordinator didn't take, or replies that the driver didn't")
     print(f"java: {it.failed} programs that failed otherwise; the last one: {it.counts['last']}")
-    return sum(abs(number) for number in bad.values()) + it.failed
+    return sum(abs(number) for number in bad.values()) + it.failed + refused

@@ -53,14 +53,18 @@ final class Session {
             }
         }
 
-        private String behindLast() throws Fault {
-            Coordinator.Reply asked = last;
+        private String behindLast() throws Fault.Gone {
+            String reply = coordinator.await(last);
             last = null;
-            Told told = Told.of(coordinator.await(asked));
-            if (told.outcome() != expected) {
-                throw coordinator.failed(new IllegalStateException("a program was told " + expected + ", and the coordinator tells " + told.verb));
+            try {
+                Told told = Told.of(reply);
+                if (told.outcome() == expected) {
+                    return told.next;
+                }
+            } catch (Fault.Refused refused) {
+                // It isn't what was told either.
             }
-            return told.next;
+            throw coordinator.failed(new IllegalStateException("a program was told " + expected + ", and the coordinator tells " + reply));
         }
 
         /** Branches began there. The coordinator is told now, if the calls of the first phase wait behind that. */

@@ -37,7 +37,8 @@ import java.util.stream.Collectors;
  * A stand-in for {@code xatm serve --moves}: it replies as docs/MOVES.md says, and keeps its rows in files of a folder.
  *
  * <p>It writes each line that it reads to the file `requests` of its folder. Where `slow` is there, a decision takes 20 ms. The file
- * `stop-at` has the beginning of a move at which its memory fails, once. Where the file `die-at` has a word, it ends at the first move that
+ * `stop-at` has the beginning of a move at which its memory fails, once; `wrong-at` one to which it replies wrongly, once, and how, behind a
+ * line feed. Where the file `die-at` has a word, it ends at the first move that
  * begins with it, instead of a reply, and removes the file; {@code decided} is a decision to commit that it makes and doesn't tell. It begins
  * with the line of the protocol where the file `protocol` has its words. Where `older` is there it knows no moves. The files `names` and
  * `rows` have what {@code xatm log} prints of its log. From the first move that begins with the word of the file `silent` on it says nothing,
@@ -198,7 +199,8 @@ final class StandInCoordinator extends Process {
         List<String> replies = new ArrayList<>();
         int before = rows.size();
         for (String move : moves) {
-            replies.add(reply(move.split(" ")));
+            String wrong = wrongReply(move);
+            replies.add(wrong != null ? wrong : reply(move.split(" ")));
         }
         if (rows.size() != before) {
             save();
@@ -208,6 +210,16 @@ final class StandInCoordinator extends Process {
             dieAt("decided");
         }
         return String.join(";", replies);
+    }
+
+    private String wrongReply(String move) throws IOException {
+        Path file = folder.resolve("wrong-at");
+        String[] told = Files.exists(file) ? Files.readString(file).split("\n") : new String[] {"nothing", ""};
+        if (!move.startsWith(told[0])) {
+            return null;
+        }
+        Files.delete(file);
+        return told[1];
     }
 
     private String reply(String[] words) {

@@ -266,6 +266,40 @@ public class TransactionsTest {
     }
 
     @Test
+    public void aCoordinatorThatKnowsNothingOfABranch() throws Exception {
+        world.put("wrong-at", "join 1\njoined");
+        GlobalTransaction alone = world.begin();
+        alone.enlist(world.a);
+        // It has no branch, and so would be committed at once.
+        Fault.RolledBack error = assertThrows(Fault.RolledBack.class, alone::commit);
+        assertTrue(error.getMessage(), error.getMessage().contains("an error of the driver"));
+        world.put("wrong-at", "join 1\nprepare 0");
+        assertThrows(Fault.RolledBack.class, () -> world.overBoth().commit());
+        world.put("wrong-at", "rollback 1\nrolled-back next 00000000000000030000000000000002");
+        world.overBoth().rollback();
+        World.eventually(() -> world.a.branches.isEmpty() && world.b.branches.isEmpty() && world.manager.owing() == 0);
+        assertTrue(world.a.committed.isEmpty() && world.b.committed.isEmpty());
+    }
+
+    @Test
+    public void aCoordinatorThatTellsOtherwiseThanTheProgramWasTold() throws Exception {
+        world.put("wrong-at", "tell 1 0\nrolled-back 100 0 next 00000000000000010000000000000009");
+        GlobalTransaction first = world.begin();
+        first.enlist(world.a);
+        first.commit();
+        assertThrows(Fault.Gone.class, () -> {
+            for (int count = 0; count < 4; count++) {
+                GlobalTransaction next = world.begin();
+                next.enlist(world.a);
+                next.commit();
+            }
+        });
+        // The next session goes on.
+        world.overBoth().commit();
+        assertEquals(2, world.manager.session().incarnation);
+    }
+
+    @Test
     public void resourcesAreCalledAtTheSameTime() throws Exception {
         for (String last : List.of("end", "prepare")) {
             GlobalTransaction transaction = world.overBoth();
