@@ -99,7 +99,8 @@ final class Branch {
             code = made(verb);
             // What is put off may be on the connection still.
             isOver = !isPrepared(verb) && code != Code.RETRY;
-            fault = Code.isRollback(code) || code == XAException.XAER_RMERR ? new Fault.RolledBack(rm + " voted " + Code.name(code), null) : null;
+            boolean isNo = Code.isRollback(code) || code == XAException.XAER_RMERR;
+            fault = isNo ? new Fault.RolledBack(rm + " voted " + Code.name(code), null) : null;
         } catch (Fault.Lost error) {
             fault = lost(error);
         }

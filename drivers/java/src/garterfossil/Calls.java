@@ -5,8 +5,9 @@ import javax.transaction.xa.XAResource;
 import javax.transaction.xa.Xid;
 
 /**
- * Makes XA's calls: how each was answered, by its code (C193, chapter 5). What an answer means is the coordinator's to know. What isn't among
- * the answers that docs/MOVES.md has of a call is none: the connection is lost, and nobody knows what was done.
+ * Makes XA's calls: how each was answered, by its code (C193, chapter 5). What an answer means is the
+ * coordinator's to know. What isn't among the answers that docs/MOVES.md has of a call is none: the
+ * connection is lost, and nobody knows what was done.
  */
 final class Calls {
     /** A call. */

@@ -277,7 +277,7 @@ class Coordinator {
         output.flush();
     }
 
-    /** Waits until more moves may be written. Another thread may wait for the reply to the oldest, and is the one that is woken for that. */
+    /** Waits until more moves may be written. It isn't woken by the reply to the oldest, for which another may wait. */
     private void seeReplies() throws IOException {
         for (Line first = waiting.peek(); isFull() && first != null && fault == null; first = waiting.peek()) {
             if (isRead.compareAndSet(false, true)) {
@@ -434,7 +434,7 @@ class Coordinator {
         }
     }
 
-    /** An error of the driver itself ends the session: what is open, and what is decided, the next one finds in the log and at the resources. */
+    /** An error of the driver itself ends the session: the next one finds what is open, and what is decided. */
     Fault.Gone failed(Throwable error) {
         String reason = "an error of the driver";
         try {

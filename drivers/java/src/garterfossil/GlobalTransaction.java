@@ -374,17 +374,20 @@ public final class GlobalTransaction {
         }
         boolean isCommitted = outcome == Outcome.COMMITTED;
         long rolledBack = codes.stream().filter(code -> code == Code.HEURRB).count();
-        throw new Fault.Heuristic(this + (isCommitted ? " is committed" : " is rolled back") + ", but not everywhere: " + how + ". See xatm log",
-            isCommitted && rolledBack == hands.rows(), !isCommitted || codes.contains(Code.HEURHAZ));
+        String text = this + (isCommitted ? " is committed" : " is rolled back") + ", but not everywhere: " + how + ". See xatm log";
+        throw new Fault.Heuristic(text, isCommitted && rolledBack == hands.rows(), !isCommitted || codes.contains(Code.HEURHAZ));
     }
 
     private void seeCommitted(Told told, Hands hands) throws Fault {
         if (outcome == Outcome.UNKNOWN) {
-            throw new Fault.OutcomeUnknown(this + ": " + hands.at(told.owed.get(0)).rm + " was asked to commit, and how it ended isn't known", null);
+            Branch lost = hands.at(told.owed.get(0));
+            throw new Fault.OutcomeUnknown(this + ": " + lost.rm + " was asked to commit, and how it ended isn't known", lost.fault());
         }
         if (outcome == Outcome.ROLLED_BACK) {
-            Fault why = told.rms.size() == 2 ? hands.at(told.rms.get(1)).fault() : null;
-            String text = why != null ? why.getMessage() : told.rms.size() == 2 ? "a branch voted " + Code.name(told.rms.get(0)) : "it can't be committed";
+            // Behind rolled-back stand the vote that is the reason, and whose it is.
+            Branch against = told.rms.size() == 2 ? hands.at(told.rms.get(1)) : null;
+            Fault why = against == null ? null : against.fault();
+            String text = why != null ? why.getMessage() : against != null ? against.rm + " voted " + Code.name(told.rms.get(0)) : "it can't be committed";
             throw new Fault.RolledBack(this + " is rolled back: " + text, why);
         }
     }

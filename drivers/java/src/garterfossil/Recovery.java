@@ -17,8 +17,8 @@ import javax.transaction.xa.XAResource;
 import javax.transaction.xa.Xid;
 
 /**
- * Recovers a resource as the coordinator says, in a thread of its own: at the start of a session, and whenever a branch there is owed. So no
- * other thread ever waits for a resource that is away.
+ * Recovers a resource as the coordinator says, in a thread of its own: at the start of a session, and
+ * whenever a branch there is owed. So no other thread ever waits for a resource that is away.
  */
 final class Recovery {
     /** How many identifiers a page lists. */
@@ -179,7 +179,7 @@ final class Recovery {
         }
     }
 
-    /** A connection, once those that were lost are known to be gone: what they had under way could happen behind a call that is made here. */
+    /** A connection, once those that were lost are gone: what they had under way could happen after a call here. */
     private void connect() throws Fault.Lost {
         if (link != null && !rm.hasStrays()) {
             return;
@@ -224,14 +224,16 @@ final class Recovery {
         return isRecovered();
     }
 
-    /** Does what the coordinator says, until it says that the resource is recovered: how many branches are still owed there; -1 if it is later. */
+    /** Does what the coordinator says: how many branches are owed there in the end; -1 if it was broken off. */
     private int conduct() throws Fault {
         gone = 0;
         String[] words = asked("recover");
         while (true) {
             switch (words[0]) {
                 case "recover": words = page(words.length == 3); break;
-                case "xa_commit": case "xa_rollback": case "xa_forget": words = asked("end", make(words[0], BranchXid.parse(words[1]))); break;
+                case "xa_commit": case "xa_rollback": case "xa_forget":
+                    words = asked("end", make(words[0], BranchXid.parse(words[1])));
+                    break;
                 case "recovered": noteGone(); return words.length == 3 ? Integer.parseInt(words[2]) : 0;
                 case "later": return -1;
                 case "strange": session.strange(rm, words[1]); break;
@@ -298,8 +300,8 @@ final class Recovery {
 
     private void noteGone() {
         if (gone > 0) {
-            Manager.LOG.log(Level.WARNING, () -> rm + ": of " + gone + " branches that were decided to commit nothing is there any more. They were"
-                + " committed before, unless this isn't the database that had them, or somebody ended them by hand");
+            Manager.LOG.log(Level.WARNING, () -> rm + ": of " + gone + " branches that were decided to commit nothing is there"
+                + " any more. They were committed before, unless this isn't the database that had them, or somebody ended them by hand");
         }
     }
 

@@ -48,8 +48,8 @@ final class Session {
             try {
                 return Told.of(coordinator.ask("start " + number)).next;
             } catch (Fault.Refused refused) {
-                throw new Fault.Unavailable("the log is new, and no transaction begins over it before each of its resources was reached once: "
-                    + recoveries.stream().filter(it -> !it.isRecovered()).map(it -> it.rm.toString()).collect(Collectors.joining(", ")));
+                String missing = recoveries.stream().filter(it -> !it.isRecovered()).map(it -> it.rm.toString()).collect(Collectors.joining(", "));
+                throw new Fault.Unavailable("the log is new, and no transaction begins before each of its resources was reached once: " + missing);
             }
         }
 
@@ -116,7 +116,7 @@ final class Session {
     final Counts counts;
     private final Load load = new Load();
     private final Set<GlobalTransaction> live = ConcurrentHashMap.newKeySet();
-    // Branches that were prepared and that this session rolled back: a resource may forget that in a crash of its own, if it was a moment ago.
+    // Prepared branches that this session rolled back: a resource may forget that in a crash of its own.
     private final Recent<BranchXid> undone = new Recent<>(UNDONE);
     // When a transaction with a row was over, or 0 if none was since the last recovery.
     private final AtomicLong rowSince = new AtomicLong();
@@ -138,7 +138,7 @@ final class Session {
         rms.forEach(rm -> recoveries.add(new Recovery(this, rm)));
     }
 
-    /** Recovers what can be reached, each resource in a thread of its own. They go on with the rest, as with one that is silent for so long. */
+    /** Recovers what can be reached in that time, each resource in a thread of its own. These go on with the rest. */
     void recover(Duration patience) throws Fault {
         recoveries.forEach(Recovery::start);
         long until = System.nanoTime() + patience.toNanos();
@@ -209,7 +209,7 @@ final class Session {
             + " lost, or another one put in its place? Start with the right one: this one would roll back what is decided");
     }
 
-    /** A resource lists again, once they are over, what this session's transactions had there. Only what was rolled back may have been forgotten. */
+    /** A resource lists branches of this session that were over. Only a rollback may have been forgotten. */
     void returned(ResourceManager rm, List<BranchXid> listed) throws Fault.Gone {
         if (listed.stream().allMatch(undone::contains)) {
             Manager.LOG.log(Level.WARNING, () -> rm + " lists again what was rolled back: the next session sees to it");
@@ -237,7 +237,7 @@ final class Session {
         return fatal;
     }
 
-    /** Looks once in a while whether the coordinator replies, and ends it if it doesn't any more. It waits for no reply, since others wait for it. */
+    /** Looks once in a while whether the coordinator replies, and ends it if it doesn't any more. It waits for no reply. */
     void watch(long patience) throws Fault.Gone {
         coordinator.seeRuns();
         coordinator.readWhatCame();

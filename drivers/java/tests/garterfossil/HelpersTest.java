@@ -26,7 +26,8 @@ public class HelpersTest {
         ResourceManager rm = new ResourceManager(0, new StandInResource("a"));
         List<Branch> branches = new ArrayList<>();
         for (int count = 0; count < 3; count++) {
-            branches.add(new Branch(BranchXid.of("", "0".repeat(32), 1, count), rm, rm.borrow(Duration.ofSeconds(1)), null, () -> Duration.ZERO));
+            BranchXid xid = BranchXid.of("", "0".repeat(32), 1, count);
+            branches.add(new Branch(xid, rm, rm.borrow(Duration.ofSeconds(1)), null, () -> Duration.ZERO));
         }
         CountDownLatch othersMade = new CountDownLatch(2);
         Set<Branch> made = ConcurrentHashMap.newKeySet();

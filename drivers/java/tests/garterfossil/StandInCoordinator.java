@@ -300,7 +300,8 @@ final class StandInCoordinator extends Process {
         String owed = it.owed.isEmpty() ? "" : " owed" + it.owed.stream().map(rm -> " " + rm).collect(Collectors.joining());
         String usual = it.outcome.equals("committed") ? "7" : "6";
         it.mixed.values().removeIf(usual::equals);
-        String mixed = it.mixed.isEmpty() ? "" : " mixed" + it.mixed.entrySet().stream().map(one -> " " + one.getKey() + " " + one.getValue()).collect(Collectors.joining());
+        StringBuilder mixed = new StringBuilder(it.mixed.isEmpty() ? "" : " mixed");
+        it.mixed.forEach((rm, how) -> mixed.append(' ').append(rm).append(' ').append(how));
         if (it.hasRow) {
             rows.get(it.gtrid).stream().filter(branch -> !debts.containsKey(branch)).forEach(settled::add);
         }
@@ -341,8 +342,8 @@ final class StandInCoordinator extends Process {
 
     private void hear(Transaction it, int thread, int rm, String answer) {
         String call = it.places.get(rm);
-        boolean isAlone = !call.equals("undo") && answer.matches(call.equals("commit") ? "[5-8]|-[34]|10." : "[5-8]|-4") && !call.equals("forget");
-        it.places.put(rm, call.equals("prepare") && answer.equals("0") ? "prepared" : isAlone && call.matches("commit|rollback") ? "forget" : "over");
+        boolean isAlone = call.equals("commit") && answer.matches("[5-8]|-[34]|10.") || call.equals("rollback") && answer.matches("[5-8]|-4");
+        it.places.put(rm, call.equals("prepare") && answer.equals("0") ? "prepared" : isAlone ? "forget" : "over");
         if (it.places.get(rm).equals("forget")) {
             it.mixed.put(rm, answer.equals("-4") ? "8" : answer.matches("-3|10.") ? "6" : answer);
         }
@@ -351,7 +352,8 @@ final class StandInCoordinator extends Process {
             debts.put(xid(it.gtrid, thread, rm), call.equals("commit") ? "xa_commit" : call.equals("forget") ? "xa_forget" : "xa_rollback");
         }
         if (call.equals("commit-at-once")) {
-            it.outcome = answer.equals("lost") ? "unknown" : answer.equals("0") ? "committed" : "rolled-back " + (answer.equals("-3") ? "104" : answer) + " " + rm;
+            String no = "rolled-back " + (answer.equals("-3") ? "104" : answer) + " " + rm;
+            it.outcome = answer.equals("lost") ? "unknown" : answer.equals("0") ? "committed" : no;
         }
     }
 
@@ -425,7 +427,8 @@ final class StandInCoordinator extends Process {
             it.isPaying = true;
             String end = String.format("%08x", rm(rm));
             debts.forEach((branch, call) -> it.calls.add(branch.endsWith(end) ? call + " " + branch : ""));
-            found.values().forEach(row -> row.forEach(branch -> it.calls.add(branch.endsWith(end) && !settled.contains(branch) ? "xa_commit " + branch : "")));
+            found.values().forEach(row -> row.stream().filter(branch -> branch.endsWith(end) && !settled.contains(branch))
+                .forEach(branch -> it.calls.add("xa_commit " + branch)));
             it.calls.removeIf(String::isEmpty);
         }
         if (!it.calls.isEmpty()) {
@@ -581,7 +584,8 @@ final class StandInCoordinator extends Process {
 
     @Override
     public InputStream getErrorStream() {
-        return isOlder ? new java.io.ByteArrayInputStream("xatm: not an option: --moves".getBytes(StandardCharsets.US_ASCII)) : InputStream.nullInputStream();
+        String said = isOlder ? "error: unexpected argument '--moves' found" : "";
+        return new java.io.ByteArrayInputStream(said.getBytes(StandardCharsets.US_ASCII));
     }
 
     @Override

@@ -231,7 +231,8 @@ public class TransactionsTest {
             next = world.begin();
         }
         List<String> moves = world.requests().stream().filter(it -> it.matches("\\w+ 1( .*)?")).collect(Collectors.toList());
-        assertEquals(List.of("start 1", "join 1 0 1", "tell 1 0 0", "tell 1 0 0"), moves.subList(moves.indexOf("start 1"), moves.indexOf("start 1") + 4));
+        int first = moves.indexOf("start 1");
+        assertEquals(List.of("start 1", "join 1 0 1", "tell 1 0 0", "tell 1 0 0"), moves.subList(first, first + 4));
     }
 
     private boolean isRead(String beginning) {

@@ -123,7 +123,8 @@ class JdbcXaResource implements OwnedXaResource {
             inner.commit(xid, isOnePhase);
         } catch (XAException error) {
             // By XA the branch is rolled back then. MariaDB says so of whatever went wrong in its commit.
-            throw error.errorCode == XAException.XAER_RMERR && dialect == Dialect.MARIADB ? failed(XAException.XAER_RMFAIL, new SQLException(error)) : error;
+            boolean isNoAnswer = error.errorCode == XAException.XAER_RMERR && dialect == Dialect.MARIADB;
+            throw isNoAnswer ? failed(XAException.XAER_RMFAIL, new SQLException(error)) : error;
         }
     }
 
