@@ -82,6 +82,7 @@ class Coordinator {
     private volatile boolean isPutOff;
     private final Object ending = new Object();
     private volatile String killedFor, fault;
+    private volatile int status;
 
     /** What starts the process. */
     interface Starter {
@@ -447,7 +448,7 @@ class Coordinator {
 
     /** What whoever still waits for a reply ends in. */
     Fault.Gone lost() {
-        return new Fault.Gone(fault);
+        return new Fault.Gone(fault, status);
     }
 
     private Fault.Gone gone(String reason) {
@@ -490,6 +491,7 @@ class Coordinator {
         }
         try {
             if (process.waitFor(10, TimeUnit.SECONDS)) {
+                status = process.exitValue();
                 return new String(process.getErrorStream().readAllBytes(), StandardCharsets.UTF_8).trim();
             }
         } catch (IOException error) {

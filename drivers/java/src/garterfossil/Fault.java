@@ -11,9 +11,16 @@ public abstract class Fault extends Exception {
     /** The coordinator has ended, or its log failed: the session is over. */
     public static final class Gone extends Fault {
         private static final long serialVersionUID = 1;
+        /** The status that the program ended with; 0 where that isn't known. */
+        final int status;
 
         Gone(String text) {
+            this(text, 0);
+        }
+
+        Gone(String text, int status) {
             super("the coordinator is gone: " + text, null);
+            this.status = status;
         }
     }
 

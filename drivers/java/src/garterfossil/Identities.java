@@ -153,7 +153,8 @@ final class Identities {
     /** Sees that nobody has to look at the databases first. */
     synchronized void seeOpen() throws Fault.Unavailable {
         if (shut != null) {
-            throw new Fault.Unavailable(shut + ". Look at it, and then remove the line \"shut\" from " + file);
+            throw new Fault.Unavailable(shut + ". Look at it, and then remove the line \"shut\" from " + file
+                + ". If the log is shut itself, xatm log --open " + log + " opens it");
         }
     }
 

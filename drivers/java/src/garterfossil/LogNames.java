@@ -90,7 +90,7 @@ final class LogNames {
             String printed = new String(process.getInputStream().readAllBytes(), StandardCharsets.ISO_8859_1);
             String said = new String(process.getErrorStream().readAllBytes(), StandardCharsets.UTF_8).trim();
             if (process.waitFor() != 0) {
-                throw new Fault.Gone("the log isn't read; it said: " + said);
+                throw new Fault.Gone("the log isn't read; it said: " + said, process.exitValue());
             }
             return printed;
         } catch (IOException error) {

@@ -22,6 +22,8 @@ import javax.transaction.xa.XAResource;
  */
 public final class Manager implements AutoCloseable {
     static final Logger LOG = System.getLogger("garterfossil");
+    /** What the program ends with if a file is no log, or another's; if only a part of a log is there; and if it is shut (docs/SERVE.md). */
+    private static final int NO_LOG = 6, HALF = 7, SHUT = 8;
     /** So many milliseconds the end of a transaction waits for work that another thread still does in it. */
     static final long WORK_PATIENCE = 2_000;
     /** So long a session that follows another waits for resources that are silent, and with it the transactions that begin meanwhile. */
@@ -272,8 +274,11 @@ public final class Manager implements AutoCloseable {
 
     private void seeWorthwhile(Fault.Gone gone, long until) throws Fault.Unavailable {
         String text = gone.getMessage();
-        if (text.contains("xatm: log: ") || text.contains("another protocol")) {
+        if (gone.status == NO_LOG || gone.status == HALF || text.contains("another protocol")) {
             throw new Fault.Unavailable("the log " + made.log + " isn't this manager's", gone);
+        }
+        if (gone.status == SHUT) {
+            throw new Fault.Unavailable("look at the databases first, and then say xatm log --open " + made.log, gone);
         }
         if (text.contains(Coordinator.OLDER)) {
             throw new Fault.Unavailable("Builder.program is to be the xatm of this driver's version, and not " + made.program, gone);

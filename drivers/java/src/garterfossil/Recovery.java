@@ -35,8 +35,7 @@ final class Recovery {
     private volatile long due = 1, seenTo;
     // How many branches are owed there, as far as is known.
     private volatile int owed;
-    // Whether it is of use all the same: behind it rows may leave the log.
-    private volatile boolean isWanted, isOver;
+    private volatile boolean isOver;
     private Link link;
     private XAResource resource;
     // What the resource listed, and how much of that was told.
@@ -92,12 +91,6 @@ final class Recovery {
         notifyAll();
     }
 
-    /** A recovery is of use, and not due. */
-    synchronized void want() {
-        isWanted = true;
-        notifyAll();
-    }
-
     boolean isRecovered() {
         return due == seenTo;
     }
@@ -117,7 +110,7 @@ final class Recovery {
         try {
             recoverFirst();
             while (!isOver && !coordinator.isGone()) {
-                if (isRecovered() && !isWanted) {
+                if (isRecovered()) {
                     disconnect();
                     pause(0);
                 } else if (!recoverOnce()) {
@@ -155,7 +148,7 @@ final class Recovery {
     private synchronized void pause(long millis) {
         long until = System.nanoTime() + millis * 1_000_000;
         try {
-            while (!isOver && (millis > 0 ? System.nanoTime() < until : isRecovered() && !isWanted)) {
+            while (!isOver && (millis > 0 ? System.nanoTime() < until : isRecovered())) {
                 wait(millis > 0 ? Math.max(1, (until - System.nanoTime()) / 1_000_000) : 0);
             }
         } catch (InterruptedException error) {
@@ -204,7 +197,6 @@ final class Recovery {
     private boolean recover() {
         long seen = due;
         int before = owed;
-        isWanted = false;
         try {
             connect();
             int left = conduct();

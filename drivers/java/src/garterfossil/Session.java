@@ -9,7 +9,6 @@ import java.util.concurrent.BlockingDeque;
 import java.util.concurrent.ConcurrentHashMap;
 import java.util.concurrent.LinkedBlockingDeque;
 import java.util.concurrent.TimeUnit;
-import java.util.concurrent.atomic.AtomicLong;
 import java.util.concurrent.locks.LockSupport;
 import java.util.function.BooleanSupplier;
 import java.util.stream.Collectors;
@@ -20,9 +19,6 @@ final class Session {
     private static final Duration TO_END = Duration.ofSeconds(5), TO_PAY = Duration.ofSeconds(2);
     /** So many branches that were rolled back are known. */
     private static final int UNDONE = 10_000;
-    /** After so long without a commit rows may leave the log. */
-    private static final long QUIET = TimeUnit.SECONDS.toNanos(1);
-
     private static final int PROCESSORS = Runtime.getRuntime().availableProcessors();
 
     /** A thread of the coordinator, for one transaction at a time. */
@@ -118,8 +114,8 @@ final class Session {
     private final Set<GlobalTransaction> live = ConcurrentHashMap.newKeySet();
     // Prepared branches that this session rolled back: a resource may forget that in a crash of its own.
     private final Recent<BranchXid> undone = new Recent<>(UNDONE);
-    // When a transaction with a row was over, or 0 if none was since the last recovery.
-    private final AtomicLong rowSince = new AtomicLong();
+    // Whether a transaction with a row was over since the coordinator was asked last what is due: then rows leave that may.
+    private volatile boolean hasRows;
     private volatile String fatal;
     private Object oldest;
     private long oldestSince;
@@ -198,7 +194,7 @@ final class Session {
 
     /** A transaction is over that had a row in the log. */
     void noteRow() {
-        rowSince.set(System.nanoTime());
+        hasRows = true;
     }
 
     // ** what must not be
@@ -250,17 +246,17 @@ final class Session {
         }
     }
 
-    /** Does once in a while what nobody waits for: what waits is written, and behind a recovery rows leave the log that may. */
+    /** Does once in a while what nobody waits for: what waits is written, and rows leave the log that may. */
     void tick() {
         load.look();
+        if (hasRows) {
+            hasRows = false;
+            coordinator.post("due");
+        }
         try {
             coordinator.flush();
         } catch (Fault.Gone error) {
             // The next look begins the next session.
-        }
-        long since = rowSince.get();
-        if (since != 0 && System.nanoTime() - since > QUIET && rowSince.compareAndSet(since, 0)) {
-            recoveries.stream().filter(Recovery::isRecovered).findFirst().ifPresent(Recovery::want);
         }
     }
 

@@ -350,7 +350,7 @@ public class RecoveryTest {
     @Test
     public void otherVersionsOfTheProtocol() throws Exception {
         world.manager.close();
-        Files.writeString(world.folder.resolve("protocol"), "1 name shop-1 rms a b");
+        Files.writeString(world.folder.resolve("protocol"), "1 version 1.0.0 name shop-1 rms a b");
         world.manager = world.builder().start();
         world.overBoth().commit();
         world.manager.close();
@@ -418,7 +418,7 @@ public class RecoveryTest {
     public void aCoordinatorThatIsSilent() throws Exception {
         world.manager.close();
         world.manager = world.builder().patience(Duration.ofSeconds(1)).start();
-        // Its row is to leave the log: a recovery is begun for that, and gets no reply either.
+        // Its row is to leave the log: the coordinator is asked what is due, and says nothing either.
         world.overBoth().commit();
         GlobalTransaction transaction = world.overBoth();
         world.put("silent", "tell");
@@ -444,11 +444,11 @@ public class RecoveryTest {
             }
         };
         for (int count = 0; count < 4; count++) {
-            world.manager.begin(Duration.ofMillis(100)).enlist(world.a);
+            world.manager.begin(Duration.ofMillis(500)).enlist(world.a);
         }
         World.await(waiting);
         // The time-outs of others come all the same.
-        GlobalTransaction other = world.manager.begin(Duration.ofMillis(100));
+        GlobalTransaction other = world.manager.begin(Duration.ofMillis(500));
         other.enlist(world.b);
         World.eventually(() -> other.outcome() == Outcome.ROLLED_BACK);
         // Nobody but the manager's own threads sees to it that its row leaves the log.

@@ -235,6 +235,7 @@ final class StandInCoordinator extends Process {
             case "end": return end(words[1], words[2]);
             case "fate": return found.containsKey(words[1]) ? "committed"
                 : Long.parseLong(words[1].substring(0, 16), 16) + 1 == incarnation ? "rolled-back" : "unknown";
+            case "due": rows.values().removeIf(settled::containsAll); return "due";
             case "quit": return "bye";
             default: return "error not a move";
         }
