@@ -251,7 +251,7 @@ public final class Manager implements AutoCloseable {
         }
         List<String> words = new ArrayList<>(List.of(made.program, "serve", "--moves"));
         words.addAll(names.options());
-        words.addAll(List.of("--log", made.log.toString(), Integer.toString(made.threads + 1), Integer.toString(names.resources.size())));
+        words.addAll(List.of("--log", made.log.toString(), Integer.toString(Session.slots(made.threads) + 1), Integer.toString(names.resources.size())));
         return untilFree(() -> new Coordinator(made.starter, words));
     }
 

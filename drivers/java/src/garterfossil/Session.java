@@ -4,10 +4,11 @@ import java.lang.System.Logger.Level;
 import java.time.Duration;
 import java.util.ArrayList;
 import java.util.List;
+import java.util.Queue;
 import java.util.Set;
-import java.util.concurrent.BlockingDeque;
 import java.util.concurrent.ConcurrentHashMap;
-import java.util.concurrent.LinkedBlockingDeque;
+import java.util.concurrent.ConcurrentLinkedQueue;
+import java.util.concurrent.Semaphore;
 import java.util.concurrent.TimeUnit;
 import java.util.concurrent.locks.LockSupport;
 import java.util.function.BooleanSupplier;
@@ -19,6 +20,8 @@ final class Session {
     private static final Duration TO_END = Duration.ofSeconds(5), TO_PAY = Duration.ofSeconds(2);
     /** So many branches that were rolled back are known. */
     private static final int UNDONE = 10_000;
+    /** The coordinator has 1,024 threads at most, of which the first is the recoveries'. */
+    private static final int MOST = 1023;
     private static final int PROCESSORS = Runtime.getRuntime().availableProcessors();
 
     /** A thread of the coordinator, for one transaction at a time. */
@@ -106,7 +109,9 @@ final class Session {
     final long incarnation;
     private final List<ResourceManager> rms;
     private final List<Recovery> recoveries = new ArrayList<>();
-    private final BlockingDeque<Slot> free = new LinkedBlockingDeque<>();
+    // Of so many that at least half have their last reply: whoever begins then waits for none.
+    private final Queue<Slot> free = new ConcurrentLinkedQueue<>();
+    private final Semaphore places;
     private final int threads;
     private final Identities identities;
     final Counts counts;
@@ -128,10 +133,16 @@ final class Session {
         this.identities = identities;
         this.counts = counts;
         incarnation = Long.parseLong(coordinator.greeting.split(" ")[1]);
-        for (int thread = threads; thread >= 1; thread--) {
-            free.addFirst(new Slot(thread));
+        places = new Semaphore(threads, true);
+        for (int thread = 1; thread <= slots(threads); thread++) {
+            free.add(new Slot(thread));
         }
         rms.forEach(rm -> recoveries.add(new Recovery(this, rm)));
+    }
+
+    /** How many threads of the coordinator serve so many transactions at once. */
+    static int slots(int threads) {
+        return Math.min(MOST, 2 * threads);
     }
 
     /** Recovers what can be reached in that time, each resource in a thread of its own. These go on with the rest. */
@@ -165,10 +176,8 @@ final class Session {
     Slot take(Duration patience) throws Fault {
         seeWhole();
         try {
-            Slot slot = free.pollFirst();
-            slot = slot != null ? slot : free.pollFirst(patience.toMillis(), TimeUnit.MILLISECONDS);
-            if (slot != null) {
-                return slot;
+            if (places.tryAcquire() || places.tryAcquire(patience.toMillis(), TimeUnit.MILLISECONDS)) {
+                return free.remove();
             }
         } catch (InterruptedException error) {
             Thread.currentThread().interrupt();
@@ -180,7 +189,8 @@ final class Session {
 
     /** The thread that was used last is used last: until then what it told is written with what others ask. */
     void giveBack(Slot slot) {
-        free.addLast(slot);
+        free.add(slot);
+        places.release();
     }
 
     Recovery recovery(ResourceManager rm) {

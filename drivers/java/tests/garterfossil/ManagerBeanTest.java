@@ -27,7 +27,7 @@ public class ManagerBeanTest {
         ManagerMXBean bean = JMX.newMXBeanProxy(server, name, ManagerMXBean.class);
         world.overBoth().commit();
         world.overBoth().rollback();
-        GlobalTransaction late = world.manager.begin(Duration.ofMillis(100));
+        GlobalTransaction late = world.manager.begin(Duration.ofMillis(500));
         late.enlist(world.a);
         World.eventually(() -> bean.getCounts().get("timed_out") == 1);
         world.a.answer("commit", XAException.XA_HEURRB);

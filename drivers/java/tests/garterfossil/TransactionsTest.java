@@ -224,7 +224,7 @@ public class TransactionsTest {
     public void aTransferIsThreeLines() throws Exception {
         world.overBoth().commit();
         GlobalTransaction next = world.begin();
-        for (int count = 0; count < 4; count++) {
+        for (int count = 0; count < 8; count++) {
             // The threads go round: the last line of the first is written with what others ask.
             next.enlist(world.a);
             next.commit();
@@ -289,7 +289,7 @@ public class TransactionsTest {
         first.enlist(world.a);
         first.commit();
         assertThrows(Fault.Gone.class, () -> {
-            for (int count = 0; count < 4; count++) {
+            for (int count = 0; count < 8; count++) {
                 GlobalTransaction next = world.begin();
                 next.enlist(world.a);
                 next.commit();
