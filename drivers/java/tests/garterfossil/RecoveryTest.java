@@ -362,9 +362,24 @@ public class RecoveryTest {
     @Test
     public void aCoordinatorThatDoesNotConduct() throws Exception {
         world.manager.close();
-        Files.createFile(world.folder.resolve("older"));
+        isRefusedAtOnce("3 error: unexpected argument '--moves' found", "older than this driver");
+    }
+
+    @Test
+    public void logsThatTheProgramRefuses() throws Exception {
+        world.manager.close();
+        isRefusedAtOnce("6 xatm: log: log: the file is another's", "isn't this manager's: the coordinator is gone");
+        isRefusedAtOnce("7 xatm: log: log: only its journal is there", "only its journal is there");
+        isRefusedAtOnce("8 xatm: log: log: it is shut: 7:00", "say xatm log --open " + world.folder.resolve("log"));
+    }
+
+    private void isRefusedAtOnce(String refusal, String text) throws Exception {
+        world.put("refusal", refusal);
+        long begun = System.nanoTime();
         Fault.Unavailable error = assertThrows(Fault.Unavailable.class, () -> world.builder().start());
-        assertTrue(error.getMessage(), error.getMessage().contains("older than this driver"));
+        assertTrue(error.getMessage(), error.getMessage().contains(text));
+        // Nobody waits for another program to leave it.
+        assertTrue(System.nanoTime() - begun < TimeUnit.SECONDS.toNanos(7));
     }
 
     @Test

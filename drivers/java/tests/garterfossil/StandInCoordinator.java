@@ -40,7 +40,8 @@ import java.util.stream.Collectors;
  * `stop-at` has the beginning of a move at which its memory fails, once; `wrong-at` one to which it replies wrongly, once, and how, behind a
  * line feed. Where the file `die-at` has a word, it ends at the first move that
  * begins with it, instead of a reply, and removes the file; {@code decided} is a decision to commit that it makes and doesn't tell. It begins
- * with the line of the protocol where the file `protocol` has its words. Where `older` is there it knows no moves. The files `names` and
+ * with the line of the protocol where the file `protocol` has its words. Where `refusal` is there, it ends with the status that this has, and
+ * says what stands behind that. The files `names` and
  * `rows` have what {@code xatm log} prints of its log. From the first move that begins with the word of the file `silent` on it says nothing,
  * and the file is removed.
  */
@@ -53,7 +54,8 @@ final class StandInCoordinator extends Process {
     private final Thread thread;
     private final Path folder;
     private final long incarnation;
-    private final boolean isOlder;
+    // The status that it ends with at once, and what it says; or none.
+    private final String[] refusal;
     // Of the manager, in hexadecimal digits.
     private final String name;
     private final Map<String, List<String>> rows = new TreeMap<>();
@@ -128,7 +130,8 @@ final class StandInCoordinator extends Process {
             }
         }
         found = new TreeMap<>(rows);
-        isOlder = Files.exists(folder.resolve("older")) && command.contains("--moves");
+        Path refused = folder.resolve("refusal");
+        refusal = Files.exists(refused) ? Files.readString(refused).split(" ", 2) : new String[] {"0", ""};
         save();
         thread = new Thread(this::serve, "a stand-in for the coordinator");
         thread.setDaemon(true);
@@ -472,7 +475,7 @@ final class StandInCoordinator extends Process {
     /** Replies to moves until it is told to end. */
     private void serve() {
         try (OutputStream replies = toDriver) {
-            if (isOlder) {
+            if (!refusal[1].isEmpty()) {
                 return;
             }
             if (Files.exists(folder.resolve("protocol"))) {
@@ -585,8 +588,7 @@ final class StandInCoordinator extends Process {
 
     @Override
     public InputStream getErrorStream() {
-        String said = isOlder ? "error: unexpected argument '--moves' found" : "";
-        return new java.io.ByteArrayInputStream(said.getBytes(StandardCharsets.US_ASCII));
+        return new java.io.ByteArrayInputStream(refusal[1].getBytes(StandardCharsets.US_ASCII));
     }
 
     @Override
@@ -605,7 +607,7 @@ final class StandInCoordinator extends Process {
         if (ended.getCount() > 0) {
             throw new IllegalThreadStateException("it runs");
         }
-        return 0;
+        return Integer.parseInt(refusal[0]);
     }
 
     @Override
