@@ -395,8 +395,9 @@ public final class GlobalTransaction {
     /** The coordinator ended meanwhile: how the transaction ends. The next session ends the branches, too. */
     private void seeFate(Hands hands, Fault.Gone gone) throws Fault {
         if (hands.sure() == null) {
-            branches.abandon("the coordinator ended");
+            // Whoever begins the next session needn't wait for this thread, which waits for that.
             isGivenUp = true;
+            branches.abandon("the coordinator ended");
         }
         Outcome fate = hands.sure() != null ? hands.sure() : manager.fateOf(branches.gtrid());
         outcome = fate;
@@ -453,26 +454,32 @@ public final class GlobalTransaction {
         }
     }
 
-    /** The session is over: the work is undone, and its connections are closed. */
-    void abandon() {
+    /** The session is over: the work is undone, and its connections are closed. A call that its thread makes is waited for until then. */
+    void abandon(long until) {
         if (isGivenUp) {
             return;
         }
         String why = "the coordinator ended: roll " + this + " back";
         mark("the coordinator ended", null);
         branches.shut(why);
-        boolean isMine = false;
         try {
-            isMine = lock.tryLock(5, TimeUnit.SECONDS);
+            boolean isMine = false;
+            while (!isMine && !isGivenUp && System.nanoTime() < until) {
+                isMine = lock.tryLock(20, TimeUnit.MILLISECONDS);
+            }
             if (isMine) {
-                branches.abandon(why);
+                giveUpHere(why);
             }
         } catch (InterruptedException error) {
             Thread.currentThread().interrupt();
+        }
+    }
+
+    private void giveUpHere(String why) {
+        try {
+            branches.abandon(why);
         } finally {
-            if (isMine) {
-                lock.unlock();
-            }
+            lock.unlock();
         }
     }
 

@@ -331,7 +331,8 @@ final class Session {
     /** The coordinator is gone: what is open is given up, before the next session looks at the resources. */
     void abandon() {
         recoveries.forEach(Recovery::stop);
-        live.forEach(GlobalTransaction::abandon);
+        long until = System.nanoTime() + TO_END.toNanos();
+        live.forEach(transaction -> transaction.abandon(until));
         rms.forEach(ResourceManager::startAnew);
     }
 }

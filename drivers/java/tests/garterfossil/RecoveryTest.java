@@ -448,6 +448,31 @@ public class RecoveryTest {
     }
 
     @Test
+    public void aCommitThatWaitsForTheNextSessionKeepsThatFromNothing() throws Exception {
+        for (int count = 0; count < 10; count++) {
+            Session before = world.manager.session();
+            GlobalTransaction transaction = world.overBoth();
+            world.put("silent", "tell");
+            FutureTask<Fault> committing = new FutureTask<>(() -> assertThrows(Fault.RolledBack.class, transaction::commit));
+            new Thread(committing).start();
+            World.eventually(() -> !Files.exists(world.folder.resolve("silent")));
+            // One begins the next session, while the other has its transaction, and waits for that session.
+            FutureTask<Session> next = new FutureTask<>(() -> {
+                Session up = before;
+                while (up == before) {
+                    up = world.manager.session();
+                }
+                return up;
+            });
+            new Thread(next).start();
+            before.coordinator.kill("a test");
+            next.get(4, TimeUnit.SECONDS);
+            committing.get(4, TimeUnit.SECONDS);
+        }
+        nothingIsLeft();
+    }
+
+    @Test
     public void timeOutsThatAllWaitForAResource() throws Exception {
         world.manager.close();
         world.manager = world.builder().threads(8).start();
