@@ -27,14 +27,6 @@ bool is_past(const struct timespec *at)
     return now.tv_sec > at->tv_sec || (now.tv_sec == at->tv_sec && now.tv_nsec >= at->tv_nsec);
 }
 
-int milliseconds_to(const struct timespec *at)
-{
-    struct timespec now = in_seconds(0);
-    double left = (double)(at->tv_sec - now.tv_sec) * 1e3 + (double)(at->tv_nsec - now.tv_nsec) / 1e6;
-
-    return left <= 0 ? 0 : left > 1e9 ? 1000000000 : (int)left + 1;
-}
-
 void pause_for(double seconds)
 {
     struct timespec at = in_seconds(seconds);

@@ -7,7 +7,5 @@
 /* The moment in so many seconds. */
 struct timespec in_seconds(double seconds);
 bool is_past(const struct timespec *);
-/* Until then, at least 0: as poll takes it. */
-int milliseconds_to(const struct timespec *);
 void pause_for(double seconds);
 #endif

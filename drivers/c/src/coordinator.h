@@ -1,4 +1,4 @@
-/* Lines of requests to the coordinator, and its replies (docs/SERVE.md). */
+/* Lines of moves to the coordinator, and its replies (docs/MOVES.md). */
 #ifndef COORDINATOR_H
 #define COORDINATOR_H
 #include <pthread.h>
@@ -8,30 +8,20 @@
 
 #include "process.h"
 
-/* A line of requests that is on its way, and what became of it. */
-struct post {
-    struct post *next;
-    pthread_cond_t *sleeper;
-    char *reply; /* to its last request, or to the first that wasn't done; NULL if the coordinator is gone */
-    int done; /* how many requests were done before that one */
-    int requests; /* how many it has, and the word that the reply to the last begins with, NULL for any */
-    const char *replied;
-    bool is_here; /* the reply is there, or there will be none */
-    bool decides; /* the decisions that were asked for meanwhile go out when it is */
-    bool is_nobodys;
+enum {
+    MOVE = 4096, /* bytes of the longest, a page, with its end */
+    REPLY = 8192, /* of the longest, which names each resource manager */
+    LINE = 65536
 };
 
-/* A decision to commit, and the line that goes behind it. */
-struct wish {
-    struct wish *next;
-    unsigned session;
-    const char *gtrid, *behind;
-    struct post *post;
-};
-
-struct buffer {
-    char *at;
-    size_t length, room;
+/* A move, and what it is replied: nothing, if the coordinator is gone. */
+struct move {
+    struct move *next;
+    pthread_cond_t woken;
+    bool is_alone; /* no other may stand on its line */
+    bool decides; /* it is replied once the log is written */
+    bool ends_line, is_here, is_waited_for;
+    char text[MOVE], reply[REPLY];
 };
 
 /* Any thread may post and wait: whichever waits reads what has come. All is under the lock. */
@@ -41,47 +31,22 @@ struct coordinator {
     struct process process;
     double patience; /* after so many seconds without a reply that is due it counts as gone */
     atomic_bool is_gone;
-    bool is_read, is_written, is_deciding, is_silent, is_traced;
-    struct buffer out, spare, in;
-    struct post *first, **last;
-    struct wish *wishes, **last_wish;
+    bool is_read, is_written, is_silent, is_traced;
+    struct move *posted, *sent; /* that wait to be sent, and for their replies, the oldest first */
+    unsigned sent_count, deciding; /* and how many of these decide */
+    size_t read; /* bytes of `in` */
+    char in[LINE], out[LINE];
 };
 
-/* Starts the program, and gives the line that it greets with (`restarted ..`), to be freed; NULL if
- * there is none. It is ended then, too. */
-char *coordinator_start(struct coordinator *, char *const words[], pthread_cond_t *);
-
-/* Puts a line on its way: it is written with the next that is waited for. A post that is nobody's
- * is freed when the reply is there. There is none if the session is over. */
-void coordinator_post(struct coordinator *, struct post *, unsigned session, const char *requests);
-void coordinator_flush(struct coordinator *);
-
-/* Asks for a decision to commit, by one request with those that other threads ask for meanwhile.
- * The post is that of the line behind it. */
-void coordinator_decide(struct coordinator *, struct wish *);
-
-/* Waits until the reply to a post is there, or the coordinator is gone. */
-void coordinator_wait(struct coordinator *, struct post *, pthread_cond_t *);
-
-/* Whether a reply says that its request was done. */
-bool is_done(const struct post *);
-/* Whether it is the reply of what was asked: else the lines are out of step. */
-bool is_in_step(const struct post *);
-
+/* Starts the program, which greets by the reply to this move (`restarted ..`). False if it can't
+ * be started. */
+bool coordinator_start(struct coordinator *, char *const words[], struct move *);
+/* Puts a move on its way, unless the session is over. */
+void coordinator_post(struct coordinator *, struct move *, unsigned session);
+/* Waits until the reply is there, or the coordinator is gone. */
+void coordinator_wait(struct coordinator *, struct move *);
 /* Sees that the process has ended, and gives what it printed of errors. */
 void coordinator_end(struct coordinator *, char *said, size_t room);
-
 /* Has a session be over, unless it is. */
 void coordinator_lose(struct coordinator *, unsigned session);
-
-/* ** of lines.c, for decisions.c; the lock is held */
-
-void arrive(struct post *);
-void add(struct coordinator *, const char *text);
-/* The line that was added has this post. */
-void enqueue(struct coordinator *, struct post *);
-void lose(struct coordinator *);
-/* Decides what was asked for until now, by one request: the log is written once for all of it. Each
- * line behind it is refused if the decision is. */
-void decide_next(struct coordinator *);
 #endif

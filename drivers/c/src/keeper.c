@@ -1,180 +1,189 @@
-/* The keeper: a thread that begins and ends the sessions, and recovers the resource managers. */
-#include <errno.h>
-#include <stdarg.h>
+/* The keeper: a thread that begins and ends the sessions, and has the resource managers
+ * recovered. It is the coordinator's thread 0. */
 #include <stdio.h>
-#include <stdlib.h>
 #include <string.h>
+#include <sys/stat.h>
 
-#include "databases.h"
+#include "../beside/databases.h"
+#include "garterfossil.h"
 #include "session.h"
 
-struct thread *keeper;
+enum { SAID = 512 };
 
-enum seen ask(const char *format, ...)
-{
-    char request[XID_TEXT + 128];
-    va_list words;
-
-    va_start(words, format);
-    vsnprintf(request, sizeof request, format, words);
-    va_end(words);
-    say(keeper, "%s", request);
-    return see(keeper);
-}
+static struct timespec tried[MOST_RMS]; /* in vain: not before this moment again */
 
 /* ** the coordinator's start */
 
-/* The words of its command line, as docs/SERVE.md has them. */
+/* The words of its command line (docs/MOVES.md). */
 struct command {
-    char *words[12 + 2 * MOST_RMS], threads[12], rms[12];
+    const char *words[16 + 2 * MOST_RMS];
+    char at_least[24], threads[12], rms[12];
 };
 
-static void set_command(struct command *to)
+static char *const *command_of(struct command *it)
 {
-    static char serve[] = "serve", name[] = "--name", rm_[] = "--rm", log_[] = "--log";
-    char **word = to->words;
+    const char *before[] = {settings.program, "serve", "--moves", "--at-least", it->at_least, "--log", settings.log};
+    size_t count = sizeof before / sizeof before[0];
 
-    *word++ = settings.program;
-    *word++ = serve;
+    snprintf(it->at_least, sizeof it->at_least, "%ld", last_incarnation());
+    snprintf(it->threads, sizeof it->threads, "%d", settings.threads + 1);
+    snprintf(it->rms, sizeof it->rms, "%d", settings.rms);
+    memcpy(it->words, before, sizeof before);
     if (settings.name[0] != '\0') {
-        *word++ = name;
-        *word++ = settings.name;
+        it->words[count++] = "--name";
+        it->words[count++] = settings.name;
     }
     for (int rm = 0; rm < settings.rms; rm++) {
-        *word++ = rm_;
-        *word++ = settings.rm[rm].name;
+        it->words[count++] = "--rm";
+        it->words[count++] = settings.rm[rm].name;
     }
-    snprintf(to->threads, sizeof to->threads, "%d", settings.threads + 1);
-    snprintf(to->rms, sizeof to->rms, "%d", settings.rms);
-    *word++ = log_;
-    *word++ = settings.log;
-    *word++ = to->threads;
-    *word++ = to->rms;
-    *word = NULL;
+    it->words[count++] = it->threads;
+    it->words[count++] = it->rms;
+    it->words[count] = NULL;
+    return (char *const *)it->words;
 }
 
-/* Why it didn't start. One that was killed says nothing, and while another process has the log, it
- * may be free in a moment: then it is started again. */
-static void note_failed_start(enum seen seen)
-{
-    char said[512];
-    bool was_started = coordinator.process.lines >= 0;
-
-    if (!was_started) {
-        fail("%s can't be started", settings.program);
-        return;
-    }
-    coordinator_end(&coordinator, said, sizeof said);
-    said[strcspn(said, "\n")] = '\0';
-    bool may_start_later = said[0] == '\0' || (strncmp(said, "xatm: ", 6) == 0 && strncmp(said, "xatm: log: ", 11) != 0);
-    if (seen == REFUSED || !may_start_later)
-        fail("%s doesn't start, or isn't of this version: %s", settings.program, said);
-    else if (said[0] != '\0')
-        hinder("the coordinator doesn't start: %s", said);
-}
-
-/* `restarted <incarnation> <decisions> <heuristics>`: notes the incarnation. False if it isn't
- * so. */
-static bool is_greeted(const char *greeting)
+/* `restarted <incarnation> <decisions> <heuristics>`: the incarnation, 0 if it isn't so. */
+static long incarnation_in(const char *greeting)
 {
     long incarnation = 0;
     int end = 0;
 
-    if (greeting == NULL || sscanf(greeting, "restarted %ld %*u %*u%n", &incarnation, &end) != 1 || greeting[end] != '\0'
-        || incarnation < 1)
-        return false;
-    if (incarnation != all.incarnation + 1)
-        all.first_of_own = incarnation;
-    all.incarnation = incarnation;
-    return true;
+    bool is_right = sscanf(greeting, "restarted %ld %*u %*u%n", &incarnation, &end) == 1 && end > 0 && greeting[end] == '\0';
+    return is_right && incarnation > 0 ? incarnation : 0;
+}
+
+/* One that was killed says nothing, and while another process has the log, it may be free in a
+ * moment: then it is started again (docs/SERVE.md has what it says). */
+static bool may_start_later(const char *said)
+{
+    return said[0] == '\0' || (strncmp(said, "xatm: ", 6) == 0 && strncmp(said, "xatm: log: ", 11) != 0);
+}
+
+static void end_coordinator(char said[SAID])
+{
+    coordinator_end(&coordinator, said, SAID);
+    said[strcspn(said, "\n")] = '\0';
 }
 
 /* False if it doesn't start; for ever, if what it said says so. */
 static bool is_coordinator_started(void)
 {
     struct command command;
+    char said[SAID];
 
-    set_command(&command);
-    char *greeting = coordinator_start(&coordinator, command.words, &keeper->wake);
-    bool is_up = is_greeted(greeting);
-    free(greeting);
+    if (!coordinator_start(&coordinator, command_of(&command), &me->move)) {
+        note_fault(true, "%s can't be started", settings.program);
+        return false;
+    }
     lock();
-    keeper->session = coordinator.session;
+    me->session = coordinator.session;
     unlock();
-    enum seen seen = is_up ? ask("status;status") : GONE;
-    if (seen == DONE)
+    long incarnation = incarnation_in(me->move.reply);
+    if (incarnation > 0) {
+        meet_incarnation(incarnation);
         return true;
-    note_failed_start(seen);
+    }
+    end_coordinator(said);
+    if (said[0] != '\0')
+        note_fault(!may_start_later(said), "%s doesn't start, or isn't of this version: %s", settings.program, said);
     return false;
+}
+
+/* Whether the log isn't lost, as far as that can be known before the coordinator starts: a new one
+ * is only made if it is the first, and nothing of its name is listed. */
+static bool may_begin(void)
+{
+    struct stat it;
+
+    if (shut_because()[0] != '\0') {
+        note_fault(true, "%s. Look at it, and then remove the line \"shut\" from %s-databases", shut_because(), settings.log);
+        return false;
+    }
+    return (stat(settings.log, &it) == 0 && it.st_size > 0) || last_incarnation() > 0 || may_be_made();
 }
 
 /* ** sessions */
 
-static void close_lines(void)
+/* What became of the transactions whose decision was under way as the last session ended. */
+static void tell_fates(void)
 {
-    for (int rm = 0; rm < settings.rms; rm++)
-        close_line(keeper, rm);
-    keeper->kept = 0;
+    char gtrid[GTRID];
+
+    for (int i = 1; i <= settings.threads; i++) {
+        lock();
+        struct thread *it = all.threads[i];
+        bool is_awaited = it != NULL && it->fate == AWAITED;
+        if (is_awaited)
+            memcpy(gtrid, it->gtrid, GTRID);
+        unlock();
+        const char *reply = is_awaited ? ask("fate %s", gtrid) : "";
+        if (reply[0] == '\0')
+            continue;
+        lock();
+        if (it->fate == AWAITED && strcmp(it->gtrid, gtrid) == 0)
+            it->fate = is_reply(reply, "committed") ? COMMITTED : is_reply(reply, "rolled-back") ? ROLLED_BACK : UNKNOWN;
+        pthread_cond_broadcast(&all.changed);
+        unlock();
+    }
 }
 
-static void end_session(void)
+static void recover(int rm)
 {
-    char said[512];
+    if (is_recovered(rm))
+        return;
+    lose_line(rm);
+    tried[rm] = in_seconds(1);
+}
+
+/* What is due by now: the coordinator names it. That it is asked lets rows leave its log, too. */
+static void recover_due(void)
+{
+    int rms[MOST_RMS], count;
 
     lock();
-    all.session = 0;
-    post_rows();
+    all.is_owed = false;
     unlock();
-    ask("quit");
-    coordinator_end(&coordinator, said, sizeof said);
-    if (said[0] != '\0')
-        warn(said, "");
+    count = named_in(ask("due"), rms);
+    for (int i = 0; i < count; i++)
+        if (is_past(&tried[rms[i]]))
+            recover(rms[i]);
 }
 
-/* What became of a decision whose reply never came: the rows say it, before anything is recovered.
- * If another process had the log in between, it may have ended the transaction, and that there is
- * no row says nothing. */
-static enum outcome outcome_by_rows(const char *gtrid)
-{
-    if (is_owed(gtrid))
-        return COMMITTED;
-    return incarnation_of(gtrid) >= all.first_of_own ? ROLLED_BACK : UNKNOWN;
-}
-
-static void tell_outcomes(void)
-{
-    lock();
-    for (struct thread *t = all.threads; t != NULL; t = t->next)
-        if (t->is_expecting && t->outcome == UNKNOWN)
-            t->outcome = outcome_by_rows(t->gtrid);
-    pthread_cond_broadcast(&all.changed);
-    unlock();
-}
-
-/* A session begins with the recovery of each resource manager that can be reached. */
+/* Each resource manager is recovered that can be reached. */
 static void begin_session(void)
 {
-    close_lines();
+    lose_lines();
     if (!may_begin() || !is_coordinator_started()) {
         if (!has_failed())
             pause_for(0.1);
         return;
     }
-    bool is_up = is_log_current() && read_owed();
-    if (is_up) {
-        tell_outcomes();
-        for (int rm = 0; rm < settings.rms; rm++)
-            recover(rm);
-        lock();
-        is_up = !coordinator.is_gone && !all.has_failed;
-        all.session = is_up ? coordinator.session : 0;
-        pthread_cond_broadcast(&all.changed);
-        unlock();
-    }
-    if (!is_up) {
-        end_session();
+    if (!save_databases())
+        note_fault(true, "%s", gf_error());
+    tell_fates();
+    for (int rm = 0; rm < settings.rms; rm++)
+        recover(rm);
+    lock();
+    bool is_up = !coordinator.is_gone && !all.has_failed;
+    all.session = is_up ? coordinator.session : 0;
+    pthread_cond_broadcast(&all.changed);
+    unlock();
+    if (!is_up)
         pause_for(0.1);
-    }
+}
+
+static void end_session(void)
+{
+    char said[SAID];
+
+    lock();
+    all.session = 0;
+    unlock();
+    ask("quit");
+    end_coordinator(said);
+    if (said[0] != '\0')
+        warn(said, "");
 }
 
 /* Looks after the session that is up, or begins the next. */
@@ -185,37 +194,31 @@ static void keep_up(void)
     unlock();
     if (!is_up && coordinator.process.lines >= 0)
         end_session();
-    if (!is_up && !has_failed())
+    if (is_up)
+        recover_due();
+    else if (!has_failed())
         begin_session();
-    for (int rm = 0; is_up && rm < settings.rms; rm++)
-        if (is_due(rm))
-            recover(rm);
-}
-
-/* What is owed is tried once more. */
-static void close_session(void)
-{
-    for (int rm = 0; all.session != 0 && rm < settings.rms; rm++)
-        if (is_due(rm))
-            recover(rm);
-    if (coordinator.process.lines >= 0)
-        end_session();
-    close_lines();
 }
 
 void *keep(void *unused)
 {
     (void)unused;
+    me = all.threads[0];
     lock();
     while (!all.is_ending) {
         unlock();
         keep_up();
         struct timespec until = in_seconds(1);
         lock();
-        if (!all.is_ending && (all.session != 0 || all.has_failed) && !is_any_due())
+        if (!all.is_ending && !all.is_owed && (all.session != 0 || all.has_failed))
             pthread_cond_timedwait(&all.changed, &all.lock, &until);
     }
+    bool is_up = all.session != 0;
     unlock();
-    close_session();
+    if (is_up)
+        recover_due();
+    if (coordinator.process.lines >= 0)
+        end_session();
+    close_lines();
     return NULL;
 }

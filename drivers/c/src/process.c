@@ -8,7 +8,6 @@
 #include <spawn.h>
 #include <sys/socket.h>
 #include <sys/syscall.h>
-#include <sys/types.h>
 #include <sys/wait.h>
 #include <unistd.h>
 
@@ -49,83 +48,64 @@ static pid_t spawn(char *const words[], int lines, int errors)
 
 bool process_start(struct process *p, char *const words[])
 {
-    int lines[2], errors[2];
+    int lines[2] = {-1, -1}, errors[2] = {-1, -1};
+    pid_t pid = -1;
 
-    if (socketpair(AF_UNIX, SOCK_STREAM | SOCK_CLOEXEC, 0, lines) != 0)
-        return false;
-    if (pipe2(errors, O_CLOEXEC | O_NONBLOCK) != 0) {
-        close(lines[0]);
-        close(lines[1]);
-        return false;
-    }
-    pid_t pid = spawn(words, lines[1], errors[1]);
+    if (socketpair(AF_UNIX, SOCK_STREAM | SOCK_CLOEXEC, 0, lines) == 0 && pipe2(errors, O_CLOEXEC | O_NONBLOCK) == 0)
+        pid = spawn(words, lines[1], errors[1]);
     close(lines[1]);
     close(errors[1]);
-    if (pid < 0) {
-        close(lines[0]);
-        close(errors[0]);
-        return false;
-    }
-    *p = (struct process){.pid = pid, .handle = (int)syscall(SYS_pidfd_open, pid, 0), .lines = lines[0], .errors = errors[0]};
-    return true;
-}
-
-/* Also if it was waited for by another part of the program. */
-static bool has_ended(const struct process *p)
-{
-    struct pollfd it = {.fd = p->handle, .events = POLLIN};
-
-    return p->handle >= 0 ? poll(&it, 1, 0) > 0 : waitpid(p->pid, NULL, WNOHANG) != 0;
-}
-
-static void wait_until(const struct process *p, const struct timespec *until)
-{
-    struct pollfd it = {.fd = p->handle, .events = POLLIN};
-
-    while (!has_ended(p) && (until == NULL || !is_past(until)))
-        poll(&it, 1, 10);
-}
-
-static void kill_it(const struct process *p)
-{
-    if (p->handle >= 0)
-        syscall(SYS_pidfd_send_signal, p->handle, SIGKILL, NULL, 0);
+    *p = (struct process){.handle = -1, .lines = lines[0], .errors = errors[0]};
+    if (pid > 0)
+        p->handle = (int)syscall(SYS_pidfd_open, pid, 0);
     else
-        kill(p->pid, SIGKILL);
+        process_forget(p);
+    return pid > 0;
+}
+
+/* Reads what it prints of errors until it has ended, which closes them. False if it takes
+ * longer. */
+static bool has_ended(const struct process *p, double patience, char *said, size_t room)
+{
+    struct timespec until = in_seconds(patience);
+    struct pollfd it = {.fd = p->errors, .events = POLLIN};
+    size_t length = 0;
+    char more[512];
+    ssize_t count;
+
+    while ((count = read(p->errors, more, sizeof more)) != 0) {
+        for (ssize_t i = 0; i < count && length + 1 < room; i++)
+            said[length++] = more[i];
+        said[length] = '\0';
+        if (count < 0 && is_past(&until))
+            return false;
+        if (count < 0)
+            poll(&it, 1, 10);
+    }
+    return true;
 }
 
 void process_end(struct process *p, double patience, char *said, size_t room)
 {
-    struct timespec until = in_seconds(patience);
-    size_t length = 0;
-    ssize_t count;
     siginfo_t how;
+    char more[2];
 
+    said[0] = '\0';
     close(p->lines); /* its end of input */
-    wait_until(p, &until);
-    if (!has_ended(p)) {
-        kill_it(p);
-        wait_until(p, NULL);
+    p->lines = -1;
+    if (!has_ended(p, patience, said, room)) {
+        syscall(SYS_pidfd_send_signal, p->handle, SIGKILL, NULL, 0);
+        has_ended(p, patience, more, sizeof more);
     }
-    if (p->handle >= 0) {
-        while (waitid((idtype_t)BY_HANDLE, (id_t)p->handle, &how, WEXITED) != 0 && errno == EINTR)
-            ;
-        close(p->handle);
-    }
-    while (length + 1 < room && (count = read(p->errors, said + length, room - 1 - length)) > 0)
-        length += (size_t)count;
-    said[length] = '\0';
-    close(p->errors);
-    *p = (struct process){.handle = -1, .lines = -1, .errors = -1};
+    while (waitid((idtype_t)BY_HANDLE, (id_t)p->handle, &how, WEXITED) != 0 && errno == EINTR)
+        ;
+    process_forget(p);
 }
 
 void process_forget(struct process *p)
 {
-    if (p->lines >= 0) {
-        close(p->lines);
-        close(p->errors);
-    }
-    if (p->handle >= 0)
-        close(p->handle);
+    close(p->lines);
+    close(p->errors);
+    close(p->handle);
     *p = (struct process){.handle = -1, .lines = -1, .errors = -1};
 }

@@ -3,13 +3,11 @@
 #define PROCESS_H
 #include <stdbool.h>
 #include <stddef.h>
-#include <sys/types.h>
 
 /* The handle is the system's own of this process. So no other is meant, even if the program waits
  * for all its children itself and their numbers are given out again. */
 struct process {
-    pid_t pid;
-    int handle, lines, errors; /* -1 if there is none: a system before Linux 5.3 has no handles */
+    int handle, lines, errors; /* -1 if there is none */
 };
 
 /* Its lines are a socket: a write to one that has ended can be kept from ending the program

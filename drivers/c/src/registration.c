@@ -1,7 +1,5 @@
 /* What a resource manager calls to register a branch dynamically (C193, chapter 4). */
-#include <pthread.h>
-
-#include "transaction.h"
+#include "session.h"
 
 /* A thread that is cancelled is so behind it: it may write what others wait for. */
 static void begin_branch(int rm)
@@ -9,9 +7,7 @@ static void begin_branch(int rm)
     int before;
 
     pthread_setcancelstate(PTHREAD_CANCEL_DISABLE, &before);
-    note_branch(rm);
-    post(me);
-    coordinator_flush(&coordinator);
+    join_later(rm);
     pthread_setcancelstate(before, &before);
 }
 
@@ -26,7 +22,7 @@ API int ax_reg(int rmid, XID *xid, long flags)
         *xid = (XID){.formatID = -1};
         return TM_OK;
     }
-    if (is_session_over(me))
+    if (is_session_over())
         return TMER_TMERR;
     me->line[rmid].xid = *xid = xid_of(me->gtrid, me->number, rmid);
     begin_branch(rmid);

@@ -1,13 +1,12 @@
 /* What the threads of the program ask of the session. */
 #include "session.h"
 
-#include <errno.h>
 #include <signal.h>
 #include <stdarg.h>
 #include <stdio.h>
-#include <string.h>
+#include <stdlib.h>
 
-#include "databases.h"
+#include "../beside/databases.h"
 #include "garterfossil.h"
 
 struct all all = {.lock = PTHREAD_MUTEX_INITIALIZER};
@@ -27,7 +26,7 @@ void warn(const char *what, const char *more)
     fprintf(stderr, "garterfossil: %s%s\n", what, more);
 }
 
-void hinder(const char *format, ...)
+void note_fault(bool is_final, const char *format, ...)
 {
     va_list words;
 
@@ -35,51 +34,54 @@ void hinder(const char *format, ...)
     va_start(words, format);
     vsnprintf(all.fault, sizeof all.fault, format, words);
     va_end(words);
-    unlock();
-}
-
-void fail(const char *format, ...)
-{
-    va_list words;
-
-    lock();
-    va_start(words, format);
-    vsnprintf(all.fault, sizeof all.fault, format, words);
-    va_end(words);
-    all.has_failed = true;
+    all.has_failed = is_final;
     pthread_cond_broadcast(&all.changed);
     unlock();
-    warn(all.fault, "");
+    if (is_final)
+        warn(all.fault, "");
+}
+
+/* Waits until something has changed: false if it takes longer. */
+static bool is_changed(const struct timespec *until)
+{
+    return pthread_cond_timedwait(&all.changed, &all.lock, until) == 0;
 }
 
 /* ** threads come and go */
 
-static bool is_keeper_made(void)
+static void set_up_clock(void)
 {
     pthread_condattr_t monotonic;
 
-    if (keeper != NULL)
-        return true;
-    keeper = thread_new();
-    if (keeper == NULL)
-        return false;
     pthread_condattr_init(&monotonic);
     pthread_condattr_setclock(&monotonic, CLOCK_MONOTONIC);
     pthread_cond_init(&all.changed, &monotonic);
     pthread_condattr_destroy(&monotonic);
-    return true;
+}
+
+/* The thread of this number, for whoever has it. NULL if there is no memory. */
+static struct thread *thread_of(unsigned number)
+{
+    struct thread *it = all.threads[number];
+
+    if (it == NULL && (it = calloc(1, sizeof *it)) != NULL) {
+        pthread_cond_init(&it->move.woken, NULL);
+        it->number = number;
+        all.threads[number] = it;
+    }
+    if (it == NULL)
+        explain("no memory");
+    return it;
 }
 
 static bool is_keeper_started(void)
 {
+    static pthread_once_t once = PTHREAD_ONCE_INIT;
     sigset_t every, before;
 
-    if (!read_databases())
+    if (!read_databases() || thread_of(0) == NULL)
         return false;
-    if (!is_keeper_made()) {
-        explain("no memory");
-        return false;
-    }
+    pthread_once(&once, set_up_clock);
     coordinator.is_traced = settings.is_traced;
     coordinator.patience = settings.patience;
     all.has_failed = false;
@@ -94,52 +96,48 @@ static bool is_keeper_started(void)
     return all.is_kept;
 }
 
-/* Gives the thread a number. False if there is none, or no keeper. */
-static bool is_counted_in(struct thread *t)
+/* A thread of a number that is free. NULL if there is none, or no keeper. */
+static struct thread *taken(void)
 {
     unsigned number = 1;
 
     while (all.is_ending)
         pthread_cond_wait(&all.changed, &all.lock);
-    while (number <= (unsigned)settings.threads && all.is_taken[number])
+    while (number <= (unsigned)settings.threads && all.threads[number] != NULL && all.threads[number]->is_taken)
         number++;
     if (number > (unsigned)settings.threads) {
         explain("all %d threads of the settings are in use", settings.threads);
-        return false;
+        return NULL;
     }
-    if (!all.is_kept && !is_keeper_started())
-        return false;
-    all.is_taken[number] = true;
-    t->number = number;
-    t->next = all.threads;
-    all.threads = t;
-    return true;
+    struct thread *it = thread_of(number);
+    if (it == NULL || (!all.is_kept && !is_keeper_started()))
+        return NULL;
+    it->is_taken = true;
+    it->info = (TXINFO){.xid = {.formatID = -1}};
+    all.open++;
+    return it;
 }
 
-int session_join(struct thread *t)
+int session_join(void)
 {
     lock();
-    bool is_in = is_counted_in(t);
+    me = taken();
     unlock();
-    if (!is_in)
+    if (me == NULL)
         return TX_ERROR;
-    t->session = session_now();
-    if (t->session != 0)
+    if (is_session_met())
         return TX_OK;
     int result = has_failed() ? TX_FAIL : TX_ERROR;
-    session_leave(t);
+    session_leave();
     return result;
 }
 
-void session_leave(struct thread *t)
+void session_leave(void)
 {
     lock();
-    struct thread **link = &all.threads;
-    while (*link != t)
-        link = &(*link)->next;
-    *link = t->next;
-    all.is_taken[t->number] = false;
-    if (all.threads == NULL) {
+    me->is_taken = false;
+    me = NULL;
+    if (--all.open == 0) {
         all.is_ending = true;
         pthread_cond_broadcast(&all.changed);
         unlock();
@@ -153,18 +151,22 @@ void session_leave(struct thread *t)
 
 /* ** whether it is up */
 
-unsigned session_now(void)
+bool is_session_met(void)
 {
     struct timespec until = in_seconds(settings.patience);
 
     lock();
-    while (all.session == 0 && !all.has_failed && pthread_cond_timedwait(&all.changed, &all.lock, &until) == 0)
+    while (all.session == 0 && !all.has_failed && is_changed(&until))
         ;
-    unsigned session = all.session;
-    if (session == 0)
+    bool is_up = all.session != 0;
+    if (is_up && me->session != all.session) {
+        me->session = all.session;
+        me->gtrid[0] = '\0';
+    }
+    if (!is_up)
         explain("%s", all.fault);
     unlock();
-    return session;
+    return is_up;
 }
 
 bool has_failed(void)
@@ -175,65 +177,53 @@ bool has_failed(void)
     return is_so;
 }
 
-bool is_session_over(const struct thread *t)
+bool is_session_over(void)
 {
     lock();
-    bool is_over = all.session != t->session || coordinator.is_gone;
+    bool is_over = all.session != me->session || coordinator.is_gone;
     unlock();
     return is_over;
 }
 
-void note_over(const struct thread *t)
+void note_over(void)
 {
     lock();
-    if (all.session == t->session)
+    if (all.session == me->session)
         all.session = 0;
     pthread_cond_broadcast(&all.changed);
     unlock();
 }
 
-/* ** transactions */
-
-void note_begun(struct thread *t, const char *gtrid)
+void note_owed(void)
 {
     lock();
-    memcpy(t->gtrid, gtrid, GTRID);
+    all.is_owed = true;
+    pthread_cond_broadcast(&all.changed);
     unlock();
 }
 
-void note_ended(struct thread *t, bool is_rolled_back, bool has_row)
+/* ** what became of a transaction */
+
+void set_fate(enum fate fate)
 {
     lock();
-    if (has_row && t->session == all.session)
-        add_row(t->gtrid);
-    unsigned long place = all.ended_count++ % KNOWN;
-    memcpy(all.ended[place].gtrid, t->gtrid, GTRID);
-    all.ended[place].is_rolled_back = is_rolled_back;
-    t->gtrid[0] = '\0';
-    t->is_expecting = false;
+    me->fate = fate;
     unlock();
 }
 
-void expect(struct thread *t)
+enum fate awaited_fate(void)
 {
-    lock();
-    t->is_expecting = true;
-    t->outcome = UNKNOWN;
-    unlock();
-}
-
-enum outcome outcome_of(struct thread *t)
-{
-    static const char *const words[] = {"ended everywhere alike, it isn't known how", "committed", "rolled back"};
+    static const char *const words[] = {"ended everywhere alike, it isn't known how", "", "committed", "rolled back"};
     struct timespec until = in_seconds(settings.patience);
 
-    note_over(t);
     lock();
-    while (t->outcome == UNKNOWN && !all.has_failed && pthread_cond_timedwait(&all.changed, &all.lock, &until) == 0)
+    while (me->fate == AWAITED && !all.has_failed && is_changed(&until))
         ;
-    enum outcome outcome = t->outcome;
+    if (me->fate == AWAITED)
+        me->fate = UNKNOWN;
+    enum fate fate = me->fate;
     unlock();
-    explain("the coordinator ended as it was to decide: the transaction is %s", words[outcome]);
+    explain("the coordinator ended as it was to decide: the transaction is %s", words[fate]);
     warn(gf_error(), "");
-    return outcome;
+    return fate;
 }

@@ -32,6 +32,13 @@ API const char *gf_error(void)
     return reason;
 }
 
+/* Says what is wrong with the file: false. */
+static bool wrong(const char *name, const char *why)
+{
+    explain("%s: %s%s", read_from, name, why);
+    return false;
+}
+
 static bool is_copied(char *to, size_t room, const char *text)
 {
     return (size_t)snprintf(to, room, "%s", text) < room;
@@ -52,10 +59,8 @@ static bool is_loaded(struct rm *rm, const char *library, const char *symbol)
     char beside[160];
 
     rm->xa = object == NULL ? NULL : dlsym(object, symbol);
-    if (rm->xa == NULL) {
-        explain("%s: rm %s: %s", read_from, rm->name, dlerror());
-        return false;
-    }
+    if (rm->xa == NULL)
+        return wrong("", dlerror());
     snprintf(beside, sizeof beside, "%s_identity", symbol);
     /* (C has no conversion from an object to a function.) */
     *(void **)&rm->identity = dlsym(object, beside);
@@ -69,21 +74,15 @@ static bool is_rm(const char *line, bool is_embedded)
     struct rm *rm = &settings.rm[settings.rms];
     int info = 0;
 
-    if (settings.rms == MOST_RMS || sscanf(line, "%64s %255s %127s %n", rm->name, library, symbol, &info) != 3 || info == 0) {
-        explain("%s: rm: it takes a name, a library, a symbol, and what xa_open takes", read_from);
-        return false;
-    }
-    if (rm_of(rm->name) != NULL) {
-        explain("%s: rm %s: there are two of this name", read_from, rm->name);
-        return false;
-    }
-    if (!is_copied(rm->open, sizeof rm->open, line + info)) {
-        explain("%s: rm %s: what xa_open takes has at most %d bytes", read_from, rm->name, MAXINFOSIZE - 1);
-        return false;
-    }
+    if (settings.rms == MOST_RMS || sscanf(line, "%64s %255s %127s %n", rm->name, library, symbol, &info) != 3 || info == 0)
+        return wrong("rm", ": it takes a name, a library, a symbol, and what xa_open takes");
+    if (rm_of(rm->name) != NULL)
+        return wrong(rm->name, ": there are two of this name");
+    if (!is_copied(rm->open, sizeof rm->open, line + info))
+        return wrong(rm->name, ": what xa_open takes has at most 255 bytes");
+    rm->is_embedded = is_embedded;
     if (!is_loaded(rm, library, symbol))
         return false;
-    rm->is_embedded = is_embedded;
     settings.rms++;
     return true;
 }
@@ -95,11 +94,8 @@ static bool is_close(const char *line)
     int info = 0;
     bool is_right = sscanf(line, "%64s %n", name, &info) == 1 && info > 0 && rm_of(name) != NULL;
 
-    if (!is_right || !is_copied(rm_of(name)->close, MAXINFOSIZE, line + info)) {
-        explain("%s: close: it takes the name of an rm that stands before it, and what xa_close takes", read_from);
-        return false;
-    }
-    return true;
+    return (is_right && is_copied(rm_of(name)->close, MAXINFOSIZE, line + info))
+        || wrong("close", ": it takes the name of an rm that stands before it, and what xa_close takes");
 }
 
 static bool is_number(const char *text, double *number, double least, double most)
@@ -157,8 +153,7 @@ static bool is_read(char *line)
         if (is_set(word, value))
             return true;
     }
-    explain("%s: no such setting: %s", read_from, line);
-    return false;
+    return wrong("no such setting: ", line);
 }
 
 static bool is_file_read(void)
@@ -177,11 +172,7 @@ static bool is_file_read(void)
     while (is_right && fgets(line, sizeof line, file) != NULL)
         is_right = is_read(line);
     fclose(file);
-    if (is_right && (settings.log[0] == '\0' || settings.rms == 0)) {
-        explain("%s: it names no log, or no rm", read_from);
-        return false;
-    }
-    return is_right;
+    return is_right && ((settings.log[0] != '\0' && settings.rms > 0) || wrong("", "it names no log, or no rm"));
 }
 
 bool read_settings(void)

@@ -1,9 +1,6 @@
-/* A thread of the coordinator: what it asks, and the calls that it makes at the resource
- * managers. */
+/* The calling thread: its moves, its lines to the resource managers, and its transaction. */
 #ifndef THREAD_H
 #define THREAD_H
-#include <pthread.h>
-#include <stdbool.h>
 #include <time.h>
 #include <tx.h>
 
@@ -11,90 +8,86 @@
 #include "settings.h"
 #include "xid.h"
 
-enum {
-    LINE = 65536, /* of a line of requests, at most */
-    POSTS = 8
-};
-
-/* The branch of the thread's transaction at a resource manager, and the line to that. */
+/* The line to a resource manager, and the branch of the transaction there. */
 struct line {
-    bool is_open; /* the thread has opened the resource manager */
-    bool is_known; /* and the coordinator knows */
-    bool is_local; /* it registered outside of a transaction */
-    bool is_voting; /* xa_end and xa_prepare were issued */
-    bool was_asked; /* xa_prepare was made */
-    enum stage { NONE, ACTIVE, ENDED, PREPARED, OVER, LEFT } stage; /* LEFT to the keeper */
+    bool is_open, is_local; /* it registered outside of a transaction */
+    enum stage { NONE, ACTIVE, ENDED, ASKED } stage; /* ASKED to prepare it, or to commit it at once */
     int handle, code;
-    int vote; /* what xa_end returned, if that is a rollback */
+    int refused; /* by xa_end: what it returned, if it was to be rolled back then */
     XID xid;
 };
 
-enum outcome { UNKNOWN, COMMITTED, ROLLED_BACK };
-enum seen { DONE, REFUSED, GONE };
+/* What became of a transaction whose outcome the coordinator never told. */
+enum fate { UNKNOWN, AWAITED, COMMITTED, ROLLED_BACK };
 
 struct thread {
-    struct thread *next; /* of those that have joined */
-    unsigned number, session; /* its number at the coordinator; the session in which it asks */
-    pthread_cond_t wake;
-    struct post posts[POSTS]; /* what was posted and not looked at, in that order */
-    int due;
-    enum seen overdue; /* what was seen of those that were too many */
-    char *reply; /* the last that was looked at */
-    int done; /* and how many requests of its line were done before it */
-    size_t kept; /* bytes of requests that are to be posted */
-    char requests[LINE];
-
+    unsigned number, session; /* its number at the coordinator; the session in which it moves */
+    bool is_taken; /* somebody has it */
+    struct move move;
+    bool is_moving; /* its reply is yet to be looked at */
     bool is_in_transaction;
-    char gtrid[GTRID], ahead[GTRID]; /* the transaction; the next, if it was begun ahead */
-    bool is_expecting; /* the reply to its decision */
-    enum outcome outcome;
+    char gtrid[GTRID]; /* that has begun in the session: its transaction, or the next one */
+    enum fate fate;
     TXINFO info;
     bool has_deadline;
     struct timespec deadline;
     struct line line[MOST_RMS];
 };
 
+/* NULL if it hasn't called tx_open. */
+extern _Thread_local struct thread *me;
 extern struct coordinator coordinator;
-struct thread *thread_new(void);
-void thread_free(struct thread *);
 
-/* ** requests: thread.c */
+/* ** moves: moves.c */
 
-/* Keeps requests for the next post, with a `;` before them if others are kept. */
-void say(struct thread *, const char *format, ...) LIKE_PRINTF(2, 3);
-/* One word more of the request that was said last: a page has at most 32 identifiers. */
-void say_more(struct thread *, const char *word);
-/* Posts what is kept, as a line. */
-void post(struct thread *);
-/* Posts what is kept, and waits for the replies to all that was posted. DONE if all of it was done;
- * `reply` is the last then, and else that to the first request that wasn't. */
-enum seen see(struct thread *);
-/* The same of a decision to commit the transaction, with what is kept in the line behind it.
- * REFUSED only if it isn't decided. */
-enum seen decide(struct thread *);
-/* Nobody knows how the coordinator stands: the session is over, and the next one finds out. */
-enum seen lose_session(struct thread *, const char *why);
+/* Makes the next move, and doesn't wait for the reply. */
+void move(bool decides, const char *format, ...) LIKE_PRINTF(2, 3);
+/* The reply to the last move; "" if the coordinator is gone, or said that it can't be. */
+const char *replied(void);
+/* The reply to one that has a line of its own. */
+const char *ask(const char *format, ...) LIKE_PRINTF(1, 2);
+/* Whether a reply begins with the word; the resource managers that it names behind that: how
+ * many. */
+bool is_reply(const char *reply, const char *word);
+int named_in(const char *reply, int rms[MOST_RMS]);
+/* The coordinator is out of step: its session is over. Gives "". */
+const char *lose_session(const char *why);
 
 /* ** calls: calls.c */
 
-/* Opens a resource manager, unless the thread has. False if it can't be, or is another database
- * than the log's. */
-bool is_rm_open(struct thread *, int rm);
-/* Begins a call at the resource manager, or makes it if that takes no asynchronous ones; `made`
- * waits for its code. */
-void make(struct thread *, int rm, int (*call)(XID *, int, long), long flags);
-int made(struct thread *, int rm);
+enum verb { PREPARE, COMMIT_AT_ONCE, COMMIT, ROLLBACK, UNDO, FORGET, NO_VERB };
+enum { LOST = 2000 }; /* in place of a code: nobody knows whether the call was made */
+
+const struct xa_switch_t *xa_of(int rm);
+bool is_dynamic(int rm);
+/* Opens a resource manager, unless it is open. False if it can't be, or is another database than
+ * the log's. */
+bool is_rm_open(int rm);
+/* xa_start begins; made_start waits for its code. */
+void begin_start(int rm);
+int made_start(int rm);
+/* The call of a verb begins at the resource manager, behind xa_end where that wasn't made; `made`
+ * waits for its code, or LOST. */
+void begin_call(int rm, enum verb);
+int made(int rm, enum verb);
 /* The connection is lost, or can't be used any more: it is closed, unless the resource manager is
- * embedded, and the coordinator is told. */
-void lose_line(struct thread *, int rm);
-/* The thread gives the resource manager up. */
-void close_line(struct thread *, int rm);
+ * embedded. */
+void lose_line(int rm);
+void lose_lines(void);
+void close_lines(void);
 
-/* ** how an answer is told, by docs/SERVE.md ("How answers are reported"): told.c */
+/* ** transactions: transaction.c */
 
-enum { NO_ANSWER = 1000 };
-int commit_told(int code, bool is_first);
-int rollback_told(int code, bool is_first, bool was_asked);
-bool is_rollback(int code);
-bool is_heuristic(int code);
+/* Opens what isn't open. False if one can't be. */
+bool are_lines_open(void);
+/* The next one begins, in the session that is up. TX_OK, TX_OUTSIDE or TX_ERROR. */
+int begin_next(void);
+/* A resource manager has registered a branch. */
+void join_later(int rm);
+/* What tx_commit returns. */
+int commit_transaction(void);
+/* What tx_rollback returns, where TX_OK is this. */
+int roll_back_transaction(int result);
+/* The last reply is looked at, if there is one yet: it names the next transaction. */
+void settle(void);
 #endif

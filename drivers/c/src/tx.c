@@ -2,8 +2,7 @@
 #include <pthread.h>
 #include <string.h>
 
-#include "garterfossil.h"
-#include "transaction.h"
+#include "session.h"
 
 enum { LONGEST_TIMEOUT = 1000000000 }; /* seconds: more is never */
 
@@ -25,21 +24,18 @@ static int shielded(int (*call)(void))
     return result;
 }
 
-static int out_of_place(const char *why)
+enum place { ANYWHERE, OUTSIDE, WITHIN };
+
+/* TX_OK if the thread has called tx_open, and is outside of a transaction or within one, as it is
+ * to be. */
+static int see_place(enum place place)
 {
-    explain("%s", why);
+    bool is_within = me != NULL && me->is_in_transaction;
+
+    if (me != NULL && (place == ANYWHERE || is_within == (place == WITHIN)))
+        return TX_OK;
+    explain("the thread has %s", me == NULL ? "not called tx_open" : is_within ? "a transaction" : "no transaction");
     return TX_PROTOCOL_ERROR;
-}
-
-static int out_of_place_in_transaction(void)
-{
-    return out_of_place("the thread has a transaction");
-}
-
-/* TX_OK if the thread has called tx_open. */
-static int is_out(void)
-{
-    return me == NULL ? out_of_place("the thread hasn't called tx_open") : TX_OK;
 }
 
 static int is_invalid(void)
@@ -48,24 +44,15 @@ static int is_invalid(void)
     return TX_EINVAL;
 }
 
-static void leave_all(struct thread *t)
+static void leave_all(void *thread)
 {
-    me = t;
+    me = thread;
     if (me->is_in_transaction)
         roll_back_transaction(TX_OK);
-    for (int rm = 0; rm < settings.rms; rm++)
-        close_line(me, rm);
-    if (me->ahead[0] != '\0')
-        say(me, "decide %s rollback", me->ahead);
-    see(me);
-    session_leave(me);
-    thread_free(me);
-    me = NULL;
-}
-
-static void at_thread_end(void *t)
-{
-    leave_all(t);
+    me->is_in_transaction = false;
+    settle();
+    close_lines();
+    session_leave();
 }
 
 /* In a child: the connections and the coordinator are the parent's, and nothing here may touch
@@ -81,7 +68,7 @@ static void forked(void)
 
 static void prepare_process(void)
 {
-    pthread_key_create(&at_end, at_thread_end);
+    pthread_key_create(&at_end, leave_all);
     pthread_atfork(NULL, NULL, forked);
 }
 
@@ -96,17 +83,9 @@ static int open_thread(void)
         explain("the process was forked after tx_open was called in it");
     if (was_forked || !read_settings())
         return TX_FAIL;
-    struct thread *t = thread_new();
-    if (t == NULL) {
-        explain("no memory");
-        return TX_ERROR;
-    }
-    int result = session_join(t);
-    if (result != TX_OK) {
-        thread_free(t);
+    int result = session_join();
+    if (result != TX_OK)
         return result;
-    }
-    me = t;
     if (!are_lines_open() || pthread_setspecific(at_end, me) != 0) {
         leave_all(me);
         return TX_ERROR;
@@ -118,8 +97,8 @@ static int close_thread(void)
 {
     if (me == NULL)
         return TX_OK;
-    if (me->is_in_transaction)
-        return out_of_place_in_transaction();
+    if (see_place(OUTSIDE) != TX_OK)
+        return TX_PROTOCOL_ERROR;
     pthread_setspecific(at_end, NULL);
     leave_all(me);
     return TX_OK;
@@ -139,15 +118,10 @@ API int tx_close(void)
 
 static int begin(void)
 {
-    if (!is_next_begun())
-        return has_failed() ? TX_FAIL : TX_ERROR;
-    note_begun(me, me->ahead);
-    me->ahead[0] = '\0';
-    int result = start_branches();
+    int result = begin_next();
+
     if (result != TX_OK)
-        return roll_back_transaction(result);
-    post(me);
-    coordinator_flush(&coordinator);
+        return result == TX_ERROR && has_failed() ? TX_FAIL : result;
     me->is_in_transaction = true;
     me->has_deadline = me->info.transaction_timeout > 0 && me->info.transaction_timeout < LONGEST_TIMEOUT;
     if (me->has_deadline)
@@ -157,10 +131,8 @@ static int begin(void)
 
 static int begin_transaction(void)
 {
-    if (is_out() != TX_OK)
+    if (see_place(OUTSIDE) != TX_OK)
         return TX_PROTOCOL_ERROR;
-    if (me->is_in_transaction)
-        return out_of_place_in_transaction();
     for (int rm = 0; rm < settings.rms; rm++)
         if (me->line[rm].is_local) {
             explain("%s has work outside of a transaction", settings.rm[rm].name);
@@ -181,13 +153,6 @@ static bool is_late(void)
     return me->is_in_transaction && me->has_deadline && is_past(&me->deadline);
 }
 
-static int is_outside_transaction(void)
-{
-    if (is_out() != TX_OK)
-        return TX_PROTOCOL_ERROR;
-    return me->is_in_transaction ? TX_OK : out_of_place("the thread has no transaction");
-}
-
 /* What an end returns, which begins the next transaction if they are chained. */
 static int ended(int result)
 {
@@ -199,7 +164,7 @@ static int ended(int result)
 
 static int commit(void)
 {
-    if (is_outside_transaction() != TX_OK)
+    if (see_place(WITHIN) != TX_OK)
         return TX_PROTOCOL_ERROR;
     if (!is_late())
         return ended(commit_transaction());
@@ -209,7 +174,7 @@ static int commit(void)
 
 static int roll_back(void)
 {
-    return is_outside_transaction() != TX_OK ? TX_PROTOCOL_ERROR : ended(roll_back_transaction(TX_OK));
+    return see_place(WITHIN) != TX_OK ? TX_PROTOCOL_ERROR : ended(roll_back_transaction(TX_OK));
 }
 
 API int tx_commit(void)
@@ -226,7 +191,7 @@ API int tx_rollback(void)
 
 API int tx_info(TXINFO *info)
 {
-    if (is_out() != TX_OK)
+    if (see_place(ANYWHERE) != TX_OK)
         return TX_PROTOCOL_ERROR;
     if (info == NULL)
         return me->is_in_transaction;
@@ -236,7 +201,7 @@ API int tx_info(TXINFO *info)
         info->xid = xid_of(me->gtrid, me->number, 0);
         info->xid.bqual_length = 0;
         memset(info->xid.data + info->xid.gtrid_length, 0, (size_t)(XIDDATASIZE - info->xid.gtrid_length));
-        info->transaction_state = is_late() ? TX_TIMEOUT_ROLLBACK_ONLY : is_session_over(me) ? TX_ROLLBACK_ONLY : TX_ACTIVE;
+        info->transaction_state = is_late() ? TX_TIMEOUT_ROLLBACK_ONLY : is_session_over() ? TX_ROLLBACK_ONLY : TX_ACTIVE;
     }
     return me->is_in_transaction;
 }
@@ -245,7 +210,7 @@ API int tx_info(TXINFO *info)
  * have answered. */
 API int tx_set_commit_return(COMMIT_RETURN when_return)
 {
-    if (is_out() != TX_OK)
+    if (see_place(ANYWHERE) != TX_OK)
         return TX_PROTOCOL_ERROR;
     if (when_return == TX_COMMIT_DECISION_LOGGED)
         explain("tx_commit returns once the resource managers have answered");
@@ -254,7 +219,7 @@ API int tx_set_commit_return(COMMIT_RETURN when_return)
 
 API int tx_set_transaction_control(TRANSACTION_CONTROL control)
 {
-    if (is_out() != TX_OK)
+    if (see_place(ANYWHERE) != TX_OK)
         return TX_PROTOCOL_ERROR;
     if (control != TX_UNCHAINED && control != TX_CHAINED)
         return is_invalid();
@@ -264,7 +229,7 @@ API int tx_set_transaction_control(TRANSACTION_CONTROL control)
 
 API int tx_set_transaction_timeout(TRANSACTION_TIMEOUT timeout)
 {
-    if (is_out() != TX_OK)
+    if (see_place(ANYWHERE) != TX_OK)
         return TX_PROTOCOL_ERROR;
     if (timeout < 0)
         return is_invalid();

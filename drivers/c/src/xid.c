@@ -2,7 +2,6 @@
  * (docs/SERVE.md). */
 #include "xid.h"
 
-#include <stdlib.h>
 #include <string.h>
 
 #include "settings.h"
@@ -24,7 +23,7 @@ XID xid_of(const char *gtrid, unsigned thread, int rm)
     return xid;
 }
 
-bool is_ours(const XID *xid, int rm, char gtrid[GTRID])
+bool is_ours(const XID *xid, int rm)
 {
     size_t name = strlen(settings.name);
     const unsigned char *data = (const unsigned char *)xid->data, *last;
@@ -33,28 +32,13 @@ bool is_ours(const XID *xid, int rm, char gtrid[GTRID])
         return false;
     if (memcmp(data, settings.name, name) != 0)
         return false;
-    write_hex(gtrid, xid->data + name, OWN);
     last = data + xid->gtrid_length + BQUAL - 4;
     return ((unsigned)last[0] << 24 | (unsigned)last[1] << 16 | (unsigned)last[2] << 8 | last[3]) == (unsigned)rm;
 }
 
-long incarnation_of(const char *gtrid)
+bool is_gtrid(const char *text)
 {
-    char digits[17] = {0};
-
-    memcpy(digits, gtrid, 16);
-    return strtol(digits, NULL, 16);
-}
-
-bool is_gtrid_behind(const char *text, const char *word, char gtrid[GTRID])
-{
-    size_t length = strlen(word);
     char bytes[OWN];
 
-    if (strncmp(text, word, length) != 0 || text[length] != ' ')
-        return false;
-    if (read_hex(text + length + 1, strlen(text + length + 1), bytes, OWN) != OWN)
-        return false;
-    write_hex(gtrid, bytes, OWN);
-    return true;
+    return read_hex(text, strlen(text), bytes, OWN) == OWN;
 }

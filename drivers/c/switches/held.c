@@ -5,7 +5,7 @@
 #include <pthread.h>
 #include <stddef.h>
 
-#include "../src/xid_text.h"
+#include "xid_text.h"
 
 static _Thread_local struct held *of_thread;
 static struct held *all;

@@ -3,8 +3,8 @@
 #include <stdlib.h>
 #include <string.h>
 
-#include "../src/xid_text.h"
 #include "mariadb.h"
+#include "xid_text.h"
 
 enum { STATEMENT = 640 };
 /* Errors of the server, and of a connection that is lost. */

@@ -7,7 +7,7 @@
 #include <string.h>
 #include <unistd.h>
 
-#include "../src/xid_text.h"
+#include "xid_text.h"
 
 enum { TRIES = 1000, STATEMENT = 65536 };
 

@@ -4,8 +4,8 @@
 #include <stdio.h>
 #include <string.h>
 
-#include "../src/xid_text.h"
 #include "postgresql.h"
+#include "xid_text.h"
 
 enum { GID = 200 };
 

@@ -1,31 +1,29 @@
-/* How answers of resource managers are told to the coordinator and to the program (docs/SERVE.md,
- * "How answers are reported"). */
+/* How answers of resource managers are told to the coordinator and to the program (docs/MOVES.md). */
 #include <stdio.h>
 #include <string.h>
 
 #include "story.h"
 
 static const char dynamic_rms[] = "rm a - stand_in_dynamic x\nrm b - stand_in_dynamic x\n";
-enum { LOST = 2000 }; /* told by `crash line` */
 
 /* A call of `a` that is answered so, whether it was made; what the program gets, and what the
- * coordinator is told to which call; and whether both committed. */
+ * coordinator is told of both; and whether both committed. */
 struct row {
     const char *call;
     int code;
     bool is_made;
     int result;
-    const char *told_to;
-    int told;
+    const char *told;
     bool is_committed;
 };
 
 static void see_row(const struct row *it, int (*end)(void))
 {
-    char answer[80], what[80];
+    char what[80], told[80];
     long before = stand_in_sum(1);
 
-    snprintf(what, sizeof what, "%s %d%s", it->call, it->code, it->is_made ? ", made" : "");
+    snprintf(what, sizeof what, "%s %d%s: %s", it->call, it->code, it->is_made ? ", made" : "", it->told);
+    snprintf(told, sizeof told, "%s\n", it->told);
     BEGIN(5);
     stand_in_answers(0, it->call, it->code, it->is_made);
     see_number(__FILE__, __LINE__, what, end(), it->result);
@@ -33,17 +31,9 @@ static void see_row(const struct row *it, int (*end)(void))
     see_number(__FILE__, __LINE__, what, stand_in_sum(1) - before, it->is_committed ? 5 : 0);
     IS(tx_begin(), TX_OK); /* what was told before is with the coordinator by then */
     IS(tx_rollback(), TX_OK);
-    snprintf(answer, sizeof answer, "answer 1 0 %s", it->told_to);
-    if (it->told == LOST) {
-        see_number(__FILE__, __LINE__, what, count_told("crash line 1 0") > 0, true);
-    } else {
-        char code[16];
-        count_told(answer);
-        snprintf(code, sizeof code, "%d", it->told);
-        see_text(__FILE__, __LINE__, what, told(answer), code);
-    }
+    see_number(__FILE__, __LINE__, what, count_told(told) > 0, true);
     IS(tx_close(), TX_OK);
-    remove(path_of("log.requests"));
+    remove(path_of("log.moves"));
     IS(tx_open(), TX_OK);
 }
 
@@ -57,36 +47,41 @@ static void see_rows(const struct row *rows, size_t count, int (*end)(void))
 
 static void of_end(void)
 {
-    static const struct row rows[] = {{"xa_end", XA_RBROLLBACK, true, TX_ROLLBACK, "xa_prepare", XA_RBROLLBACK, false},
-        {"xa_end", XA_RBTRANSIENT, true, TX_ROLLBACK, "xa_prepare", XA_RBTRANSIENT, false},
-        {"xa_end", XAER_NOTA, false, TX_ROLLBACK, "", LOST, false}, {"xa_end", XAER_RMFAIL, false, TX_ROLLBACK, "", LOST, false},
-        {"xa_end", XAER_RMERR, false, TX_ROLLBACK, "", LOST, false}};
+    static const struct row rows[] = {{"xa_end", XA_RBROLLBACK, true, TX_ROLLBACK, "prepare: tell 1 100 0", false},
+        {"xa_end", XA_RBTRANSIENT, true, TX_ROLLBACK, "prepare: tell 1 107 0", false},
+        {"xa_end", XAER_NOTA, false, TX_ROLLBACK, "prepare: tell 1 lost 0", false},
+        {"xa_end", XAER_RMFAIL, false, TX_ROLLBACK, "prepare: tell 1 lost 0", false},
+        {"xa_end", XAER_RMERR, false, TX_ROLLBACK, "prepare: tell 1 lost 0", false}};
 
     ROWS(rows, tx_commit);
 }
 
 static void of_prepare(void)
 {
-    static const struct row rows[] = {{"xa_prepare", XA_RBROLLBACK, false, TX_ROLLBACK, "xa_prepare", XA_RBROLLBACK, false},
-        {"xa_prepare", XA_RBTRANSIENT, false, TX_ROLLBACK, "xa_prepare", XA_RBTRANSIENT, false},
-        {"xa_prepare", XAER_NOTA, false, TX_ROLLBACK, "", LOST, false}, {"xa_prepare", XAER_RMERR, false, TX_ROLLBACK, "", LOST, false},
-        {"xa_prepare", XAER_RMFAIL, false, TX_ROLLBACK, "", LOST, false}, {"xa_prepare", XAER_RMFAIL, true, TX_ROLLBACK, "", LOST, false}};
+    static const struct row rows[] = {{"xa_prepare", XA_RBROLLBACK, false, TX_ROLLBACK, "prepare: tell 1 100 0", false},
+        {"xa_prepare", XA_RBTRANSIENT, false, TX_ROLLBACK, "prepare: tell 1 107 0", false},
+        {"xa_prepare", XAER_NOTA, false, TX_ROLLBACK, "prepare: tell 1 lost 0", false},
+        {"xa_prepare", XAER_RMERR, false, TX_ROLLBACK, "prepare: tell 1 lost 0", false},
+        {"xa_prepare", XAER_RMFAIL, false, TX_ROLLBACK, "prepare: tell 1 lost 0", false},
+        {"xa_prepare", XAER_RMFAIL, true, TX_ROLLBACK, "prepare: tell 1 lost 0", false}};
 
     ROWS(rows, tx_commit);
 }
 
 static void of_commit(void)
 {
-    static const struct row rows[] = {{"xa_commit", XA_OK, true, TX_OK, "xa_commit", XA_OK, true},
-        {"xa_commit", XA_RETRY, false, TX_OK, "xa_commit", XA_RETRY, true},
-        {"xa_commit", XA_HEURMIX, true, TX_MIXED, "xa_commit", XA_HEURMIX, true},
-        {"xa_commit", XA_HEURRB, true, TX_MIXED, "xa_commit", XA_HEURRB, true},
-        {"xa_commit", XA_HEURCOM, true, TX_OK, "xa_commit", XA_HEURCOM, true},
-        {"xa_commit", XA_HEURHAZ, true, TX_HAZARD, "xa_commit", XA_HEURHAZ, true},
-        {"xa_commit", XAER_NOTA, true, TX_HAZARD, "xa_commit", XA_HEURHAZ, true},
-        {"xa_commit", XA_RBROLLBACK, false, TX_MIXED, "xa_commit", XA_HEURRB, true},
-        {"xa_commit", XAER_RMERR, false, TX_MIXED, "xa_commit", XA_HEURRB, true}, {"xa_commit", XAER_RMFAIL, false, TX_OK, "", LOST, true},
-        {"xa_commit", XAER_RMFAIL, true, TX_OK, "", LOST, true}, {"xa_commit", XAER_PROTO, false, TX_OK, "", LOST, true}};
+    static const struct row rows[] = {{"xa_commit", XA_OK, true, TX_OK, "commit: tell 1 0 0", true},
+        {"xa_commit", XA_RETRY, false, TX_OK, "commit: tell 1 4 0", true},
+        {"xa_commit", XA_HEURMIX, true, TX_MIXED, "commit: tell 1 5 0", true},
+        {"xa_commit", XA_HEURRB, true, TX_MIXED, "commit: tell 1 6 0", true},
+        {"xa_commit", XA_HEURCOM, true, TX_OK, "commit: tell 1 7 0", true},
+        {"xa_commit", XA_HEURHAZ, true, TX_HAZARD, "commit: tell 1 8 0", true},
+        {"xa_commit", XAER_NOTA, true, TX_HAZARD, "commit: tell 1 -4 0", true},
+        {"xa_commit", XA_RBROLLBACK, false, TX_MIXED, "commit: tell 1 100 0", true},
+        {"xa_commit", XAER_RMERR, false, TX_MIXED, "commit: tell 1 -3 0", true},
+        {"xa_commit", XAER_RMFAIL, false, TX_OK, "commit: tell 1 lost 0", true},
+        {"xa_commit", XAER_RMFAIL, true, TX_OK, "commit: tell 1 lost 0", true},
+        {"xa_commit", XAER_PROTO, false, TX_OK, "commit: tell 1 lost 0", true}};
 
     ROWS(rows, tx_commit);
 }
@@ -100,27 +95,29 @@ static int commit_against_b(void)
 
 static void of_rollback_once_prepared(void)
 {
-    static const struct row rows[] = {{"xa_rollback", XA_OK, true, TX_ROLLBACK, "xa_rollback", XA_OK, false},
-        {"xa_rollback", XA_RBROLLBACK, true, TX_ROLLBACK, "xa_rollback", XA_OK, false},
-        {"xa_rollback", XA_HEURMIX, true, TX_MIXED, "xa_rollback", XA_HEURMIX, false},
-        {"xa_rollback", XA_HEURRB, true, TX_ROLLBACK, "xa_rollback", XA_HEURRB, false},
-        {"xa_rollback", XA_HEURCOM, true, TX_MIXED, "xa_rollback", XA_HEURCOM, false},
-        {"xa_rollback", XA_HEURHAZ, true, TX_HAZARD, "xa_rollback", XA_HEURHAZ, false},
-        {"xa_rollback", XAER_NOTA, true, TX_HAZARD, "xa_rollback", XA_HEURHAZ, false},
-        {"xa_rollback", XAER_RMERR, false, TX_ROLLBACK, "", LOST, false}, {"xa_rollback", XAER_RMFAIL, false, TX_ROLLBACK, "", LOST, false},
-        {"xa_rollback", XAER_RMFAIL, true, TX_ROLLBACK, "", LOST, false}};
+    static const struct row rows[] = {{"xa_rollback", XA_OK, true, TX_ROLLBACK, "rollback: tell 1 0", false},
+        {"xa_rollback", XA_RBROLLBACK, true, TX_ROLLBACK, "rollback: tell 1 100", false},
+        {"xa_rollback", XA_HEURMIX, true, TX_MIXED, "rollback: tell 1 5", false},
+        {"xa_rollback", XA_HEURRB, true, TX_ROLLBACK, "rollback: tell 1 6", false},
+        {"xa_rollback", XA_HEURCOM, true, TX_MIXED, "rollback: tell 1 7", false},
+        {"xa_rollback", XA_HEURHAZ, true, TX_HAZARD, "rollback: tell 1 8", false},
+        {"xa_rollback", XAER_NOTA, true, TX_HAZARD, "rollback: tell 1 -4", false},
+        {"xa_rollback", XAER_RMERR, false, TX_ROLLBACK, "rollback: tell 1 lost", false},
+        {"xa_rollback", XAER_RMFAIL, false, TX_ROLLBACK, "rollback: tell 1 lost", false},
+        {"xa_rollback", XAER_RMFAIL, true, TX_ROLLBACK, "rollback: tell 1 lost", false}};
 
     ROWS(rows, commit_against_b);
 }
 
 static void of_rollback(void)
 {
-    static const struct row rows[] = {{"xa_rollback", XA_OK, true, TX_OK, "xa_prepare", XA_RBROLLBACK, false},
-        {"xa_rollback", XA_RBTIMEOUT, true, TX_OK, "xa_prepare", XA_RBROLLBACK, false},
-        {"xa_rollback", XA_HEURRB, true, TX_OK, "xa_prepare", XA_RBROLLBACK, false},
-        {"xa_rollback", XAER_NOTA, true, TX_OK, "xa_prepare", XA_RBROLLBACK, false},
-        {"xa_rollback", XAER_RMFAIL, false, TX_OK, "", LOST, false},
-        {"xa_end", XA_RBTIMEOUT, true, TX_OK, "xa_prepare", XA_RBTIMEOUT, false}, {"xa_end", XAER_RMFAIL, false, TX_OK, "", LOST, false}};
+    static const struct row rows[] = {{"xa_rollback", XA_OK, true, TX_OK, "undo: tell 1 0 0", false},
+        {"xa_rollback", XA_RBTIMEOUT, true, TX_OK, "undo: tell 1 106 0", false},
+        {"xa_rollback", XA_HEURRB, true, TX_OK, "undo: tell 1 6 0", false},
+        {"xa_rollback", XAER_NOTA, true, TX_OK, "undo: tell 1 -4 0", false},
+        {"xa_rollback", XAER_RMFAIL, false, TX_OK, "undo: tell 1 lost 0", false},
+        {"xa_end", XA_RBTIMEOUT, true, TX_OK, "undo: tell 1 106 0", false},
+        {"xa_end", XAER_RMFAIL, false, TX_OK, "undo: tell 1 lost 0", false}};
 
     ROWS(rows, tx_rollback);
 }
@@ -133,7 +130,7 @@ static void of_one_phase(void)
         bool is_made;
         int result;
     } rows[] = {{XA_OK, true, TX_OK}, {XA_RBROLLBACK, false, TX_ROLLBACK}, {XA_RBTRANSIENT, false, TX_ROLLBACK},
-        {XAER_RMERR, false, TX_ROLLBACK}, {XA_HEURMIX, true, TX_MIXED}, {XA_HEURRB, false, TX_ROLLBACK}, {XA_HEURCOM, true, TX_OK},
+        {XAER_RMERR, false, TX_ROLLBACK}, {XA_HEURMIX, true, TX_HAZARD}, {XA_HEURRB, false, TX_HAZARD}, {XA_HEURCOM, true, TX_HAZARD},
         {XA_HEURHAZ, true, TX_HAZARD}, {XAER_NOTA, true, TX_HAZARD}, {XAER_RMFAIL, true, TX_HAZARD}, {XAER_RMFAIL, false, TX_HAZARD},
         {XAER_PROTO, false, TX_HAZARD}};
 
@@ -186,9 +183,9 @@ static void of_forget(void)
     stand_in_answers(0, "xa_commit", XA_HEURRB, true);
     stand_in_journal();
     IS(tx_commit(), TX_MIXED);
-    SAYS(stand_in_journal(), "xa_end 0, xa_end 1, xa_prepare 0, xa_prepare 1, xa_commit 0, xa_commit 1, xa_forget 0");
+    SAYS(stand_in_journal(), "xa_end 0, xa_prepare 0, xa_end 1, xa_prepare 1, xa_commit 0, xa_commit 1, xa_forget 0");
     IS(tx_close(), TX_OK);
-    SAYS(told("answer 1 0 xa_forget"), "0");
+    IS(count_told("forget: tell 1 0\n"), 1);
 }
 
 /* The keeper commits it later, and no connection is in its way. */
@@ -199,7 +196,7 @@ static void of_a_commit_for_later(void)
     stand_in_answers(0, "xa_commit", XA_RETRY, false);
     stand_in_journal();
     IS(tx_commit(), TX_OK);
-    SAYS(stand_in_journal(), "xa_end 0, xa_end 1, xa_prepare 0, xa_prepare 1, xa_commit 0, xa_commit 1, xa_close 0");
+    SAYS(stand_in_journal(), "xa_end 0, xa_prepare 0, xa_end 1, xa_prepare 1, xa_commit 0, xa_commit 1, xa_close 0");
     BEGIN(5);
     IS(tx_commit(), TX_OK);
     IS(is_settled(), true);

@@ -1,4 +1,4 @@
-/* The coordinator ends, or says nothing, or refuses, at each of its requests: both resource
+/* The coordinator ends, or says nothing, or refuses, at each of the moves: both resource
  * managers end each transaction alike, and as the program was told. */
 #include <stdio.h>
 #include <string.h>
@@ -6,9 +6,11 @@
 
 #include "story.h"
 
-static const char *const moments[] = {"begin", "issue 1 0 xa_start", "answer 1 0 xa_start", "issue 1 1 xa_start", "issue 1 0 xa_end",
-    "issue 1 1 xa_prepare", "answer 1 0 xa_end", "answer 1 1 xa_prepare", "decide", "issue 1 0 xa_commit", "issue 1 1 xa_commit",
-    "answer 1 0 xa_commit", "answer 1 1 xa_commit"};
+/* Of a transfer that is committed, and of one that is rolled back. The first of a session begins
+ * with `start`. */
+static const char *const moments[] = {"start", "join", "prepare: tell", "commit: tell"};
+static const char *const moments_of_rollback[] = {"start", "join", "rollback", "undo: tell"};
+#define COUNT(moments) (sizeof(moments) / sizeof(moments)[0])
 
 static void see_end(const char *moment, int begun, int ended, long before)
 {
@@ -30,6 +32,8 @@ static void see_moment(const char *how, const char *moment, int (*end)(void), in
     int ended = TX_ROLLBACK;
 
     snprintf(name, sizeof name, "log.%s", how);
+    if (strncmp(moment, "start", 5) == 0)
+        kill_coordinator();
     write_file(name, moment);
     int begun = tx_begin();
     if (begun == TX_OK) {
@@ -41,9 +45,9 @@ static void see_moment(const char *how, const char *moment, int (*end)(void), in
     see_end(moment, begun, ended, before);
 }
 
-static void see_moments(const char *how, size_t step)
+static void see_moments(const char *how, size_t first)
 {
-    for (size_t i = 0; i < sizeof moments / sizeof moments[0]; i += step) {
+    for (size_t i = first; i < COUNT(moments); i++) {
         IS(is_begun(), true);
         IS(tx_rollback(), TX_OK);
         see_moment(how, moments[i], tx_commit, TX_ROLLBACK);
@@ -56,30 +60,30 @@ static void see_moments(const char *how, size_t step)
 
 static void it_ends(void)
 {
-    see_moments("die-at", 1);
+    see_moments("die-at", 0);
 }
 
 /* A process that waits for ever, and one that is stopped. */
 static void it_is_silent(void)
 {
-    set_up(NULL, "patience 6\n");
-    see_moments("silent", 8);
+    set_up(NULL, "patience 12\n");
+    see_moments("silent", 2);
 }
 
 static void it_is_stopped(void)
 {
-    set_up(NULL, "patience 6\n");
-    see_moments("stop", 8);
+    set_up(NULL, "patience 12\n");
+    see_moments("stop", 2);
 }
 
 static void its_log_fails(void)
 {
-    see_moments("fail-at", 1);
+    see_moments("stopped", 0);
 }
 
 static void it_refuses(void)
 {
-    see_moments("refuse-at", 1);
+    see_moments("refuse-at", 0);
 }
 
 /* What it decided and didn't tell, the next session tells. */
@@ -97,18 +101,19 @@ static void it_ends_once_it_has_decided(void)
     IS(stand_in_sum(0) + stand_in_sum(1), 0);
 }
 
-/* The next one is lost, too, before it could tell: the one after that does. */
+/* The next one is lost, too, before it could tell: the one after that knows it of what was decided,
+ * and else nobody does. */
 static void it_ends_twice(void)
 {
     IS(tx_open(), TX_OK);
     BEGIN(5);
-    write_file("log.fail-at", "owed 1");
+    write_file("log.stopped", "fate");
     write_file("log.die-at", "decided");
     IS(tx_commit(), TX_OK);
     BEGIN(5);
-    write_file("log.fail-at", "owed 1");
-    write_file("log.die-at", "decide");
-    IS(tx_commit(), TX_ROLLBACK);
+    write_file("log.stopped", "fate");
+    write_file("log.die-at", "prepare: tell");
+    IS(tx_commit(), TX_FAIL);
     IS(is_settled(), true);
     IS(stand_in_sum(1), 5);
 }
@@ -116,8 +121,10 @@ static void it_ends_twice(void)
 static void it_ends_in_a_rollback(void)
 {
     IS(tx_open(), TX_OK);
-    for (size_t i = 0; i < sizeof moments / sizeof moments[0]; i++)
-        see_moment("die-at", moments[i], tx_rollback, TX_OK);
+    for (size_t i = 0; i < COUNT(moments_of_rollback); i++) {
+        see_moment("die-at", moments_of_rollback[i], tx_rollback, TX_OK);
+        IS(is_file("log.die-at"), false);
+    }
     IS(stand_in_sum(0), 0);
 }
 
@@ -141,14 +148,33 @@ static void it_is_killed(void)
 
 static void it_is_out_of_step(void)
 {
-    static const char *const replies[] = {"begin\nbegun", "begin\nbegun 12", "begin\nheard xa_open 0", "decide\nissued xa_end",
-        "decide\nnoted", "issue 1 1 xa_prepare\n;issued", "issue 1 1 xa_prepare\nbye", "issue 1 0 xa_commit\n",
-        "answer 1 1 xa_commit\nrefused", "decide\nx"};
+    static const char *const replies[] = {"start\nstarted", "start\nstarted next 12", "start\nerror", "join\n", "join\nbye",
+        "join\nprepare 0", "join\nprepare 0 9", "join\nprepare 0 1;", "join\n;prepare 0 1", "prepare: tell\ncommitting 0 1",
+        "prepare: tell\nrolled-back", "commit: tell\ncommitted", "commit: tell\nx;y"};
 
     IS(tx_open(), TX_OK);
-    for (size_t i = 0; i < sizeof replies / sizeof replies[0]; i++)
+    for (size_t i = 0; i < COUNT(replies); i++)
         see_moment("reply-at", replies[i], tx_commit, TX_ROLLBACK);
-    see_moment("reply-at", "owed\nowed 1", tx_commit, TX_ROLLBACK);
+    IS(tx_close(), TX_OK);
+}
+
+/* Of a recovery. */
+static void it_is_out_of_step_in_a_recovery(void)
+{
+    static const char *const replies[] = {"recover 1\nx", "recover 1\nxa_prepare 7:00:00", "recover 1\nxa_commit 7",
+        "page 1\nrecovered owed 1", "page 1\nlater", "fate\nwho knows", "page 0\nstopped"};
+
+    IS(tx_open(), TX_OK);
+    for (size_t i = 0; i < COUNT(replies); i++) {
+        BEGIN(5);
+        write_file("log.reply-at", replies[i]);
+        write_file("log.die-at", "prepare: tell");
+        int ended = tx_commit();
+        see_number(__FILE__, __LINE__, replies[i], ended == TX_ROLLBACK || ended == TX_FAIL, true);
+        IS(is_settled(), true);
+        IS(is_file("log.reply-at"), false);
+    }
+    IS(stand_in_sum(1), 0);
     IS(tx_close(), TX_OK);
 }
 
@@ -179,7 +205,7 @@ static void one_is_away(void)
     IS(is_settled(), true);
     IS(stand_in_sum(1), 5);
     IS(tx_close(), TX_OK);
-    IS(count_told("done"), 1);
+    IS(count_told("recover 1") > 2, true);
 }
 
 /* What is owed is ended as the last thread closes. */
@@ -215,5 +241,6 @@ const struct story of_losses[] = {{"losses: the coordinator ends", it_ends}, {"l
     {"losses: it is stopped", it_is_stopped}, {"losses: its log fails", its_log_fails}, {"losses: it refuses", it_refuses},
     {"losses: it ends once it has decided", it_ends_once_it_has_decided}, {"losses: it ends in a rollback", it_ends_in_a_rollback},
     {"losses: it ends twice", it_ends_twice}, {"losses: it is killed", it_is_killed}, {"losses: it is out of step", it_is_out_of_step},
-    {"losses: it doesn't start", it_does_not_start}, {"losses: it isn't there", it_is_not_there}, {"losses: one is away", one_is_away},
-    {"losses: closed at once", closed_at_once}, {"losses: an embedded one", an_embedded_one}, {NULL, NULL}};
+    {"losses: it is out of step in a recovery", it_is_out_of_step_in_a_recovery}, {"losses: it doesn't start", it_does_not_start},
+    {"losses: it isn't there", it_is_not_there}, {"losses: one is away", one_is_away}, {"losses: closed at once", closed_at_once},
+    {"losses: an embedded one", an_embedded_one}, {NULL, NULL}};

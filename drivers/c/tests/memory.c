@@ -96,10 +96,13 @@ int main(int count, char **words)
         return 2;
     snprintf(path, sizeof path, "%s/settings", words[1]);
     setenv("GARTERFOSSIL_SETTINGS", path, 1);
-    for (int moved = 0; moved < 3 && tries < 12; tries++)
+    for (int moved = 0; moved < 3 && tries < 12; tries++) {
         moved += is_moved();
+        see("tx_close", tx_close(), TX_OK);
+        if (moved > 0) /* what a session before this one left, so that the next has something to recover */
+            stand_in_lists(0, "7:6300000000000000000000000000000001:0000000100000000");
+    }
     see("three were moved in so many tries, at least", tries < 12, true);
-    see("tx_close", tx_close(), TX_OK);
     see("calls out of turn", stand_in_strange(), 0);
     return wrong > 0;
 }

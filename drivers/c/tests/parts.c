@@ -2,7 +2,7 @@
 #include <stdio.h>
 #include <string.h>
 
-#include "../src/xid_text.h"
+#include "../switches/xid_text.h"
 #include "story.h"
 
 static void settings_that_are_wrong(void)

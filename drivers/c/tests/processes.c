@@ -139,11 +139,11 @@ static void interruptions_of_a_silence(void)
     struct sigaction it = {.sa_handler = tick};
     struct itimerval often = {.it_interval = {.tv_usec = 3000}, .it_value = {.tv_usec = 3000}}, never = {.it_value = {0}};
 
-    set_up(NULL, "patience 6\n");
+    set_up(NULL, "patience 12\n");
     IS(is_begun(), true);
     IS(stand_in_add(0, -5), true);
     IS(stand_in_add(1, 5), true);
-    write_file("log.silent", "decide");
+    write_file("log.silent", "prepare: tell");
     sigaction(SIGALRM, &it, NULL);
     setitimer(ITIMER_REAL, &often, NULL);
     int ended = tx_commit();

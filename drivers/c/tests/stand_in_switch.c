@@ -7,7 +7,7 @@
 #include <string.h>
 #include <time.h>
 
-#include "../src/xid_text.h"
+#include "../switches/xid_text.h"
 
 enum { RMS = 4, BRANCHES = 4096, ANSWERS = 16, JOURNAL = 8192 };
 

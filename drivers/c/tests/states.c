@@ -148,13 +148,13 @@ static void calls_of_two(void)
     BEGIN(5);
     SAYS(stand_in_journal(), "xa_start 0, xa_start 1");
     IS(tx_commit(), TX_OK);
-    SAYS(stand_in_journal(), "xa_end 0, xa_end 1, xa_prepare 0, xa_prepare 1, xa_commit 0, xa_commit 1");
+    SAYS(stand_in_journal(), "xa_end 0, xa_prepare 0, xa_end 1, xa_prepare 1, xa_commit 0, xa_commit 1");
     IS(stand_in_sum(0), -5);
     IS(stand_in_sum(1), 5);
     BEGIN(5);
     stand_in_journal();
     IS(tx_rollback(), TX_OK);
-    SAYS(stand_in_journal(), "xa_end 0, xa_end 1, xa_rollback 0, xa_rollback 1");
+    SAYS(stand_in_journal(), "xa_end 0, xa_rollback 0, xa_end 1, xa_rollback 1");
     IS(stand_in_sum(1), 5);
     IS(tx_close(), TX_OK);
     SAYS(stand_in_journal(), "xa_close 0, xa_close 1");
@@ -168,11 +168,11 @@ static void calls_of_a_reader(void)
     IS(stand_in_add(1, 5), true);
     stand_in_journal();
     IS(tx_commit(), TX_OK);
-    SAYS(stand_in_journal(), "xa_end 0, xa_end 1, xa_prepare 0, xa_prepare 1, xa_commit 1");
+    SAYS(stand_in_journal(), "xa_end 0, xa_prepare 0, xa_end 1, xa_prepare 1, xa_commit 1");
     IS(tx_begin(), TX_OK);
     stand_in_journal();
     IS(tx_commit(), TX_OK);
-    SAYS(stand_in_journal(), "xa_end 0, xa_end 1, xa_prepare 0, xa_prepare 1");
+    SAYS(stand_in_journal(), "xa_end 0, xa_prepare 0, xa_end 1, xa_prepare 1");
 }
 
 static void calls_of_one(void)
@@ -189,7 +189,7 @@ static void calls_of_one(void)
     BEGIN(3);
     stand_in_journal();
     IS(tx_commit(), TX_OK);
-    SAYS(stand_in_journal(), "xa_end 0, xa_end 1, xa_prepare 0, xa_prepare 1, xa_commit 0, xa_commit 1");
+    SAYS(stand_in_journal(), "xa_end 0, xa_prepare 0, xa_end 1, xa_prepare 1, xa_commit 0, xa_commit 1");
     IS(tx_begin(), TX_OK);
     IS(tx_commit(), TX_OK);
     SAYS(stand_in_journal(), "");

@@ -70,30 +70,17 @@ void set_up(const char *rms, const char *others)
 
 /* ** what the coordinator was asked */
 
-static char last[4096];
-
-int count_told(const char *request)
+int count_told(const char *move)
 {
-    FILE *file = fopen(path_of("log.requests"), "r");
+    FILE *file = fopen(path_of("log.moves"), "r");
     char line[4096];
     int count = 0;
 
-    last[0] = '\0';
     while (file != NULL && fgets(line, sizeof line, file) != NULL)
-        if (strncmp(line, request, strlen(request)) == 0) {
-            line[strcspn(line, "\n")] = '\0';
-            snprintf(last, sizeof last, "%s", strrchr(line, ' ') == NULL ? line : strrchr(line, ' ') + 1);
-            count++;
-        }
+        count += strncmp(line, move, strlen(move)) == 0;
     if (file != NULL)
         fclose(file);
     return count;
-}
-
-const char *told(const char *request)
-{
-    count_told(request);
-    return last;
 }
 
 void kill_coordinator(void)
@@ -166,8 +153,8 @@ static struct telling *ended(bool *is_right)
 
     for (int i = 0; i < AT_ONCE; i++)
         if (tellings[i].pid == pid && pid > 0) {
-            char command[80];
-            snprintf(command, sizeof command, "rm -rf %s", tellings[i].folder);
+            char command[160]; /* (the coordinator may still write there.) */
+            snprintf(command, sizeof command, "rm -rf %s 2>/dev/null || { sleep 1; rm -rf %s; }", tellings[i].folder, tellings[i].folder);
             (void)!system(command);
             *is_right = status == 0;
             if (status != 0)

@@ -23,10 +23,8 @@ void set_up(const char *rms, const char *others);
 const char *path_of(const char *name);
 void write_file(const char *name, const char *text);
 bool is_file(const char *name);
-/* The last word of the last request that the coordinator read and that begins so, "" if there is
- * none. */
-const char *told(const char *request);
-int count_told(const char *request);
+/* How many moves the coordinator has read that begin so (LOG.moves of the stand-in). */
+int count_told(const char *move);
 /* Kills the coordinator. */
 void kill_coordinator(void);
 /* Opens and begins. Where the patience is short, a start may take longer on a busy machine. */

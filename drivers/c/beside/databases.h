@@ -3,7 +3,7 @@
 #define DATABASES_H
 #include <stdbool.h>
 
-#include "settings.h"
+#include "../src/settings.h"
 
 /* Reads `<log>-databases`, if it is there and this manager's. False if it can't be read. */
 bool read_databases(void);

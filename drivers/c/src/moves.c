@@ -1,0 +1,81 @@
+/* The moves of the calling thread. */
+#include <stdarg.h>
+#include <stdio.h>
+#include <string.h>
+
+#include "thread.h"
+
+struct coordinator coordinator = {.lock = PTHREAD_MUTEX_INITIALIZER, .process = {.handle = -1, .lines = -1, .errors = -1}, .is_gone = true};
+_Thread_local struct thread *me;
+
+static void post(bool decides, bool is_alone, const char *format, va_list words)
+{
+    replied(); /* there is one at a time */
+    vsnprintf(me->move.text, sizeof me->move.text, format, words);
+    me->move.decides = decides;
+    me->move.is_alone = is_alone;
+    me->is_moving = true;
+    coordinator_post(&coordinator, &me->move, me->session);
+}
+
+void move(bool decides, const char *format, ...)
+{
+    va_list words;
+
+    va_start(words, format);
+    post(decides, false, format, words);
+    va_end(words);
+}
+
+const char *ask(const char *format, ...)
+{
+    va_list words;
+
+    va_start(words, format);
+    post(false, true, format, words);
+    va_end(words);
+    return replied();
+}
+
+const char *lose_session(const char *why)
+{
+    explain("the coordinator %s", why);
+    coordinator_lose(&coordinator, me->session);
+    me->move.reply[0] = '\0';
+    return me->move.reply;
+}
+
+bool is_reply(const char *reply, const char *word)
+{
+    size_t length = strlen(word);
+
+    return strncmp(reply, word, length) == 0 && (reply[length] == '\0' || reply[length] == ' ');
+}
+
+int named_in(const char *reply, int rms[MOST_RMS])
+{
+    const char *at = reply + strcspn(reply, " ");
+    int count = 0, length;
+
+    while (count < settings.rms && sscanf(at, " %d%n", &rms[count], &length) == 1 && rms[count] >= 0 && rms[count] < settings.rms) {
+        at += length;
+        count++;
+    }
+    return count;
+}
+
+const char *replied(void)
+{
+    char *reply = me->move.reply;
+
+    if (!me->is_moving)
+        return reply;
+    coordinator_wait(&coordinator, &me->move);
+    me->is_moving = false;
+    if (is_reply(reply, "error") || is_reply(reply, "stopped")) {
+        explain("the coordinator replied to %s: %s", me->move.text, reply);
+        coordinator_lose(&coordinator, me->session);
+        reply[0] = '\0';
+    }
+    return reply;
+}
