@@ -1,7 +1,7 @@
-/* What the coordinator may say: the input is what it says of two lives, one after the other,
- * whatever it was asked. Nothing but its words comes from it, so nothing may end but the session.
- * (libFuzzer; tests/fuzz builds and runs it.) */
-#include <errno.h>
+/* What the coordinator may say: the input is what it says in several lives, each up to a byte 0,
+ * whatever it was asked: a line for each line that it reads. Nothing but its words comes from it,
+ * so nothing may end but the session. (libFuzzer; tests/fuzz builds and runs it.) */
+#include <pthread.h>
 #include <stdint.h>
 #include <stdio.h>
 #include <stdlib.h>
@@ -10,7 +10,7 @@
 #include <tx.h>
 #include <unistd.h>
 
-#include "../src/databases.h"
+#include "../beside/databases.h"
 #include "../src/process.h"
 #include "stand_in_switch.h"
 
@@ -40,29 +40,55 @@ int LLVMFuzzerTestOneInput(const uint8_t *data, size_t size);
 
 static const uint8_t *left;
 static size_t left_size;
-static int other = -1;
 static char folder[] = "/tmp/garterfossil-fuzz-XXXXXX";
 
 /* ** in place of process.c */
 
-/* What it says of this life is there before it is asked, up to the byte 0. */
+static struct life {
+    pthread_t thread;
+    int lines;
+    const uint8_t *at, *end;
+} life;
+
+/* Says the next line. False if nothing ends it: then it is the last. */
+static bool is_line_said(void)
+{
+    const uint8_t *stop = life.at == life.end ? NULL : memchr(life.at, '\n', (size_t)(life.end - life.at));
+    const uint8_t *next = stop == NULL ? life.end : stop + 1;
+    ssize_t length = next - life.at, sent = length == 0 ? 0 : send(life.lines, life.at, (size_t)length, MSG_NOSIGNAL);
+
+    life.at = next;
+    return stop != NULL && sent == length;
+}
+
+/* It greets, and then says a line for each that it reads. */
+static void *live(void *unused)
+{
+    bool is_up = (life.at == life.end || *life.at != 'p' || is_line_said()) && is_line_said();
+    char byte;
+
+    (void)unused;
+    while (is_up && recv(life.lines, &byte, 1, 0) == 1)
+        is_up = byte != '\n' || is_line_said();
+    shutdown(life.lines, SHUT_RDWR);
+    return NULL;
+}
+
 bool process_start(struct process *p, char *const words[])
 {
     int lines[2], errors[2];
-    const uint8_t *end = memchr(left, 0, left_size);
+    const uint8_t *end = left_size == 0 ? NULL : memchr(left, 0, left_size);
     size_t length = end == NULL ? left_size : (size_t)(end - left);
 
     (void)words;
     if (socketpair(AF_UNIX, SOCK_STREAM, 0, lines) != 0 || pipe(errors) != 0)
         abort();
-    (void)!send(lines[1], left, length, MSG_DONTWAIT);
-    shutdown(lines[1], SHUT_WR);
     close(errors[1]);
+    life = (struct life){.lines = lines[1], .at = left, .end = left + length};
     left += length + (end != NULL);
     left_size -= length + (end != NULL);
-    if (other >= 0)
-        close(other);
-    other = lines[1];
+    if (pthread_create(&life.thread, NULL, live, NULL) != 0)
+        abort();
     *p = (struct process){.handle = -1, .lines = lines[0], .errors = errors[0]};
     return true;
 }
@@ -72,6 +98,8 @@ void process_end(struct process *p, double patience, char *said, size_t room)
     (void)patience;
     close(p->lines);
     close(p->errors);
+    pthread_join(life.thread, NULL);
+    close(life.lines);
     *p = (struct process){.handle = -1, .lines = -1, .errors = -1};
     /* Once there is no more input, it is an error that doesn't go away. */
     snprintf(said, room, "%s", left_size == 0 ? "xatm: log: over" : "");
@@ -94,7 +122,7 @@ int LLVMFuzzerInitialize(int *count, char ***words)
         abort();
     snprintf(path, sizeof path, "%s/settings", folder);
     FILE *file = fopen(path, "w");
-    fprintf(file, "log %s/log\nname c\nthreads 2\npatience 1\nrm a - stand_in x\nrm b - stand_in_dynamic x\n", folder);
+    fprintf(file, "log %s/log\nname c\nthreads 2\npatience 4\nrm a - stand_in x\nrm b - stand_in_dynamic x\n", folder);
     fclose(file);
     snprintf(path, sizeof path, "%s/log", folder);
     file = fopen(path, "w");
