@@ -38,7 +38,17 @@ class CKills(kills.Kills):
         for what in targets:
             if what in self.servers:
                 time.sleep(self.rng.uniform(0, 0.5))
-                self.servers[what].start()
+                self.start_again(self.servers[what])
+
+    @staticmethod
+    def start_again(server):
+        """Also where processes of the one that was killed are still ending, as they do on a busy machine."""
+        for _ in range(20):
+            try:
+                return server.start()
+            except SystemExit:
+                time.sleep(1)
+        return server.start()
 
     def run(self, count):
         self.start_driver()

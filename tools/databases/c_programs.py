@@ -40,7 +40,7 @@ def infos(world, label=LABEL):
             f"socket={mariadb.socket()} user=bank db=bank lock_timeout=2 label={label}"]
 
 
-def environment(world, folder, name, log, is_dynamic=False, patience=20):
+def environment(world, folder, name, log, is_dynamic=False, patience=60):
     """Writes the settings of both databases, and gives the environment that names them."""
     kind = "_dynamic" if is_dynamic else ""
     pg, mariadb = infos(world)

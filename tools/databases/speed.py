@@ -8,6 +8,7 @@ import statistics
 import threading
 import time
 
+import c_speed
 import jdbc
 from world import ACCOUNTS
 
@@ -88,5 +89,6 @@ def run(world, seconds):
                 rates_by_hand.append(per_second(functools.partial(by_hand, world.databases(), numbers), threads, seconds))
         rate, hand = statistics.median(rates), statistics.median(rates_by_hand)
         print(f"speed: Python, {threads} threads: {rate:.0f} transfers a second; {hand:.0f} by hand: {rate / hand:.2f} of that", flush=True)
+    c_speed.run(world, seconds, ROUNDS, THREADS)
     jdbc.run(world, seconds, ROUNDS)
     return 0
