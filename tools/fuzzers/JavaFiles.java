@@ -1,0 +1,132 @@
+package garterfossil;
+
+import java.io.IOException;
+import java.nio.file.Files;
+import java.nio.file.Path;
+import java.util.Arrays;
+import java.util.Map;
+import java.util.Random;
+import java.util.logging.Level;
+import java.util.logging.Logger;
+
+/**
+ * What the driver in Java reads from files: the properties of its command, and the file beside a log, each changed by chance. {@code JavaFiles SECONDS
+ * SEED FOLDER settings|beside}. It prints each input that ends in another way than is promised, and how many there were.
+ */
+final class JavaFiles {
+    private static final String SETTINGS = "log = /nowhere/decisions.db\nprogram = /nowhere/xatm\n"
+        + "resource.bank.class = garterfossil.JavaFiles$Source\nresource.bank.url = jdbc:postgresql:bank\nresource.bank.loginTimeout = 3\n";
+    private static final String BESIDE = "{\"version\": 1, \"manager\": \"shop-1\", \"shut\": \"a \\\"log\\\" \\u00e4\", \"incarnation\": 12,\n"
+        + " \"databases\": [{\"number\": 0, \"at\": \"jdbc:postgresql:bank\", \"identity\": \"postgresql 1 2\"},\n"
+        + " {\"number\": 1, \"at\": \"jdbc:mariadb:stock\", \"identity\": \"mariadb 5f\"}]}\n";
+    private static final String[] PIECES = {"\0", "\u00e9", "\n", "\\", "\\u", "\"", "{", "[", "]", "}", ",", ":", "-", "null", "9223372036854775808", "1e9", "=", "."};
+
+    private JavaFiles() {
+    }
+
+    /** Nothing is changed more than it takes to be wrong. */
+    private static byte[] mutated(Random chance, String text) {
+        StringBuilder made = new StringBuilder(text);
+        for (int times = 1 << chance.nextInt(5); times > 0; times--) {
+            int at = chance.nextInt(made.length() + 1), end = Math.min(made.length(), at + (1 << chance.nextInt(6)));
+            switch (chance.nextInt(4)) {
+                case 0 -> made.delete(at, end);
+                case 1 -> made.insert(at, PIECES[chance.nextInt(PIECES.length)].repeat(chance.nextInt(8) == 0 ? 20_000 : 1));
+                case 2 -> made.insert(chance.nextInt(made.length() + 1), made.substring(at, end).repeat(chance.nextInt(3) + 1));
+                default -> made.replace(at, Math.min(made.length(), at + 1), String.valueOf((char) chance.nextInt(300)));
+            }
+        }
+        byte[] bytes = made.toString().getBytes(chance.nextInt(9) == 0 ? java.nio.charset.StandardCharsets.ISO_8859_1 : java.nio.charset.StandardCharsets.UTF_8);
+        return chance.nextInt(5) == 0 ? Arrays.copyOf(bytes, chance.nextInt(bytes.length + 1)) : bytes;
+    }
+
+    private static void readsBeside(Path folder) throws Exception {
+        try {
+            new Identities(folder.resolve("it.db"), "shop-1", false);
+            Object found = Json.read(Files.readString(folder.resolve("it.db-databases")));
+            if (!Json.read(Json.write(found)).equals(found)) {
+                throw new AssertionError("what is written is read otherwise");
+            }
+        } catch (Fault | IOException promised) {
+            // It is refused.
+        }
+    }
+
+    private static void readsSettings(Path folder) {
+        int status = Command.run(new String[] {"status", folder.resolve("settings").toString()});
+        if (status != 2) {
+            throw new AssertionError("status " + status);
+        }
+    }
+
+    public static void main(String[] words) throws IOException {
+        Logger.getLogger("").setLevel(Level.OFF);
+        System.setErr(new java.io.PrintStream(java.io.OutputStream.nullOutputStream()));
+        Random chance = new Random(Long.parseLong(words[1]));
+        Path folder = Path.of(words[2]);
+        boolean isBeside = words[3].equals("beside");
+        Path file = folder.resolve(isBeside ? "it.db-databases" : "settings");
+        long inputs = 0, failed = 0, until = System.nanoTime() + (long) (Double.parseDouble(words[0]) * 1e9);
+        for (; System.nanoTime() < until; inputs++) {
+            Files.write(file, mutated(chance, isBeside ? BESIDE : SETTINGS));
+            try {
+                if (isBeside) {
+                    readsBeside(folder);
+                } else {
+                    readsSettings(folder);
+                }
+            } catch (Exception | Error error) {
+                failed++;
+                Path kept = folder.resolve("failed-" + failed + "-" + words[3]);
+                Files.copy(file, kept, java.nio.file.StandardCopyOption.REPLACE_EXISTING);
+                String text = String.valueOf(error.getMessage());
+                System.out.println("failed: " + kept + ": " + error.getClass().getName() + ": " + text.substring(0, Math.min(200, text.length())));
+            }
+        }
+        System.out.println(inputs + " inputs, " + failed + " failed");
+    }
+
+    /** A source that is reached nowhere. */
+    public static final class Source implements javax.sql.XADataSource {
+        private String url;
+
+        public void setUrl(String url) {
+            this.url = url;
+        }
+
+        @Override
+        public javax.sql.XAConnection getXAConnection() throws java.sql.SQLException {
+            throw new java.sql.SQLException("nothing is at " + url);
+        }
+
+        @Override
+        public javax.sql.XAConnection getXAConnection(String user, String password) throws java.sql.SQLException {
+            return getXAConnection();
+        }
+
+        @Override
+        public java.io.PrintWriter getLogWriter() {
+            return null;
+        }
+
+        @Override
+        public void setLogWriter(java.io.PrintWriter writer) {
+            // Nothing is written.
+        }
+
+        @Override
+        public void setLoginTimeout(int seconds) {
+            // Nothing is waited for.
+        }
+
+        @Override
+        public int getLoginTimeout() {
+            return 0;
+        }
+
+        @Override
+        public java.util.logging.Logger getParentLogger() {
+            return Logger.getGlobal();
+        }
+    }
+}

@@ -1,0 +1,1 @@
+"""What tools/fuzz gives to the readers of this repository."""
