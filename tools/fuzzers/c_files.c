@@ -1,6 +1,7 @@
 /* What the driver in C reads from files: its settings (with -DSETTINGS), or the file beside the
  * log. Nothing but an answer may come of any bytes; and of the second, what was read is written,
  * and read as the same. (libFuzzer; tools/fuzz builds and runs it.) */
+#include <stdbool.h>
 #include <stdint.h>
 #include <stdio.h>
 #include <stdlib.h>
@@ -21,8 +22,11 @@ static char folder[] = "/tmp/garterfossil-fuzz-XXXXXX", in_folder[600];
 
 static void put(const char *name, const uint8_t *data, size_t size)
 {
-    if (strchr(folder, 'X') != NULL && mkdtemp(folder) == NULL)
+    static bool is_made;
+
+    if (!is_made && mkdtemp(folder) == NULL)
         abort();
+    is_made = true;
     snprintf(in_folder, sizeof in_folder, "%s/%s", folder, name);
     FILE *file = fopen(in_folder, "w");
     if (file == NULL || fwrite(data, 1, size, file) != size || fclose(file) != 0)
