@@ -1,5 +1,5 @@
 /* A clock that somebody sets again and again: at each reading the time of day is another one, by
- * up to ten days. The clock that nobody sets is as it was. (LD_PRELOAD; tools/try-clock builds it.) */
+ * up to ten days. The clock that nobody sets is as it was. (LD_PRELOAD; tests/clock builds it.) */
 #define _GNU_SOURCE
 #include <dlfcn.h>
 #include <stdatomic.h>
