@@ -4,12 +4,14 @@ import glob
 import json
 import os
 import random
+import resource
 import subprocess
 
 from fuzzers.chance import a_move, a_request, lines_of, mutated
 
 TOP = os.path.dirname(os.path.dirname(os.path.dirname(os.path.realpath(__file__))))
-MOST = 20
+#: Seconds of a processor that an input may take, and seconds that may go by meanwhile on a machine with much to do.
+MOST, MOST_ELAPSED = 20, 600
 STATUSES = (0, 1, 2, 3, 4)
 OPENED = [f"issue {thread} {rm} xa_open;answer {thread} {rm} xa_open 0" for thread in range(4) for rm in range(2)]
 RECOVERED = ["recover 0", "page 0", "recover 1", "page 1", "start 1", "start 2", "start 3"]
@@ -37,7 +39,8 @@ class Program:
     def runs(self, words, given=b""):
         """What the program prints, and its status: none if it had to be killed."""
         try:
-            ran = subprocess.run([self.program, *words], input=given, stdout=subprocess.PIPE, stderr=subprocess.PIPE, cwd=self.folder, timeout=MOST, check=False)
+            ran = subprocess.run([self.program, *words], input=given, stdout=subprocess.PIPE, stderr=subprocess.PIPE, cwd=self.folder, timeout=MOST_ELAPSED,
+                                 preexec_fn=lambda: resource.setrlimit(resource.RLIMIT_CPU, (MOST, MOST)), check=False)
         except subprocess.TimeoutExpired:
             return b"", None
         return ran.stdout, ran.returncode
