@@ -10,7 +10,8 @@ import subprocess
 from fuzzers.chance import a_move, a_request, lines_of, mutated
 
 TOP = os.path.dirname(os.path.dirname(os.path.dirname(os.path.realpath(__file__))))
-#: Seconds of a processor that an input may take, and seconds that may go by meanwhile on a machine with much to do.
+#: Seconds of a processor that an input may take, and seconds that may go by meanwhile on a machine
+#: with much to do.
 MOST, MOST_ELAPSED = 20, 600
 STATUSES = (0, 1, 2, 3, 4)
 OPENED = [f"issue {thread} {rm} xa_open;answer {thread} {rm} xa_open 0" for thread in range(4) for rm in range(2)]
@@ -24,23 +25,40 @@ def read(path):
 
 def asked_in(pattern):
     """What the sessions of such names ask."""
-    return [b"\n".join(it[2:] for it in read(name).splitlines() if it.startswith(b"> ")) + b"\n" for name in sorted(glob.glob(f"{TOP}/tools/{pattern}"))]
+    return [
+        b"\n".join(it[2:] for it in read(name).splitlines() if it.startswith(b"> ")) + b"\n"
+        for name in sorted(glob.glob(f"{TOP}/tools/{pattern}"))
+    ]
 
 
 class Program:
     def __init__(self, program, folder, seed):
         self.program, self.chance, self.folder = program, random.Random(seed), folder
-        self.scenarios = [read(it) for it in sorted(glob.glob(f"{TOP}/examples/*.toml") + glob.glob(f"{TOP}/tests/refused/*.toml"))]
+        self.scenarios = [
+            read(it) for it in sorted(glob.glob(f"{TOP}/examples/*.toml") + glob.glob(f"{TOP}/tests/refused/*.toml"))
+        ]
         self.sessions, self.conducted = asked_in("sessions/[!m]*"), asked_in("sessions/moves-*")
-        self.logs = [read(it) for it in (f"{TOP}/tools/logs/version-1", f"{TOP}/tools/logs/last-incarnation")] + [self.with_rows()]
-        self.lines = (b"name shop-1\nrm 0 bank\nincarnation 7\n00000000000000070000000000000001 1 "
-                      b"7:73686f702d3100000000000000070000000000000001:0000000000000000\nend\n")
+        self.logs = [read(it) for it in (f"{TOP}/tools/logs/version-1", f"{TOP}/tools/logs/last-incarnation")] + [
+            self.with_rows()
+        ]
+        self.lines = (
+            b"name shop-1\nrm 0 bank\nincarnation 7\n00000000000000070000000000000001 1 "
+            b"7:73686f702d3100000000000000070000000000000001:0000000000000000\nend\n"
+        )
 
     def runs(self, words, given=b""):
         """What the program prints, and its status: none if it had to be killed."""
         try:
-            ran = subprocess.run([self.program, *words], input=given, stdout=subprocess.PIPE, stderr=subprocess.PIPE, cwd=self.folder, timeout=MOST_ELAPSED,
-                                 preexec_fn=lambda: resource.setrlimit(resource.RLIMIT_CPU, (MOST, MOST)), check=False)
+            ran = subprocess.run(
+                [self.program, *words],
+                input=given,
+                stdout=subprocess.PIPE,
+                stderr=subprocess.PIPE,
+                cwd=self.folder,
+                timeout=MOST_ELAPSED,
+                preexec_fn=lambda: resource.setrlimit(resource.RLIMIT_CPU, (MOST, MOST)),
+                check=False,
+            )
         except subprocess.TimeoutExpired:
             return b"", None
         return ran.stdout, ran.returncode
@@ -65,7 +83,9 @@ class Program:
     def of_scenarios(self):
         text = mutated(self.chance, self.chance.choice(self.scenarios), self.scenarios)
         self.put("it.toml", text)
-        command = self.chance.choice((["check"], ["check", "--json"], ["run", "--trace"], ["run", "--json"], ["explain"], ["threads"], ["chart"]))
+        command = self.chance.choice(
+            (["check"], ["check", "--json"], ["run", "--trace"], ["run", "--json"], ["explain"], ["threads"], ["chart"])
+        )
         said, status = self.runs([*command, "it.toml"])
         if "--json" in command and (said or command[0] == "check"):
             json.loads(said)
@@ -86,7 +106,9 @@ class Program:
         said, status = self.served(["--moves"], text)
         asked, replies = text.removesuffix(b"\n").split(b"\n"), said.split(b"\n")[1:-1]
         is_over = replies and replies[-1].split(b";")[-1].split(b" ")[0] in (b"bye", b"stopped", b"strange")
-        return text, status in STATUSES and (len(replies) == (len(asked) if text else 0) or bool(is_over) and len(replies) <= len(asked))
+        return text, status in STATUSES and (
+            len(replies) == (len(asked) if text else 0) or bool(is_over) and len(replies) <= len(asked)
+        )
 
     def served(self, words, text):
         """A session, over a new log or over the one that the session before has left."""

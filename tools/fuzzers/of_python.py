@@ -1,4 +1,5 @@
-"""The readers of the driver in Python: settings in TOML, the file beside a log, identifiers that databases list, and what a coordinator says."""
+"""The readers of the driver in Python: settings in TOML, the file beside a log, identifiers that
+databases list, and what a coordinator says."""
 
 import contextlib
 import io
@@ -10,25 +11,10 @@ import sys
 from fuzzers.chance import lines_of, a_request, mutated
 from fuzzers.of_program import TOP, read
 
-SETTINGS = b"""log = "decisions.db"
-name = "shop-1"
-threads = 4
-patience = 2.5
-timeout = 9
-program = "xatm"
-[[database]]
-as = "bank"
-kind = "postgresql"
-dsn = "dbname=bank"
-[[database]]
-as = "stock"
-kind = "mariadb"
-unix_socket = "/run/mysqld/mysqld.sock"
-database = "stock"
-[mirror]
-kind = "postgresql"
-dsn = "dbname=mirror"
-"""
+SETTINGS = b"""log = "decisions.db" name = "shop-1" threads = 4 patience = 2.5 timeout = 9 program =
+"xatm" [[database]] as = "bank" kind = "postgresql" dsn = "dbname=bank" [[database]] as = "stock"
+kind = "mariadb" unix_socket = "/run/mysqld/mysqld.sock" database = "stock" [mirror] kind =
+"postgresql" dsn = "dbname=mirror" """
 BESIDE = b"""{
  "version": 1,
  "shut": "Another \\"log\\" is at work: \\u00e4",
@@ -46,11 +32,15 @@ BESIDE = b"""{
    "identity": "mariadb 5f0e"
   }
  ]
-}
-"""
-GREETING = b"protocol 1 version 1.0.0 name shop-1 rms bank stock\nrestarted 2 1 0\n;status up 0\nbegun 00000000000000020000000000000001\nowed 0\nbye\n"
+} """
+GREETING = (
+    b"protocol 1 version 1.0.0 name shop-1 rms bank stock\nrestarted 2 1 0\n;status up 0\n"
+    b"begun 00000000000000020000000000000001\nowed 0\nbye\n"
+)
 #: Prints a file, and ends once it is told nothing more.
-SAYS = "import shutil, sys; shutil.copyfileobj(open(sys.argv[1], 'rb'), sys.stdout.buffer); sys.stdout.flush(); sys.stdin.read()"
+SAYS = (
+    "import shutil, sys; shutil.copyfileobj(open(sys.argv[1], 'rb'), sys.stdout.buffer); sys.stdout.flush(); sys.stdin.read()"
+)
 
 
 class Python:
@@ -58,6 +48,7 @@ class Python:
         self.folder, self.chance = folder, random.Random(seed)
         sys.path.insert(0, f"{TOP}/drivers/python")
         import garterfossil
+
         self.it = garterfossil
         # What is written needn't outlive the machine here.
         os.fsync = lambda _: None
@@ -83,6 +74,7 @@ class Python:
 
     def of_settings(self):
         from garterfossil.configuration import Configuration
+
         text = mutated(self.chance, SETTINGS, [SETTINGS])
         path = self.put("settings.toml", text)
         return text, self.ends(lambda: Configuration.read(path))
@@ -90,6 +82,7 @@ class Python:
     def of_beside(self):
         """The file beside a log: what is read is written, and read as the same."""
         from garterfossil.identities import Identities
+
         text = mutated(self.chance, BESIDE, [BESIDE])
         self.put("it.db-databases", text)
 
@@ -101,6 +94,7 @@ class Python:
             again = Identities(f"{self.folder}/it.db", "shop-1", False)
             again.note_session((1 << 62) + 1)
             assert read(f"{self.folder}/it.db-databases").replace(b"4611686018427387905", b"4611686018427387904") == before
+
         return text, self.ends(reads)
 
     def of_branches(self):
@@ -114,11 +108,13 @@ class Python:
                 assert str(self.it.Xid.parse(asked)) == asked
             except ValueError:
                 pass
+
         return text, self.ends(reads)
 
     def of_replies(self):
         """What a coordinator says, and what becomes of requests then."""
         from garterfossil.coordinator import Coordinator
+
         base = GREETING if self.chance.random() < 0.5 else GREETING + lines_of(self.chance, a_request)
         text = mutated(self.chance, base, [GREETING])
         path = self.put("said", text)
@@ -130,4 +126,5 @@ class Python:
                     coordinator.ask(asked)
             finally:
                 coordinator.quit()
+
         return text, self.ends(talks)
