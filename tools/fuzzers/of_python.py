@@ -11,10 +11,25 @@ import sys
 from fuzzers.chance import lines_of, a_request, mutated
 from fuzzers.of_program import TOP, read
 
-SETTINGS = b"""log = "decisions.db" name = "shop-1" threads = 4 patience = 2.5 timeout = 9 program =
-"xatm" [[database]] as = "bank" kind = "postgresql" dsn = "dbname=bank" [[database]] as = "stock"
-kind = "mariadb" unix_socket = "/run/mysqld/mysqld.sock" database = "stock" [mirror] kind =
-"postgresql" dsn = "dbname=mirror" """
+SETTINGS = b"""log = "decisions.db"
+name = "shop-1"
+threads = 4
+patience = 2.5
+timeout = 9
+program = "xatm"
+[[database]]
+as = "bank"
+kind = "postgresql"
+dsn = "dbname=bank"
+[[database]]
+as = "stock"
+kind = "mariadb"
+unix_socket = "/run/mysqld/mysqld.sock"
+database = "stock"
+[mirror]
+kind = "postgresql"
+dsn = "dbname=mirror"
+"""
 BESIDE = b"""{
  "version": 1,
  "shut": "Another \\"log\\" is at work: \\u00e4",
@@ -32,7 +47,8 @@ BESIDE = b"""{
    "identity": "mariadb 5f0e"
   }
  ]
-} """
+}
+"""
 GREETING = (
     b"protocol 1 version 1.0.0 name shop-1 rms bank stock\nrestarted 2 1 0\n;status up 0\n"
     b"begun 00000000000000020000000000000001\nowed 0\nbye\n"
