@@ -18,7 +18,7 @@
 
 int LLVMFuzzerTestOneInput(const uint8_t *data, size_t size);
 
-static char folder[] = "/tmp/garterfossil-fuzz-XXXXXX", in_folder[600];
+static char folder[] = "/tmp/xatm-fuzz-c-XXXXXX", in_folder[600];
 
 static void put(const char *name, const uint8_t *data, size_t size)
 {
