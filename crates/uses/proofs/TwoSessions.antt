@@ -1,7 +1,10 @@
 -- Two sessions of one log.
-use Rattle.std.proofs.Common.{◌≡◌, ◌∙◌, ◌≤◌, ◌<◌, ◌⊎◌, inl, inr, ℕ, true, false, List, [], ◌∷◌, ◌++◌, Some, None, IsSomeAnd, refl, sym, ap, subst, arith}
+use Rattle.std.proofs.Common.{◌≡◌, ◌≢◌, ◌∙◌, ◌≤◌, ◌<◌, ◌⊎◌, inl, inr, ℕ, Bool, true, false, List, [], ◌∷◌, ◌++◌, Some, None, IsSomeAnd, refl, sym, ap, subst, arith}
+use Rattle.std.specs.Prelude.{if◌then◌else◌}
 use Rattle.std.specs.List.{list_any}
-use Rattle.xa_base.specs.StateTable.{broken}
+use Rattle.xa_base.proofs.BranchKeys.{branch_eq-true}
+use Rattle.xa_base.specs.Branch.{branch_eq}
+use Rattle.xa_base.specs.StateTable.{asks_of, broken}
 use Rattle.xa_base.specs.declared.state.Standing.{Standing}
 use Rattle.xa_base.specs.declared.state.Standing.TheVariants.{Committed, Completed, Forgotten, Prepared, Unstarted}
 use Rattle.xa_base.specs.declared.branch.Gtrid.{Gtrid}
@@ -13,13 +16,14 @@ use Rattle.xa_server.specs.Replies.{greeting_of}
 use Rattle.xa_server.specs.Serving.{HaveReplies, replies_given, requests_done}
 use Rattle.xa_server.specs.Sessions.{AreServed, AreServed.NoneYet, AreServed.OneMore, CommitStandsInLog, HoldsLeft, IsEmptyLog, IsHandedOn, IsSession, IsSessionLeft.AfterLine, ServedCommitsStand, ServedLogsDecide, ServedSessionsAgree, ServedSessionsAreSeen, StartsOver, WasFoundDecidedInLog}
 use Rattle.xa_server.specs.Telling.{HaveTold, is_log_fault}
+use Rattle.xa_server.specs.Transactions.{AreServedFor.NoneYet as NoneYetFor, AreServedFor.OneMore as OneMoreFor, MayStandFor, MayStandFor.AsTold as AsToldFor, MayStandFor.CutOff as CutOffFor, MayStandFor.EndedAlone as EndedAloneFor, MayStandFor.UnderWay as UnderWayFor, ServedTransactionsAgree}
 use Rattle.xa_server.specs.Votes.{VotedCommitsAreLogged}
 use Rattle.xa_server.specs.Rows.{is_gtrid_among}
 use Rattle.xa_server.specs.declared.server.Server.{Server}
 use Rattle.xa_log.specs.Content.{Content, with_bump}
 use Rattle.xa_log.specs.Contract.{Honestly, Moment}
 use Rattle.xa_model.specs.Promises.Agreement.{IsUndone}
-use Rattle.xa_model.specs.Trace.{Branch, Line}
+use Rattle.xa_model.specs.Trace.{Branch, Line, Origin}
 use Rattle.xa_names.specs.Laws.{LinesStay}
 use Rattle.xa_requests.specs.declared.response.Response.{Response}
 use Rattle.xa_session.proofs.LogStarts.{later_sessions_are_newer}
@@ -27,10 +31,11 @@ use Rattle.xa_session.specs.Logging.{HoldsItsBook, KeepsLog}
 use Rattle.xa_monitor.specs.Agreement.{MayAllStand, MayAllStand.AsTold}
 use Rattle.xa_monitor.specs.Seen.{Seen, Seen.Start}
 use Rattle.xa_monitor.specs.Sessions.{IsCommitting}
-use Rattle.xa_monitor.specs.Standings.{Comes}
+use Rattle.xa_monitor.specs.Standings.{Comes, ExplainsAsked}
 use Rattle.xa_tm.specs.Calls.{book_in, log_in}
 use Rattle.xa_sql_log.proofs.FoundDecisions.{some_is as there_is}
 use Rattle.uses.specs.Sessions.{AreServedTo, AreServedTwice, EndDecided, EndedAlone, EndsCommitted, IsReplied, IsServedOver, IsServedTwice}
+use Rattle.uses.specs.Transactions.{AgreeApart, AreServedApartFrom}
 use Rattle.uses.proofs.Sessions.{start_of, begins_so, rows_logged}
 
 is_replied : {L : Type 0} (moment : L → Moment) (threads rms : ℕ) (handed left : L) (text written : List ℕ)
@@ -63,6 +68,30 @@ ends_committed f c b stands = record {
   never_undone = committing_stays (f b) stands.commits;
   in_the_end = λ gone. committing_ends (f b) stands.commits (λ prepared. let row = stands.row_stays prepared in let no : ⊥ = cc in no);
 }
+
+-- ** one transaction alone
+
+-- no branch of another transaction is one of this
+not_other : (h : Gtrid) (d b : Branch) (z s : Standing) → d.gtrid ≢ h → b.gtrid ≡ h → (if branch_eq d b then z else s) ≡ s
+not_other h d b z s other is = by (branch_eq d b) refl
+  where
+    by : (t : Bool) → branch_eq d b ≡ t → (if t then z else s) ≡ s
+    by true e = absurd (other (ap (λ (y : Branch). y.gtrid) (branch_eq-true d b e) ∙ is))
+    by false e = refl
+
+-- where the branches of other transactions stand isn't said
+stands_too : (g : Gtrid) (o : Origin) (seen : Seen) (Told : Branch → Standing → Type 0) (done cut : List Line) (f k : Branch → Standing)
+    → ((b : Branch) → b.gtrid ≡ g → k b ≡ f b) → MayStandFor g o seen Told done cut f → MayStandFor g o seen Told done cut k
+stands_too g o seen Told _ _ f k same (AsToldFor _ told) = AsToldFor k (λ b is. subst (Told b) (sym (same b is)) (told b is))
+stands_too g o seen Told _ _ f k same (UnderWayFor done cut from _ l c before of free waits so) =
+    UnderWayFor done cut from k l c before of free waits
+    (so.0, λ b is. subst (λ s. ExplainsAsked (asks_of c) so.0 b (from b) s) (sym (same b is)) (so.1 b is))
+stands_too g o seen Told _ _ f k same (CutOffFor done cut from _ l before so) =
+    CutOffFor done cut from k l before (λ b is. same b is ∙ so b is)
+stands_too g o seen Told _ _ f k same (EndedAloneFor done cut from _ d how before was so) =
+    EndedAloneFor done cut from k d how before was (λ b is. same b is ∙ so b is)
+
+-- ** two sessions
 
 module _ {L : Type 0} (moment : L → Moment) (agree : ServedSessionsAgree moment) (are_seen : ServedSessionsAreSeen moment) (stay : LinesStay)
     (threads rms : ℕ) where
@@ -110,8 +139,7 @@ module _ {L : Type 0} (moment : L → Moment) (agree : ServedSessionsAgree momen
             (AsTold (λ c. Unstarted) (λ c. subst (λ seen. Comes seen c Unstarted Unstarted) (sym s.1) refl)),
       )
 
-  module _ (decide : ServedLogsDecide moment) (stand : ServedCommitsStand moment) (law : VotedCommitsAreLogged moment) (handed : L)
-      (order : (moment handed).is_in_order) (empty : IsSomeAnd (moment handed).content IsEmptyLog) (a b x y : Server L)
+  module _ (handed : L) (order : (moment handed).is_in_order) (empty : IsSomeAnd (moment handed).content IsEmptyLog) (a b x y : Server L)
       (one_lines two_lines : List (List ℕ)) (one_replies two_replies : List Response) (one : StartsOver moment threads rms handed a)
       (two : StartsOver moment threads rms (log_in b.session.manager) x) (one_have : HaveReplies moment one_lines one_replies a b)
       (two_have : HaveReplies moment two_lines two_replies x y) (one_well : list_any is_log_fault one_replies ≡ false)
@@ -169,17 +197,19 @@ module _ {L : Type 0} (moment : L → Moment) (agree : ServedSessionsAgree momen
         omega (arith, from, newer)
 
     -- the second session found a decided branch that stood prepared
-    found_decided : (gs : List Gtrid) → EndDecided one_lines one_replies gs → (one_done one_cut two_done two_cut : List Line) (from to : Branch → Standing)
+    found_decided : VotedCommitsAreLogged moment → (gs : List Gtrid)
+        → EndDecided one_lines one_replies gs → (one_done one_cut two_done two_cut : List Line) (from to : Branch → Standing)
         (one_may : MayAllStand (start_of threads rms a) s.0 (λ c. Comes s.0 c Unstarted) one_done one_cut from)
         (two_may : MayAllStand (start_of threads rms x) t.0 (λ c. Comes t.0 c (broken (from c))) two_done two_cut to)
         (d : Branch) → is_gtrid_among gs d.gtrid ≡ true → from d ≡ Prepared
         → WasFoundDecidedInLog moment [] d (Some y) to (all one_done one_cut two_done two_cut from to one_may two_may)
     unfolding all
-    found_decided gs end one_done one_cut two_done two_cut from to one_may two_may d among prepared =
+    found_decided law gs end one_done one_cut two_done two_cut from to one_may two_may d among prepared =
         inl (prepared, rows_logged moment law threads rms handed a b one_lines one_replies one one_have order b_honest gs d.gtrid end among)
 
-    pub are_served : AreServedTwice (moment (log_in y.session.manager)).content one_lines two_lines one_replies two_replies
-    are_served = record {
+    pub are_served : ServedLogsDecide moment → ServedCommitsStand moment → VotedCommitsAreLogged moment
+        → AreServedTwice (moment (log_in y.session.manager)).content one_lines two_lines one_replies two_replies
+    are_served decide stand law = record {
       one = start_of threads rms a;
       two = start_of threads rms x;
       one_seen = s.0;
@@ -192,7 +222,29 @@ module _ {L : Type 0} (moment : L → Moment) (agree : ServedSessionsAgree momen
           (agree [] (Some y) to served, λ c is. decide [] y to c served (inl is));
       commits = λ gs end one_done one_cut two_done two_cut from to one_may two_may d among prepared c is.
           ends_committed to c d (stand [] y to c d (all one_done one_cut two_done two_cut from to one_may two_may)
-          (found_decided gs end one_done one_cut two_done two_cut from to one_may two_may d among prepared) (inl is));
+          (found_decided law gs end one_done one_cut two_done two_cut from to one_may two_may d among prepared) (inl is));
+    }
+
+    -- one transaction alone: where the branches of others stand isn't asked
+    agree_apart : ServedTransactionsAgree moment
+        → AgreeApart (moment (log_in y.session.manager)).content one_lines two_lines one_replies two_replies
+    agree_apart law = record {
+      one = start_of threads rms a;
+      two = start_of threads rms x;
+      one_seen = s.0;
+      two_seen = t.0;
+      later = later;
+      one_told = s.1;
+      two_told = t.1;
+      apart = λ h d z one_done one_cut two_done two_cut from amid to c other one_may by_hand two_may is.
+          let found = there_is (moment handed).content IsEmptyLog empty in
+          law [] h c to
+          (OneMoreFor mid_content.0 c amid to (log_in b.session.manager) (start_of threads rms x) t.0 t.0 y y two_done two_cut
+          (OneMoreFor found.0 mid_content.0 (λ e. Unstarted) amid handed (start_of threads rms a) s.0 s.0 b b one_done one_cut
+          (NoneYetFor found.0 found.2) (holds_it handed order found.0 found.1) s.2 AfterLine b_honest
+          (stands_too h (start_of threads rms a) s.0 (λ e. Comes s.0 e Unstarted) one_done one_cut from amid
+          (λ e is_of. by_hand e ∙ not_other h d e z (from e) other is_of) one_may) (inl mid_content.1))
+          (holds_it (log_in b.session.manager) mid_order mid_content.0 mid_content.1) t.2 AfterLine honest two_may (inl is));
     }
 
   -- what is said of a log that two sessions leave
@@ -209,10 +261,10 @@ module _ {L : Type 0} (moment : L → Moment) (agree : ServedSessionsAgree momen
     one = is_replied moment threads rms handed mid first first_written one;
     two = is_replied moment threads rms mid left second second_written two;
     served = λ one_well two_well.
-        are_served decide stand law handed order empty one.first one.last two.first two.last (requests_done one.serves.turns) (requests_done two.serves.turns)
+        are_served handed order empty one.first one.last two.first two.last (requests_done one.serves.turns) (requests_done two.serves.turns)
         (replies_given one.serves.turns) (replies_given two.serves.turns) one.starts
         (subst (λ log. StartsOver moment threads rms log two.first) one.log two.starts) one.serves.replied
-        two.serves.replied one_well two_well honest;
+        two.serves.replied one_well two_well honest decide stand law;
   }
 
   pub served_so : ServedLogsDecide moment → ServedCommitsStand moment → VotedCommitsAreLogged moment → (handed mid left : L)
@@ -222,3 +274,31 @@ module _ {L : Type 0} (moment : L → Moment) (agree : ServedSessionsAgree momen
   served_so decide stand law handed mid left first second first_written second_written one two =
       subst (ServesLeft handed first second first_written second_written) (sym two.log)
       (serves_left decide stand law handed mid left first second first_written second_written one two)
+
+  -- the same of one transaction alone
+  abbrev LeavesApart : L → (first second first_written second_written : List ℕ) → L → Type 0
+  LeavesApart handed first second first_written second_written log = Honestly (moment handed) (moment log)
+      (IsSomeAnd (moment handed).content IsEmptyLog → AreServedApartFrom (moment log).content first second first_written second_written)
+
+  leaves_apart : ServedTransactionsAgree moment → (handed mid left : L) (first second first_written second_written : List ℕ)
+      → IsServedOver moment threads rms handed first first_written mid
+      → (two : IsServedOver moment threads rms mid second second_written left)
+      → LeavesApart handed first second first_written second_written (log_in two.last.session.manager)
+  unfolding is_replied
+  leaves_apart law handed mid left first second first_written second_written one two order honest empty = record {
+    one = is_replied moment threads rms handed mid first first_written one;
+    two = is_replied moment threads rms mid left second second_written two;
+    served = λ one_well two_well.
+        agree_apart handed order empty one.first one.last two.first two.last (requests_done one.serves.turns)
+        (requests_done two.serves.turns)
+        (replies_given one.serves.turns) (replies_given two.serves.turns) one.starts
+        (subst (λ log. StartsOver moment threads rms log two.first) one.log two.starts) one.serves.replied
+        two.serves.replied one_well two_well honest law;
+  }
+
+  pub apart_so : ServedTransactionsAgree moment → (handed mid left : L) (first second first_written second_written : List ℕ)
+      → IsServedOver moment threads rms handed first first_written mid → IsServedOver moment threads rms mid second second_written left
+      → LeavesApart handed first second first_written second_written left
+  apart_so law handed mid left first second first_written second_written one two =
+      subst (LeavesApart handed first second first_written second_written) (sym two.log)
+      (leaves_apart law handed mid left first second first_written second_written one two)

@@ -5,3 +5,4 @@ pub mod Paths
 pub mod Processes
 pub mod Sessions
 pub mod Starts
+pub mod Transactions

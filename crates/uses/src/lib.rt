@@ -1,8 +1,10 @@
-//! Callers of the libraries, each proved to do what its contract says. A file is named after its library, without the
-//! `xa_`; `serve`, `managers` and `paths` are callers of `xa_server`, `own_log`, `processes`, `recovery`, `swaps` and `crash` are
-//! further callers of `xa_system`, and `sql_jobs` of `xa_workers`.
+//! Callers of the libraries, each proved to do what its contract says. A file is named after its
+//! library, without the `xa_`; `serve`, `transactions`, `managers` and `paths` are of
+//! `xa_server`, `own_log`, `processes`, `recovery`, `swaps` and `crash` are further callers of
+//! `xa_system`, and `sql_jobs` of `xa_workers`.
 //!
-//! Nothing runs them: that a call comes to its end is said by the tests of the libraries that it calls.
+//! Nothing runs them: that a call comes to its end is said by the tests of the libraries that it
+//! calls.
 #![tactic(auto)]
 
 pub mod base;
@@ -26,4 +28,5 @@ pub mod sql_log;
 pub mod swaps;
 pub mod system;
 pub mod tm;
+pub mod transactions;
 pub mod workers;

@@ -58,7 +58,7 @@ pub fn served(alloc: Global, threads: u32, rms: u32, text: &[u8]) -> Result<Vec<
 }
 
 /// Serves a driver that writes this text, over a log, and gives what was written for it and the log.
-fn served_over<L: DecisionLog + Drop>(
+pub(crate) fn served_over<L: DecisionLog + Drop>(
     alloc: Global,
     threads: u32,
     rms: u32,
