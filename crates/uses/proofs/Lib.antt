@@ -13,3 +13,4 @@ mod Sessions
 mod StartRows
 mod TwoManagers
 mod TwoSessions
+mod WorkedSessions

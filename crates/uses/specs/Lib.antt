@@ -6,3 +6,4 @@ pub mod Processes
 pub mod Sessions
 pub mod Starts
 pub mod Transactions
+pub mod WorkedSessions
