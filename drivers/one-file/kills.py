@@ -19,7 +19,7 @@ import time
 import uuid
 
 HERE = os.path.dirname(os.path.realpath(__file__))
-sys.path[:0] = [HERE, os.path.join(HERE, "../../tools/databases")]
+sys.path[:0] = [HERE, os.path.join(HERE, "../../drivers/databases")]
 import conducted  # noqa: E402
 from servers import MariaDBServer, PostgreSQLServer, own, processes_of  # noqa: E402
 

@@ -1,4 +1,4 @@
-"""What the parts of tools/with-databases work on: two servers, a log, and a coordinator over them, in a folder."""
+"""What the parts of drivers/with-databases work on: two servers, a log, and a coordinator over them, in a folder."""
 
 import importlib
 import json

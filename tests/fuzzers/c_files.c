@@ -1,6 +1,6 @@
 /* What the driver in C reads from files: its settings (with -DSETTINGS), or the file beside the
  * log. Nothing but an answer may come of any bytes; and of the second, what was read is written,
- * and read as the same. (libFuzzer; tools/fuzz builds and runs it.) */
+ * and read as the same. (libFuzzer; tests/fuzz builds and runs it.) */
 #include <stdbool.h>
 #include <stdint.h>
 #include <stdio.h>

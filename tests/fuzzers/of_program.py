@@ -38,7 +38,7 @@ class Program:
             read(it) for it in sorted(glob.glob(f"{TOP}/examples/*.toml") + glob.glob(f"{TOP}/tests/refused/*.toml"))
         ]
         self.sessions, self.conducted = asked_in("sessions/[!m]*"), asked_in("sessions/moves-*")
-        self.logs = [read(it) for it in (f"{TOP}/tools/logs/version-1", f"{TOP}/tools/logs/last-incarnation")] + [
+        self.logs = [read(it) for it in (f"{TOP}/tests/logs/version-1", f"{TOP}/tests/logs/last-incarnation")] + [
             self.with_rows()
         ]
         self.lines = (

@@ -1,0 +1,1 @@
+"""What tests/fuzz gives to the readers of this repository."""

@@ -1,1 +1,0 @@
-"""What tools/fuzz gives to the readers of this repository."""
