@@ -27,7 +27,7 @@ def asked_in(pattern):
     """What the sessions of such names ask."""
     return [
         b"\n".join(it[2:] for it in read(name).splitlines() if it.startswith(b"> ")) + b"\n"
-        for name in sorted(glob.glob(f"{TOP}/tools/{pattern}"))
+        for name in sorted(glob.glob(f"{TOP}/tests/{pattern}"))
     ]
 
 
