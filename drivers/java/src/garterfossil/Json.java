@@ -1,14 +1,18 @@
 package garterfossil;
 
 import java.util.ArrayList;
+import java.util.HexFormat;
 import java.util.LinkedHashMap;
 import java.util.List;
 import java.util.Map;
 
 /** JSON, as far as the file beside a log needs it: maps, lists, texts, whole numbers, true, false and null. */
 final class Json {
+    /** So many maps and lists may stand in one another: the file has three, and each takes some of the thread's stack. */
+    private static final int DEEPEST = 64;
+
     private final String text;
-    private int at;
+    private int at, depth;
 
     private Json(String text) {
         this.text = text;
@@ -16,9 +20,11 @@ final class Json {
 
     /** What a text says. Throws IllegalArgumentException if it is none of JSON. */
     static Object read(String text) {
-        Json json = new Json(text);
+        // Where somebody has removed the last line a comma stays behind.
+        Json json = new Json(text.replaceFirst(",\\s*+\\}\\s*+$", "}"));
         Object found = json.value();
-        if (json.next() != 0) {
+        json.next();
+        if (json.at < json.text.length()) {
             throw json.wrong();
         }
         return found;
@@ -49,12 +55,17 @@ final class Json {
     }
 
     private Object value() {
-        switch (next()) {
-            case '{': return map();
-            case '[': return list();
-            case '"': return string();
-            default: return word();
+        char first = next();
+        if (first != '{' && first != '[') {
+            return first == '"' ? string() : word();
         }
+        depth++;
+        if (depth > DEEPEST) {
+            throw new IllegalArgumentException("more than " + DEEPEST + " maps and lists in one another, at character " + at);
+        }
+        Object found = first == '{' ? map() : list();
+        depth--;
+        return found;
     }
 
     private Map<String, Object> map() {
@@ -111,7 +122,7 @@ final class Json {
                     throw wrong();
                 }
                 at += 4;
-                return (char) Integer.parseInt(text.substring(at - 4, at), 16);
+                return (char) HexFormat.fromHexDigits(text, at - 4, at);
             default: return letter;
         }
     }
