@@ -45,10 +45,19 @@ public final class Command {
             Doubt doubt = builder.status();
             System.out.println(doubt);
             return doubt.unreachable() > 0 ? 2 : owing + doubt.branches() > 0 ? 1 : 0;
-        } catch (Fault | IOException | ReflectiveOperationException | IllegalArgumentException error) {
-            System.err.println("garterfossil: " + words[1] + ": " + error.getMessage());
+        } catch (Fault | IOException | ReflectiveOperationException | IllegalArgumentException | LinkageError error) {
+            System.err.println("garterfossil: " + words[1] + ": " + told(error));
             return 2;
         }
+    }
+
+    /** What somebody is told of an error: of a class that fails, what that says. */
+    private static String told(Throwable error) {
+        if (error instanceof InvocationTargetException || error instanceof ExceptionInInitializerError) {
+            return told(error.getCause());
+        }
+        boolean isOurs = error instanceof Fault || error instanceof IllegalArgumentException;
+        return isOurs && error.getMessage() != null ? error.getMessage() : error.toString();
     }
 
     private static Manager.Builder builder(Path file) throws IOException, ReflectiveOperationException {
@@ -78,7 +87,11 @@ public final class Command {
         Map<String, Map<String, String>> all = new TreeMap<>();
         for (String key : found.stringPropertyNames()) {
             String[] parts = key.split("\\.", 3);
-            if (key.startsWith(RESOURCE) && parts.length == 3) {
+            if (key.startsWith(RESOURCE) && (parts.length < 3 || parts[1].isEmpty() || parts[2].isEmpty())) {
+                throw new IllegalArgumentException("a resource's line has NAME.class behind " + RESOURCE
+                    + ", or NAME and what is to be set, and not: " + key);
+            }
+            if (key.startsWith(RESOURCE)) {
                 all.computeIfAbsent(parts[1], it -> new LinkedHashMap<>()).put(parts[2], found.getProperty(key));
             }
         }
@@ -97,8 +110,11 @@ public final class Command {
             return JdbcResource.of(name, (XADataSource) source);
         }
         // JMS isn't everywhere.
-        Method of = Class.forName("garterfossil.jms.JmsResource").getMethod("of", String.class, Class.forName("javax.jms.XAConnectionFactory"));
-        return (Resource) of.invoke(null, name, source);
+        Class<?> factory = Class.forName("javax.jms.XAConnectionFactory");
+        if (!factory.isInstance(source)) {
+            throw new IllegalArgumentException(source.getClass().getName() + " is no XADataSource, and no " + factory.getName());
+        }
+        return (Resource) Class.forName("garterfossil.jms.JmsResource").getMethod("of", String.class, factory).invoke(null, name, source);
     }
 
     private static void set(Object target, String name, String text) throws ReflectiveOperationException {
@@ -107,13 +123,31 @@ public final class Command {
             Class<?> kind = method.getParameterCount() == 1 && method.getName().equals(setter) ? method.getParameterTypes()[0] : null;
             if (kind == String.class || kind == int.class || kind == boolean.class) {
                 try {
-                    method.invoke(target, kind == int.class ? (Object) Integer.valueOf(text) : kind == boolean.class ? (Object) Boolean.valueOf(text) : text);
+                    method.invoke(target, value(kind, name, text));
                     return;
                 } catch (InvocationTargetException error) {
-                    throw new IllegalArgumentException(name + ": " + error.getCause().getMessage());
+                    throw new IllegalArgumentException(name + ": " + told(error));
                 }
             }
         }
         throw new IllegalArgumentException(target.getClass().getName() + " has no " + name + " to be set");
+    }
+
+    private static Object value(Class<?> kind, String name, String text) {
+        if (kind == String.class) {
+            return text;
+        }
+        if (kind == boolean.class && (text.equalsIgnoreCase("true") || text.equalsIgnoreCase("false"))) {
+            return Boolean.valueOf(text);
+        }
+        try {
+            if (kind == int.class) {
+                return Integer.valueOf(text);
+            }
+        } catch (NumberFormatException error) {
+            // It is said below.
+        }
+        String wanted = kind == int.class ? "a whole number" : "true or false";
+        throw new IllegalArgumentException(name + " is to be " + wanted + ", and not: " + text);
     }
 }

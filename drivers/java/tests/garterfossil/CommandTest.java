@@ -7,6 +7,7 @@ import java.io.ByteArrayOutputStream;
 import java.io.PrintStream;
 import java.nio.file.Files;
 import java.nio.file.Path;
+import java.util.List;
 import org.junit.Rule;
 import org.junit.Test;
 import org.junit.rules.TemporaryFolder;
@@ -31,6 +32,56 @@ public class CommandTest {
     private String file(String text) throws Exception {
         Path path = temporary.getRoot().toPath().resolve("it.properties");
         return Files.writeString(path, text).toString();
+    }
+
+    /** What a resource's line may name: it is none that takes part. */
+    public static final class Source {
+        public void setCount(int count) {
+            throw new IllegalStateException("it has no " + count);
+        }
+
+        public void setIsOn(boolean isOn) {
+            // Nothing is set.
+        }
+    }
+
+    /** One that can't be made. */
+    public static final class Failing {
+        public Failing() {
+            throw new IllegalStateException("its constructor fails");
+        }
+    }
+
+    /** One whose class can't be used at all. */
+    public static final class Broken {
+        static {
+            fails();
+        }
+
+        private static void fails() {
+            throw new IllegalStateException("its class fails");
+        }
+    }
+
+    private void saysOf(String text, Class<?> kind, String lines) throws Exception {
+        says(2, text, "status", file("log = l\nresource.bank.class = " + kind.getName() + "\n" + lines));
+    }
+
+    @Test
+    public void whatIsNoLineOfAResource() throws Exception {
+        for (String key : List.of("resource.", "resource.bank", "resource..url", "resource.bank.")) {
+            saysOf("and not: " + key + "\n", Source.class, key + " = x");
+        }
+        saysOf("count is to be a whole number, and not: many", Source.class, "resource.bank.count = many");
+        saysOf("count is to be a whole number, and not: 2147483648", Source.class, "resource.bank.count = 2147483648");
+        saysOf("isOn is to be true or false, and not: yes", Source.class, "resource.bank.isOn = yes");
+        saysOf("count: java.lang.IllegalStateException: it has no 7", Source.class, "resource.bank.count = 7");
+        saysOf("Source is no XADataSource, and no javax.jms.XAConnectionFactory", Source.class, "resource.bank.isOn = True");
+        saysOf("its constructor fails", Failing.class, "");
+        saysOf("its class fails", Broken.class, "");
+        // The second time there is no cause of it.
+        saysOf("Broken", Broken.class, "");
+        says(2, "java.lang.ClassNotFoundException", "status", file("log = l\nresource.bank.class ="));
     }
 
     @Test
