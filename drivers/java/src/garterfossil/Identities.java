@@ -32,6 +32,10 @@ final class Identities {
             this.at = at;
             this.identity = identity;
         }
+
+        static Entry of(Map<?, ?> found) {
+            return new Entry(part(found, "at", String.class), part(found, "identity", String.class));
+        }
     }
 
     private final Path log, file;
@@ -64,14 +68,27 @@ final class Identities {
 
     private Map<?, ?> read() throws Fault.Unavailable {
         try {
-            Map<?, ?> found = (Map<?, ?>) Json.read(Files.readString(file));
+            Object read = Json.read(Files.readString(file));
+            if (!(read instanceof Map)) {
+                throw new IllegalArgumentException("it is no map");
+            }
+            Map<?, ?> found = (Map<?, ?>) read;
             if (!Long.valueOf(VERSION).equals(found.get("version"))) {
                 throw new IllegalArgumentException("it is of another version");
             }
+            part(found, "manager", String.class);
             return found;
         } catch (IOException | RuntimeException error) {
             throw unreadable(error);
         }
+    }
+
+    /** What a map has by this name. */
+    private static <T> T part(Map<?, ?> found, String name, Class<T> kind) {
+        if (!kind.isInstance(found.get(name))) {
+            throw new IllegalArgumentException("\"" + name + "\" is missing, or isn't what it is to be");
+        }
+        return kind.cast(found.get(name));
     }
 
     private Fault.Unavailable unreadable(Exception error) {
@@ -81,12 +98,15 @@ final class Identities {
 
     private void take(Map<?, ?> found) throws Fault.Unavailable {
         try {
-            for (Object it : (List<?>) found.get("databases")) {
+            for (Object it : part(found, "databases", List.class)) {
+                if (!(it instanceof Map)) {
+                    throw new IllegalArgumentException("one of the \"databases\" is no map");
+                }
                 Map<?, ?> entry = (Map<?, ?>) it;
-                known.put(((Long) entry.get("number")).intValue(), new Entry((String) entry.get("at"), (String) entry.get("identity")));
+                known.put(Math.toIntExact(part(entry, "number", Long.class)), Entry.of(entry));
             }
-            shut = (String) found.get("shut");
-            incarnation = found.get("incarnation") == null ? 0 : (Long) found.get("incarnation");
+            shut = found.get("shut") == null ? null : part(found, "shut", String.class);
+            incarnation = found.get("incarnation") == null ? 0 : part(found, "incarnation", Long.class);
         } catch (RuntimeException error) {
             throw unreadable(error);
         }

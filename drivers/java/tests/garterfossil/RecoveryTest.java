@@ -250,11 +250,35 @@ public class RecoveryTest {
         // The right one is back, and somebody has looked.
         world.put("incarnation", "2");
         Path file = world.folder.resolve("log-databases");
-        String text = Files.readString(file);
-        Files.writeString(file, text.replaceFirst(",\n \"shut\".*", ""));
+        // The line alone is removed, as is said: a comma stays behind.
+        String text = Files.readString(file).replaceFirst("(?m)^ \"shut\".*\n", "");
+        assertTrue(text, text.endsWith("],\n}\n"));
+        Files.writeString(file, text);
         world.manager = world.builder().start();
         nothingIsLeft();
         world.manager.close();
+    }
+
+    @Test
+    public void aFileBesideTheLogThatIsntReadable() throws Exception {
+        world.manager.close();
+        Path file = world.folder.resolve("log-databases");
+        String right = "{\"version\": 1, \"manager\": \"" + world.manager.name() + "\", \"incarnation\": 1, \"databases\": "
+            + "[{\"number\": 0, \"at\": \"the place of a\", \"identity\": \"the first\"}]}";
+        String all = "\\[\\{.*\\}\\]", the = ", \"identity\": \"the first\"";
+        for (String[] change : new String[][] {{"}]}", "}], \"more\": " + "[".repeat(1_000_000)}, {the, ""}, {"\"the first\"", "null"},
+            {"\"at\": \"the place of a\", ", ""}, {"\"number\": 0", "\"number\": 4294967296"}, {"\"number\": 0, ", ""}, {all, "[7]"},
+            {all, "7"}, {", \"databases\".*", "}"}, {"\"incarnation\": 1", "\"incarnation\": \"1\""}, {"\"manager\": \"[^\"]*\", ", ""},
+            {"\"version\": 1, ", "\"version\": 1, \"shut\": 2, "}, {"(?s).*", "[]"}, {"(?s).*", "null"}}) {
+            String text = right.replaceFirst(change[0], change[1]);
+            Files.writeString(file, text);
+            Fault.Unavailable error = assertThrows(change[0] + " as " + change[1], Fault.Unavailable.class, () -> world.builder().start());
+            assertTrue(error.getMessage(), error.getMessage().startsWith(file + " can't be read ("));
+            assertEquals(text, Files.readString(file));
+        }
+        Files.writeString(file, right);
+        world.a.identity = "the first";
+        world.builder().start().close();
     }
 
     @Test
