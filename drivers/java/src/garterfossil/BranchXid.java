@@ -35,9 +35,14 @@ final class BranchXid implements Xid {
         return new BranchXid(gtrid, ByteBuffer.allocate(QUALIFIER).putInt(thread).putInt(rm).array(), transaction);
     }
 
-    /** The branch that a text of the coordinator names, as in {@code 7:<digits>:<digits>}. */
+    /** The branch that the coordinator's text names, as in {@code 7:<digits>:<digits>}. IllegalArgumentException if it names none. */
     static BranchXid parse(String text) {
-        String[] parts = text.split(":");
+        String[] parts = text.split(":", -1);
+        boolean isOne = parts.length == 3 && parts[0].equals(Integer.toString(FORMAT)) && parts[1].length() >= 2 * TRANSACTION
+            && parts[2].length() == 2 * QUALIFIER;
+        if (!isOne) {
+            throw new IllegalArgumentException("no branch: " + text);
+        }
         return of(HEX.parseHex(parts[1]), HEX.parseHex(parts[2]));
     }
 

@@ -101,13 +101,13 @@ class Coordinator {
         String line = greeted();
         // A coordinator with names says first which protocol it speaks.
         if (line.startsWith("protocol ")) {
-            if (!line.split(" ")[1].equals(PROTOCOL)) {
+            if (!(line + " ").startsWith("protocol " + PROTOCOL + " ")) {
                 throw gone("it speaks another protocol than this driver, which has version " + PROTOCOL + ": " + line);
             }
             line = greeted();
         }
         greeting = line;
-        if (!greeting.startsWith("restarted ")) {
+        if (!greeting.matches("restarted [0-9]{1,18}( .*)?")) {
             throw gone("it began with the line: " + greeting);
         }
     }
@@ -153,6 +153,16 @@ class Coordinator {
     /** The reply to a move. */
     String ask(String move) throws Fault.Gone {
         return await(post(move));
+    }
+
+    /** The same of a move of a thread: what it is told. A reply that is none ends the session, since nobody knows what was done. */
+    Told told(Reply reply) throws Fault.Gone, Fault.Refused {
+        String text = await(reply);
+        try {
+            return Told.of(text);
+        } catch (IllegalArgumentException error) {
+            throw failed(error);
+        }
     }
 
     /** Puts a move on its way, on a line of its own. */

@@ -42,7 +42,7 @@ public final class Doubt {
     private Set<String> decisions(String printed) {
         Set<String> found = new HashSet<>();
         for (String line : printed.split("\n")) {
-            String first = line.split(" ")[0];
+            String first = line.split(" ", -1)[0];
             if (first.matches("[0-9a-f]{32}")) {
                 found.add(first);
                 decided++;

@@ -28,7 +28,11 @@ final class Fates {
     /** The next session begins, and is asked. */
     void find(Coordinator coordinator) throws Fault {
         for (Map.Entry<String, CompletableFuture<Outcome>> it : expected.entrySet()) {
-            it.getValue().complete(Told.of(coordinator.ask("fate " + it.getKey())).outcome());
+            Outcome found = coordinator.told(coordinator.post("fate " + it.getKey())).outcome();
+            if (found == null) {
+                throw new Fault.Refused("the coordinator doesn't say what became of " + it.getKey());
+            }
+            it.getValue().complete(found);
         }
     }
 

@@ -1,5 +1,6 @@
 package garterfossil;
 
+import java.util.ArrayList;
 import java.util.List;
 import java.util.stream.Collectors;
 
@@ -63,7 +64,7 @@ final class Hands {
         Told told = first;
         // The first calls are at all branches: else the coordinator doesn't know of one.
         seeExpected(told, told.rms.size() == branches.size());
-        while (told.outcome() == null) {
+        while (seen(told).outcome() == null) {
             List<Branch> called = called(told);
             make(told, called, isApart);
             String answers = called.stream().map(branch -> " " + branch.answer()).collect(Collectors.joining());
@@ -94,10 +95,23 @@ final class Hands {
         return told.rms.stream().map(this::at).collect(Collectors.toList());
     }
 
-    private static void seeExpected(Told told, boolean isExpected) throws Fault {
+    private static void seeExpected(Told told, boolean isExpected) throws Fault.Refused {
         if (!isExpected) {
-            throw new Fault.Refused("the coordinator told " + told.verb + " at " + told.rms);
+            throw new Fault.Refused("the coordinator told: " + told.reply);
         }
+    }
+
+    /** The same, of which each branch is one of the transaction's. */
+    private Told seen(Told told) throws Fault.Refused {
+        List<Integer> named = new ArrayList<>(told.owed);
+        for (int at = 0; at < told.mixed.size(); at += 2) {
+            named.add(told.mixed.get(at));
+        }
+        // Behind an outcome stand no branches first, but a vote and whose it is.
+        named.addAll(told.outcome() == null ? told.rms : told.rms.subList(Math.min(1, told.rms.size()), told.rms.size()));
+        seeExpected(told, named.stream().allMatch(rm -> branches.stream().anyMatch(branch -> branch.rm.number == rm)));
+        seeExpected(told, told.outcome() != Outcome.UNKNOWN || !told.owed.isEmpty());
+        return told;
     }
 
     /** The branch at a resource manager. */
@@ -152,6 +166,9 @@ final class Hands {
             throw session.coordinator.lost();
         }
         Told told = slot.tell(answers, isVote);
+        // Behind a reply that says nothing of a decision the next session knows what was decided.
+        Outcome to = told.outcome() != null ? told.outcome() : told.stage();
+        seeExpected(told, to == Outcome.COMMITTED || to == Outcome.COMMITTING || to == Outcome.ROLLED_BACK || to == Outcome.ROLLING_BACK);
         manager.fates.forget(transaction.gtrid());
         sure = told.verb.equals("commit") || told.outcome() == Outcome.COMMITTED ? Outcome.COMMITTED : Outcome.ROLLED_BACK;
         return told;

@@ -72,10 +72,14 @@ final class LogNames {
         String manager = "";
         List<String> resources = new ArrayList<>();
         for (String line : listed(log, starter, program).split("\n")) {
-            String[] words = line.split(" ");
-            if (words[0].equals("name")) {
+            String[] words = line.split(" ", -1);
+            boolean isName = words[0].equals("name"), isResource = words[0].equals("rm");
+            if (words.length < (isName ? 2 : isResource ? 3 : 1)) {
+                throw new Fault.Unavailable("what " + program + " prints of the log " + log + " isn't what xatm log prints: " + line);
+            }
+            if (isName) {
                 manager = words[1];
-            } else if (words[0].equals("rm")) {
+            } else if (isResource) {
                 resources.add(words[2]);
             }
         }

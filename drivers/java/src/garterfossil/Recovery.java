@@ -224,18 +224,41 @@ final class Recovery {
             switch (words[0]) {
                 case "recover": words = page(words.length == 3); break;
                 case "xa_commit": case "xa_rollback": case "xa_forget":
-                    words = asked("end", make(words[0], BranchXid.parse(words[1])));
+                    words = asked("end", make(words[0], named(words)));
                     break;
-                case "recovered": noteGone(); return words.length == 3 ? Integer.parseInt(words[2]) : 0;
+                case "recovered": noteGone(); return left(words);
                 case "later": return -1;
-                case "strange": session.strange(rm, words[1]); break;
-                default: throw coordinator.failed(new Fault.Refused(String.join(" ", words)));
+                case "strange": session.strange(rm, named(words).toString()); break;
+                default: throw refused(words);
             }
         }
     }
 
+    private Fault.Gone refused(String[] words) {
+        return coordinator.failed(new Fault.Refused("the coordinator replied: " + String.join(" ", words)));
+    }
+
+    private BranchXid named(String[] words) throws Fault.Gone {
+        try {
+            return BranchXid.parse(words.length > 1 ? words[1] : "");
+        } catch (IllegalArgumentException error) {
+            throw refused(words);
+        }
+    }
+
+    /** How many branches can't be ended yet. */
+    private int left(String[] words) throws Fault.Gone {
+        if (words.length == 1) {
+            return 0;
+        }
+        if (words.length != 3 || !words[2].matches("[0-9]{1,9}")) {
+            throw refused(words);
+        }
+        return Integer.parseInt(words[2]);
+    }
+
     private String[] asked(String move, String... words) throws Fault.Gone {
-        return coordinator.ask((move + " " + rm.number + " " + String.join(" ", words)).trim()).split(" ");
+        return coordinator.ask((move + " " + rm.number + " " + String.join(" ", words)).trim()).split(" ", -1);
     }
 
     /** Tells a page of what the resource lists. It is asked once for all of it. */

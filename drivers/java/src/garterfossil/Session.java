@@ -45,23 +45,34 @@ final class Session {
 
         private String started() throws Fault {
             try {
-                return Told.of(coordinator.ask("start " + number)).next;
+                return next(coordinator.told(coordinator.post("start " + number)));
             } catch (Fault.Refused refused) {
                 String missing = recoveries.stream().filter(it -> !it.isRecovered()).map(it -> it.rm.toString()).collect(Collectors.joining(", "));
                 throw new Fault.Unavailable("the log is new, and no transaction begins before each of its resources was reached once: " + missing);
             }
         }
 
+        /** The transaction that a reply names, which has begun. */
+        private String next(Told told) throws Fault.Gone {
+            if (told.next == null) {
+                throw coordinator.failed(new IllegalStateException("the coordinator names no next transaction: " + told.reply));
+            }
+            return told.next;
+        }
+
         private String behindLast() throws Fault.Gone {
-            String reply = coordinator.await(last);
+            Coordinator.Reply asked = last;
             last = null;
+            String reply;
             try {
-                Told told = Told.of(reply);
+                Told told = coordinator.told(asked);
                 if (told.outcome() == expected) {
-                    return told.next;
+                    return next(told);
                 }
+                reply = told.reply;
             } catch (Fault.Refused refused) {
                 // It isn't what was told either.
+                reply = refused.getMessage();
             }
             throw coordinator.failed(new IllegalStateException("a program was told " + expected + ", and the coordinator tells " + reply));
         }
@@ -78,18 +89,18 @@ final class Session {
         Told joined() throws Fault {
             Coordinator.Reply asked = joined;
             joined = null;
-            return asked == null ? null : Told.of(coordinator.await(asked));
+            return asked == null ? null : coordinator.told(asked);
         }
 
         /** The work is over. */
         Told end(String move) throws Fault {
-            return Told.of(coordinator.await(coordinator.post(move + " " + number)));
+            return coordinator.told(coordinator.post(move + " " + number));
         }
 
         /** How the calls that were told were answered. With others, if that may lead to a decision. */
         Told tell(String answers, boolean isVote) throws Fault {
             String move = "tell " + number + answers;
-            return Told.of(coordinator.await(isVote ? coordinator.gather(move) : coordinator.post(move)));
+            return coordinator.told(isVote ? coordinator.gather(move) : coordinator.post(move));
         }
 
         /** The same as the transaction is over by these answers: the reply is looked at before the thread's next one begins. */

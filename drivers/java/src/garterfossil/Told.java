@@ -5,6 +5,8 @@ import java.util.List;
 
 /** What the coordinator replies to a move of a thread: the calls that are to be made next, or the outcome (docs/MOVES.md). */
 final class Told {
+    /** The whole line. */
+    final String reply;
     /** The call, or the outcome. */
     final String verb;
     /** Where the call is to be made; of an outcome that is rolled back why, and where, if a branch is the reason. */
@@ -16,7 +18,9 @@ final class Told {
     /** The thread's next transaction, or null. */
     final String next;
 
-    private Told(String[] words) {
+    private Told(String reply) {
+        String[] words = reply.split(" ", -1);
+        this.reply = reply;
         verb = words[0];
         List<Integer> list = rms;
         String name = null;
@@ -28,14 +32,22 @@ final class Told {
                 default: list.add(Integer.parseInt(words[at]));
             }
         }
+        if (name != null && !name.matches("[0-9a-f]{32}") || mixed.size() % 2 != 0) {
+            throw new IllegalArgumentException(reply);
+        }
         next = name;
     }
 
+    /** What a reply says. Throws IllegalArgumentException if it is none. */
     static Told of(String reply) throws Fault.Refused {
         if (reply.startsWith("error ")) {
             throw new Fault.Refused(reply);
         }
-        return new Told(reply.split(" "));
+        try {
+            return new Told(reply);
+        } catch (IllegalArgumentException | IndexOutOfBoundsException error) {
+            throw new IllegalArgumentException("the coordinator replied: " + reply);
+        }
     }
 
     /** The outcome; null if calls are to be made. */

@@ -384,6 +384,49 @@ public class RecoveryTest {
     }
 
     @Test
+    public void aFirstLineThatIsNone() throws Exception {
+        world.manager.close();
+        for (String line : List.of("", "1\nrestarted", "1\nrestarted x", "1\nrestarted 99999999999999999999")) {
+            Files.writeString(world.folder.resolve("protocol"), line);
+            Manager.Builder builder = world.builder().patience(Duration.ofMillis(200));
+            String said = assertThrows(line, Fault.Unavailable.class, builder::start).getMessage();
+            assertTrue(said, said.contains("the coordinator is gone") || said.contains("another protocol"));
+            World.eventually(() -> !world.coordinator.isAlive());
+        }
+    }
+
+    @Test
+    public void repliesToARecoveryThatAreNone() throws Exception {
+        for (String reply : List.of(" ", "xa_commit", "xa_rollback 7:00", "xa_forget 7:zz:00", "xa_commit 7:00:0000000000000000", "strange",
+            "recovered owed x", "recovered owed", "recovered owed 99999999999")) {
+            world.manager.close();
+            world.put("wrong-at", "recover 0\n" + reply);
+            world.manager = world.builder().start();
+            Fault.Gone lost = world.manager.up().coordinator.lost();
+            // (The stand-in puts the name into an identifier.)
+            assertTrue(lost.getMessage(), lost.getMessage().contains("the coordinator replied: " + reply.trim().split("7:")[0]));
+            // The next session goes on.
+            world.overBoth().commit();
+        }
+    }
+
+    @Test
+    public void whatIsNoPrintOfALog() throws Exception {
+        world.manager.close();
+        Path names = world.folder.resolve("names");
+        String right = Files.readString(names);
+        for (String line : List.of("name", "rm", "rm 0")) {
+            Files.writeString(names, right + line + "\n");
+            Fault.Unavailable error = assertThrows(line, Fault.Unavailable.class, () -> world.builder().start());
+            assertTrue(error.getMessage(), error.getMessage().endsWith("isn't what xatm log prints: " + line));
+        }
+        Files.writeString(names, " \n" + right);
+        assertEquals(0, world.builder().status().branches());
+        world.manager = world.builder().start();
+        world.manager.close();
+    }
+
+    @Test
     public void aCoordinatorThatDoesNotConduct() throws Exception {
         world.manager.close();
         isRefusedAtOnce("3 error: unexpected argument '--moves' found", "older than this driver");

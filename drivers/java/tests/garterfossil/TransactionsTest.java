@@ -283,6 +283,56 @@ public class TransactionsTest {
     }
 
     @Test
+    public void repliesThatAreNone() throws Exception {
+        for (String reply : List.of("started", "started next", "started next 12", "", "started 0 x")) {
+            world.put("wrong-at", "start\n" + reply + " ");
+            assertThrows(reply, Fault.Gone.class, () -> world.begin().enlist(world.a));
+        }
+        // Before the decision it is rolled back, whatever the reply was to be.
+        for (String reply : List.of("prepare 0 x", "prepare 0 99999999999", "prepare 0 7", "prepare 0 1 next", "prepare 0 1 mixed 0", " ",
+            "nothing")) {
+            world.put("wrong-at", "join\n" + reply);
+            GlobalTransaction transaction = world.overBoth();
+            assertThrows(reply, Fault.RolledBack.class, transaction::commit);
+        }
+        // Behind votes the next session says what was decided.
+        for (String reply : List.of("commit 0 x", "comit 0 1", " ", "unknown", "forget 0 1", "prepare 0 1")) {
+            world.put("wrong-at", "tell\n" + reply);
+            GlobalTransaction transaction = world.overBoth();
+            assertThrows(reply, Fault.RolledBack.class, transaction::commit);
+        }
+        World.eventually(() -> world.a.branches.isEmpty() && world.b.branches.isEmpty() && world.manager.owing() == 0);
+        assertTrue(world.a.committed.isEmpty() && world.b.committed.isEmpty());
+    }
+
+    @Test
+    public void anOutcomeOfABranchThatIsNone() throws Exception {
+        for (String reply : List.of("rolled-back 100 7", "rolled-back owed 7", "rolled-back mixed 7 5", "rolled-back mixed 0")) {
+            world.put("wrong-at", "tell\n" + reply);
+            GlobalTransaction transaction = world.overBoth();
+            world.b.answer("prepare", 100);
+            Fault.RolledBack error = assertThrows(reply, Fault.RolledBack.class, transaction::commit);
+            assertTrue(error.getMessage(), error.getMessage().contains("an error of the driver"));
+        }
+        World.eventually(() -> world.a.branches.isEmpty() && world.b.branches.isEmpty() && world.manager.owing() == 0);
+    }
+
+    @Test
+    public void aFateThatIsNone() throws Exception {
+        world.dieAt("tell");
+        world.put("wrong-at", "fate\nnothing");
+        GlobalTransaction unknown = world.overBoth();
+        // The very next session would have known.
+        assertThrows(Fault.OutcomeUnknown.class, unknown::commit);
+        world.dieAt("decided");
+        world.put("wrong-at", "fate\ncommitted owed x");
+        GlobalTransaction decided = world.overBoth();
+        decided.commit();
+        assertEquals(Outcome.COMMITTED, decided.outcome());
+        World.eventually(() -> world.a.committed.size() == 1 && world.b.committed.size() == 1);
+    }
+
+    @Test
     public void aCoordinatorThatTellsOtherwiseThanTheProgramWasTold() throws Exception {
         world.put("wrong-at", "tell 1 0\nrolled-back 100 0 next 00000000000000010000000000000009");
         GlobalTransaction first = world.begin();
