@@ -36,6 +36,8 @@ public class Tour {
     private final Manager manager;
     private final JtaTransactionManager jta;
     private int stories, wrong;
+    // So many sessions the manager is to have had before the next story begins.
+    private volatile long sessions;
 
     Tour(Path folder, String program, String[] urls) throws Exception {
         Manager.Builder builder = Manager.over(folder.resolve("tour.db")).name("tour").program(program).threads(4).timeout(Duration.ofSeconds(20));
@@ -111,16 +113,26 @@ public class Tour {
         }
     }
 
-    private static void endCoordinator() throws InterruptedException {
-        ProcessHandle.current().children().forEach(ProcessHandle::destroyForcibly);
-        Thread.sleep(50);
+    private void endCoordinator() throws Exception {
+        sessions = upToNow() + 1;
+        for (ProcessHandle it : ProcessHandle.current().children().toArray(ProcessHandle[]::new)) {
+            it.destroyForcibly();
+            it.onExit().get();
+        }
     }
 
-    /** The manager sees once a second whether the coordinator is there. A transaction that begins before that is rolled back. */
-    private static void awaitNext() throws InterruptedException {
+    private long upToNow() {
+        return manager.counts().get("sessions").longValue();
+    }
+
+    /**
+     * The manager sees once a second whether the coordinator is there. A transaction that begins before that is rolled back. A process that was
+     * killed is there for a while still, so it is no sign of the next session.
+     */
+    private void awaitNext() throws InterruptedException {
         long until = System.nanoTime() + 20_000_000_000L;
-        while (ProcessHandle.current().children().count() == 0 && System.nanoTime() < until) {
-            Thread.sleep(100);
+        while (upToNow() < sessions && System.nanoTime() < until) {
+            Thread.sleep(20);
         }
         Thread.sleep(500);
     }
