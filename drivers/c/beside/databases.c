@@ -89,10 +89,18 @@ static bool read_of_file(const char *name, const char **at, void *unused)
 
 static bool is_all_read(const char *at)
 {
-    if (!read_object(&at, read_of_file, NULL) || kept.version != VERSION)
+    if (!read_object(&at, read_of_file, NULL) || kept.version != VERSION || kept.incarnation < 0)
         return false;
     at += strspn(at, " \t\r\n");
     return *at == '\0';
+}
+
+/* A byte 0 would end it before its end. */
+static bool is_text_read(FILE *file, char *text)
+{
+    size_t length = fread(text, 1, LONGEST - 1, file);
+
+    return length > 0 && length < LONGEST - 1 && strlen(text) == length;
 }
 
 bool read_databases(void)
@@ -104,7 +112,7 @@ bool read_databases(void)
     if (file == NULL && errno == ENOENT)
         return true;
     char *text = file == NULL ? NULL : calloc(1, LONGEST);
-    bool is_right = text != NULL && fread(text, 1, LONGEST - 1, file) > 0 && is_all_read(text);
+    bool is_right = text != NULL && is_text_read(file, text) && is_all_read(text);
     if (!is_right)
         explain("%s can't be read (%s): it says which databases the log belongs to. If they are surely the same, remove it", path,
             file == NULL       ? strerror(errno)

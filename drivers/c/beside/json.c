@@ -1,8 +1,11 @@
 /* JSON, as far as the file beside the log has it. */
 #include "json.h"
 
+#include <errno.h>
 #include <stdlib.h>
 #include <string.h>
+
+enum { DEEPEST = 32 };
 
 bool is_next(const char **at, char it)
 {
@@ -106,10 +109,11 @@ bool read_number(const char **at, long *to)
     char *end;
 
     is_next(at, ' ');
+    errno = 0;
     *to = strtol(*at, &end, 10);
-    bool is_one = end != *at && strchr(".eE", *end) == NULL;
+    bool is_one = end != *at && errno == 0 && *end != '.' && *end != 'e' && *end != 'E';
     *at = end;
-    return is_one || *end == '\0';
+    return is_one;
 }
 
 bool read_object(const char **at, bool (*read)(const char *name, const char **at, void *to), void *to)
@@ -128,34 +132,48 @@ bool read_object(const char **at, bool (*read)(const char *name, const char **at
     return is_next(at, '}');
 }
 
+static bool skip_nested(const char **at, int depth);
+
 static bool skip_member(const char *name, const char **at, void *depth)
 {
     (void)name;
-    (void)depth;
-    return skip_value(at);
+    return skip_nested(at, *(const int *)depth);
 }
 
-bool skip_value(const char **at)
+static bool skip_array(const char **at, int depth)
+{
+    if (!is_next(at, '['))
+        return false;
+    if (is_next(at, ']'))
+        return true;
+    do {
+        if (!skip_nested(at, depth))
+            return false;
+    } while (is_next(at, ','));
+    return is_next(at, ']');
+}
+
+/* So many are around it: the stack holds no more than the deepest. */
+static bool skip_nested(const char **at, int depth)
 {
     char nothing[1];
 
     is_next(at, ' ');
     if (**at == '"')
         return read_string(at, nothing, sizeof nothing);
-    if (**at == '{')
-        return read_object(at, skip_member, NULL);
-    if (is_next(at, '[')) {
-        if (is_next(at, ']'))
-            return true;
-        do {
-            if (!skip_value(at))
-                return false;
-        } while (is_next(at, ','));
-        return is_next(at, ']');
+    if (**at == '{' || **at == '[') {
+        if (depth++ == DEEPEST)
+            return false;
+        return **at == '{' ? read_object(at, skip_member, &depth) : skip_array(at, depth);
     }
     size_t length = strspn(*at, "+-.0123456789abcdefghijklmnopqrstuvwxyzE");
     *at += length;
     return length > 0;
+}
+
+bool skip_value(const char **at)
+{
+    return skip_nested(at, 0);
 }
 
 void write_string(FILE *to, const char *text)

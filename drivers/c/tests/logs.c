@@ -72,13 +72,56 @@ static void a_broken_file(void)
     static const char *const texts[] = {"", "{", "{\"version\"}", "{\"version\": 2}", "{\"version\": 1", "[]", "{\"version\": 1} x",
         "{\"version\": 1, \"manager\": \"\\ud800\"}", "{\"version\": 1, \"manager\": \"\\x\"}", "{\"version\": 1, \"manager\": \"c",
         "{\"version\": 1, \"databases\": [{\"number\": 64, \"identity\": \"x\"}]}", "{\"version\": 1, \"databases\": [{\"number\": 0}]}",
-        "{\"version\": 1, \"databases\": {}}", "{\"version\": 1, \"x\": [1, }"};
+        "{\"version\": 1, \"databases\": {}}", "{\"version\": 1, \"x\": [1, }", "{\"version\": 1, \"incarnation\": 9223372036854775808}",
+        "{\"version\": 1, \"incarnation\": -1}", "{\"version\": 1, \"manager\": \"c\", \"incarnation\": 1.0}"};
 
     for (size_t i = 0; i < sizeof texts / sizeof texts[0]; i++) {
         write_file("log-databases", texts[i]);
         see_number(__FILE__, __LINE__, texts[i], tx_open(), TX_ERROR);
         IS(is_said("can't be read"), true);
     }
+}
+
+static char *repeated(char *to, const char *it, int times)
+{
+    for (int i = 0; i < times; i++)
+        to = stpcpy(to, it);
+    return to;
+}
+
+/* A value with so many of these before it, and so many behind it. */
+static bool is_nested_refused(const char *before, const char *after, int depth)
+{
+    static char text[1 << 20];
+    char *at = repeated(stpcpy(text, "{\"version\": 1, \"manager\": \"c\", \"x\": "), before, depth);
+
+    strcpy(repeated(stpcpy(at, "1"), after, depth), "}");
+    write_file("log-databases", text);
+    return tx_open() == TX_ERROR && is_said("it isn't what a driver of this version has written");
+}
+
+static void a_file_that_is_nested_deeply(void)
+{
+    static const int depths[] = {100000, 1000, 33};
+
+    for (size_t i = 0; i < sizeof depths / sizeof depths[0]; i++) {
+        IS(is_nested_refused("[", "]", depths[i]), true);
+        IS(is_nested_refused("{\"y\":", "}", depths[i]), true);
+        IS(is_nested_refused("[", "", depths[i]), true);
+    }
+    IS(is_nested_refused("[", "]", 32), false);
+    IS(tx_close(), TX_OK);
+}
+
+/* A byte 0, and what is behind it. */
+static void a_file_that_goes_on(void)
+{
+    static const char text[] = "{\"version\": 1, \"manager\": \"c\"}\0{";
+    FILE *file = fopen(path_of("log-databases"), "w");
+
+    IS(file != NULL && fwrite(text, 1, sizeof text - 1, file) == sizeof text - 1 && fclose(file) == 0, true);
+    IS(tx_open(), TX_ERROR);
+    IS(is_said("can't be read"), true);
 }
 
 static void another_database(void)
@@ -223,7 +266,9 @@ static void earlier_branches(void)
 }
 
 const struct story of_logs[] = {{"logs: the file beside one", the_file}, {"logs: the file of another driver", the_file_of_another},
-    {"logs: a broken file", a_broken_file}, {"logs: another database", another_database},
+    {"logs: a broken file", a_broken_file},
+    {"logs: a file that is nested deeply", a_file_that_is_nested_deeply}, {"logs: a file that goes on", a_file_that_goes_on},
+    {"logs: another database", another_database},
     {"logs: two that changed places", two_that_changed_places}, {"logs: a new one", a_new_log},
     {"logs: branches of others", others_branches}, {"logs: a lost one", a_lost_log}, {"logs: an older one", an_older_log},
     {"logs: an older folder", an_older_folder}, {"logs: another folder", another_folder}, {"logs: earlier branches", earlier_branches},
