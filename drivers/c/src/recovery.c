@@ -38,6 +38,7 @@ static bool is_list_read(int rm, struct list *to)
 
     for (long flags = TMSTARTRSCAN; is_right && count == PAGE; flags = TMNOFLAGS) {
         count = xa_of(rm)->xa_recover_entry(page, PAGE, rm, flags);
+        is_right = count <= PAGE; /* else it has written behind its end, or says so */
         for (int i = 0; i < count && is_right; i++)
             is_right = !is_ours(&page[i], rm) || is_added(to, &page[i]);
     }

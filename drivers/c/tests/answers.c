@@ -203,8 +203,25 @@ static void of_a_commit_for_later(void)
     IS(stand_in_sum(0), -10);
 }
 
+/* It can't have listed more than there is room for. */
+static void of_recover(void)
+{
+    static const int codes[] = {33, 1000000, XAER_RMFAIL, XAER_RMERR};
+
+    IS(tx_open(), TX_OK);
+    for (size_t i = 0; i < sizeof codes / sizeof codes[0]; i++) {
+        BEGIN(5);
+        stand_in_answers(1, "xa_commit", XAER_RMFAIL, false);
+        stand_in_answers(1, "xa_recover", codes[i], false);
+        IS(tx_commit(), TX_OK);
+        IS(is_settled(), true);
+    }
+    IS(stand_in_sum(1), 5 * 4);
+}
+
 const struct story of_answers[] = {{"answers to xa_end", of_end}, {"answers to xa_prepare", of_prepare},
     {"answers to xa_commit", of_commit}, {"answers to xa_commit: later", of_a_commit_for_later},
     {"answers to xa_rollback once prepared", of_rollback_once_prepared}, {"answers to xa_rollback", of_rollback},
     {"answers to xa_commit in one phase", of_one_phase}, {"answers to xa_start", of_start}, {"answers to xa_open", of_open},
-    {"answers to xa_forget", of_forget}, {NULL, NULL}};
+    {"answers to xa_forget", of_forget}, {"answers to xa_recover", of_recover},
+    {NULL, NULL}};

@@ -284,6 +284,15 @@ static int recover_it(XID *xids, long count, int rm, long flags)
 
     note("xa_recover", rm, flags);
     pthread_mutex_lock(&lock);
+    for (int i = 0; i < ANSWERS; i++)
+        if (answers[i].is_due && answers[i].rm == rm && strcmp(answers[i].call, "xa_recover") == 0) {
+            answers[i].is_due = false;
+            listed = answers[i].code;
+        }
+    if (listed != 0) {
+        pthread_mutex_unlock(&lock);
+        return listed;
+    }
     if (flags & TMSTARTRSCAN)
         rms[rm].listed = 0;
     for (int i = 0; i < BRANCHES && listed < count; i++)
