@@ -1,5 +1,6 @@
 /* The keeper: a thread that begins and ends the sessions, and has the resource managers
  * recovered. It is the coordinator's thread 0. */
+#include <limits.h>
 #include <stdio.h>
 #include <string.h>
 #include <sys/stat.h>
@@ -46,10 +47,12 @@ static char *const *command_of(struct command *it)
 /* `restarted <incarnation> <decisions> <heuristics>`: the incarnation, 0 if it isn't so. */
 static long incarnation_in(const char *greeting)
 {
-    long incarnation = 0;
-    int end = 0;
+    const char *at = strchr(greeting, ' ');
 
-    bool is_right = sscanf(greeting, "restarted %ld %*u %*u%n", &incarnation, &end) == 1 && end > 0 && greeting[end] == '\0';
+    if (at == NULL || !is_reply(greeting, "restarted"))
+        return 0;
+    long incarnation = next_number(&at, LONG_MAX);
+    bool is_right = next_number(&at, LONG_MAX) >= 0 && next_number(&at, LONG_MAX) >= 0 && *at == '\0';
     return is_right && incarnation > 0 ? incarnation : 0;
 }
 

@@ -46,6 +46,8 @@ void move(bool decides, const char *format, ...) LIKE_PRINTF(2, 3);
 const char *replied(void);
 /* The reply to one that has a line of its own. */
 const char *ask(const char *format, ...) LIKE_PRINTF(1, 2);
+/* The number that comes next in a reply, behind a space: -1 if there is none of at most so much. */
+long next_number(const char **at, long most);
 /* Whether a reply begins with the word; the resource managers that it names behind that: how
  * many. */
 bool is_reply(const char *reply, const char *word);

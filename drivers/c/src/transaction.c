@@ -1,5 +1,6 @@
 /* The transaction of the calling thread: the calls are made that the coordinator tells, and it is
  * told how they were answered, until it tells the outcome (docs/MOVES.md). */
+#include <limits.h>
 #include <stdio.h>
 #include <string.h>
 
@@ -63,11 +64,11 @@ void settle(void)
 static int result_of_mixed(const char *reply, int result)
 {
     const char *at = strstr(reply, " mixed ");
-    int rm, code, length;
+    long rm, code;
 
-    for (at = at == NULL ? "" : at + 6; sscanf(at, " %d %d%n", &rm, &code, &length) == 2; at += length) {
-        if (rm >= 0 && rm < settings.rms)
-            explain("%s ended the branch by itself: %d", settings.rm[rm].name, code);
+    at = at == NULL ? "" : at + 6;
+    while ((rm = next_number(&at, settings.rms - 1)) >= 0 && (code = next_number(&at, LONG_MAX)) >= 0) {
+        explain("%s ended the branch by itself: %ld", settings.rm[rm].name, code);
         result = code == XA_HEURHAZ && result != TX_MIXED ? TX_HAZARD : TX_MIXED;
     }
     return result;
@@ -76,12 +77,13 @@ static int result_of_mixed(const char *reply, int result)
 /* Where it is rolled back, the program gets so much. */
 static int result_of(const char *reply, int rolled_back)
 {
-    int code, rm;
+    const char *at = reply + strcspn(reply, " ");
+    long code = is_reply(reply, "rolled-back") ? next_number(&at, LONG_MAX) : -1, rm = next_number(&at, settings.rms - 1);
 
     if (strstr(reply, " owed ") != NULL)
         note_owed();
-    if (sscanf(reply, "rolled-back %d %d", &code, &rm) == 2 && rm >= 0 && rm < settings.rms)
-        explain("%s voted %d", settings.rm[rm].name, code);
+    if (code >= 0 && rm >= 0)
+        explain("%s voted %ld", settings.rm[rm].name, code);
     if (is_reply(reply, "committed"))
         return result_of_mixed(reply, TX_OK);
     if (is_reply(reply, "rolled-back"))

@@ -7,6 +7,8 @@
 #include <string.h>
 #include <unistd.h>
 
+#include "xid_text.h"
+
 enum { LOCKS = 128, TRIES = 1000, SECONDS_TO_CONNECT = 10, NO_SUCH_TABLE = 1146 };
 
 static struct connection *connection_of(int rmid)
@@ -301,10 +303,11 @@ static char *own_identity(struct connection *c)
 
     if (value != NULL || mysql_errno(c->link) != NO_SUCH_TABLE)
         return value;
-    char *drawn = value_of(c->link, "SELECT UUID()");
+    char *drawn = value_of(c->link, "SELECT LOWER(UUID())");
+    bool is_drawn = drawn != NULL && is_uuid(drawn); /* nothing else of the server gets into a statement */
     snprintf(statement, sizeof statement, "CREATE SQL SECURITY INVOKER VIEW IF NOT EXISTS garterfossil_identity AS SELECT '%.36s' AS id",
-        drawn == NULL ? "" : drawn);
-    bool is_made = drawn != NULL && mysql_query(c->link, "SET SESSION TRANSACTION READ WRITE") == 0 && mysql_query(c->link, statement) == 0;
+        is_drawn ? drawn : "");
+    bool is_made = is_drawn && mysql_query(c->link, "SET SESSION TRANSACTION READ WRITE") == 0 && mysql_query(c->link, statement) == 0;
     free(drawn);
     if (c->held.is_dynamic)
         mysql_query(c->link, "SET SESSION TRANSACTION READ ONLY");

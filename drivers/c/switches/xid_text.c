@@ -3,6 +3,7 @@
 #include "xid_text.h"
 
 #include <stdio.h>
+#include <stdlib.h>
 #include <string.h>
 
 static const char digits[] = "0123456789abcdef";
@@ -47,19 +48,29 @@ char *text_of(const XID *xid, char text[XID_TEXT])
 
 bool xid_from(const char *text, XID *xid)
 {
-    int begun = 0;
+    char *end, again[XID_TEXT];
 
     memset(xid, 0, sizeof *xid);
-    if (sscanf(text, "%ld:%n", &xid->formatID, &begun) != 1 || begun == 0)
-        return false;
-    const char *gtrid = text + begun, *colon = strchr(gtrid, ':');
+    xid->formatID = strtol(text, &end, 10);
+    const char *gtrid = end + 1, *colon = *end == ':' ? strchr(gtrid, ':') : NULL;
     if (colon == NULL)
         return false;
     xid->gtrid_length = read_hex(gtrid, (size_t)(colon - gtrid), xid->data, MAXGTRIDSIZE);
     if (xid->gtrid_length < 1)
         return false;
     xid->bqual_length = read_hex(colon + 1, strlen(colon + 1), xid->data + xid->gtrid_length, MAXBQUALSIZE);
-    return xid->bqual_length >= 1;
+    /* Another spelling of its number is another name. */
+    return xid->bqual_length >= 1 && strcmp(text_of(xid, again), text) == 0;
+}
+
+bool is_uuid(const char *text)
+{
+    for (int i = 0; i < 36; i++) {
+        bool is_bar = i == 8 || i == 13 || i == 18 || i == 23;
+        if (is_bar ? text[i] != '-' : value_of(text[i]) < 0)
+            return false;
+    }
+    return text[36] == '\0';
 }
 
 bool is_same(const XID *one, const XID *other)

@@ -158,6 +158,22 @@ static void it_is_out_of_step(void)
     IS(tx_close(), TX_OK);
 }
 
+/* What isn't its greeting begins no session, and nothing of it is kept. */
+static void its_greeting_is_wrong(void)
+{
+    static const char *const greetings[] = {"restarted 9223372036854775808 0 0", "restarted 18446744073709551617 0 0", "restarted -1 0 0",
+        "restarted 0 0 0", "restarted  1 0 0", "restarted 1 0", "restarted 1 0 0 0", "restarted 1 0 0x", "restarted", "bye"};
+    char text[64];
+
+    for (size_t i = 0; i < COUNT(greetings); i++) {
+        snprintf(text, sizeof text, "\n%s\n", greetings[i]);
+        write_file("log.greet-as", text);
+        see_number(__FILE__, __LINE__, greetings[i], tx_open(), TX_OK);
+        see_number(__FILE__, __LINE__, greetings[i], is_file("log.greet-as"), false);
+        IS(tx_close(), TX_OK);
+    }
+}
+
 /* Of a recovery. */
 static void it_is_out_of_step_in_a_recovery(void)
 {
@@ -242,5 +258,6 @@ const struct story of_losses[] = {{"losses: the coordinator ends", it_ends}, {"l
     {"losses: it ends once it has decided", it_ends_once_it_has_decided}, {"losses: it ends in a rollback", it_ends_in_a_rollback},
     {"losses: it ends twice", it_ends_twice}, {"losses: it is killed", it_is_killed}, {"losses: it is out of step", it_is_out_of_step},
     {"losses: it is out of step in a recovery", it_is_out_of_step_in_a_recovery}, {"losses: it doesn't start", it_does_not_start},
+    {"losses: its greeting is wrong", its_greeting_is_wrong},
     {"losses: it isn't there", it_is_not_there}, {"losses: one is away", one_is_away}, {"losses: closed at once", closed_at_once},
     {"losses: an embedded one", an_embedded_one}, {NULL, NULL}};

@@ -2,6 +2,7 @@
 #include <stdio.h>
 #include <string.h>
 
+#include "../src/thread.h"
 #include "../switches/xid_text.h"
 #include "story.h"
 
@@ -30,7 +31,8 @@ static void settings_that_are_wrong(void)
 static void texts_of_identifiers(void)
 {
     static const char *const wrong[] = {
-        "", "7", "7:", "7::", "7:0:0", "7:00:", "7::00", "7:0g:00", "7:00:0G", "x:00:00", "7:00:00:00", "7:00 :00"};
+        "", "7", "7:", "7::", "7:0:0", "7:00:", "7::00", "7:0g:00", "7:00:0G", "x:00:00", "7:00:00:00", "7:00 :00",
+        " 7:00:00", "+7:00:00", "07:00:00", "-0:00:00", "9223372036854775808:00:00", "18446744073709551623:00:00"};
     char text[XID_TEXT], longest[XID_TEXT];
     XID xid;
 
@@ -43,5 +45,35 @@ static void texts_of_identifiers(void)
         see_number(__FILE__, __LINE__, wrong[i], xid_from(wrong[i], &xid), false);
 }
 
+/* A number that is none of a resource manager is none, also where its lowest bits are. */
+static void numbers_in_replies(void)
+{
+    static const struct {
+        const char *reply;
+        int count, last;
+    } rows[] = {{"due", 0, 0}, {"due 0 1", 2, 1}, {"due 1", 1, 1}, {"due 2", 0, 0}, {"due -1", 0, 0}, {"due +1", 0, 0}, {"due  1", 0, 0},
+        {"due 1 x", 1, 1}, {"due 4294967297", 0, 0}, {"due 18446744073709551617", 0, 0}, {"due 1 0 1", 2, 0}};
+    int rms[MOST_RMS];
+
+    settings.rms = 2;
+    for (size_t i = 0; i < sizeof rows / sizeof rows[0]; i++) {
+        int count = named_in(rows[i].reply, rms);
+        see_number(__FILE__, __LINE__, rows[i].reply, count, rows[i].count);
+        see_number(__FILE__, __LINE__, rows[i].reply, count > 0 ? rms[count - 1] : 0, rows[i].last);
+    }
+}
+
+static void texts_of_uuids(void)
+{
+    static const char *const wrong[] = {"", "0", "01234567-89ab-cdef-0123-456789abcde", "01234567-89ab-cdef-0123-456789abcdef0",
+        "01234567-89ab-cdef-0123-456789abcde'", "01234567-89AB-cdef-0123-456789abcdef", "0123456789ab--cdef-0123-456789abcdef",
+        "' AS id UNION SELECT password FROM x"};
+
+    IS(is_uuid("01234567-89ab-cdef-0123-456789abcdef"), true);
+    for (size_t i = 0; i < sizeof wrong / sizeof wrong[0]; i++)
+        see_number(__FILE__, __LINE__, wrong[i], is_uuid(wrong[i]), false);
+}
+
 const struct story of_parts[] = {
-    {"parts: settings that are wrong", settings_that_are_wrong}, {"parts: texts of identifiers", texts_of_identifiers}, {NULL, NULL}};
+    {"parts: settings that are wrong", settings_that_are_wrong}, {"parts: texts of identifiers", texts_of_identifiers},
+    {"parts: texts of UUIDs", texts_of_uuids}, {"parts: numbers in replies", numbers_in_replies}, {NULL, NULL}};
