@@ -1,6 +1,7 @@
 /* What the coordinator may say: the input is what it says in several lives, each up to a byte 0,
  * whatever it was asked: a line for each line that it reads. Nothing but its words comes from it,
- * so nothing may end but the session. (libFuzzer; tests/fuzz builds and runs it.) */
+ * so nothing may end but the session. One that begins with a brace is, up to there, the file beside
+ * the log. (libFuzzer; tests/fuzz builds and runs it.) */
 #include <pthread.h>
 #include <stdint.h>
 #include <stdio.h>
@@ -134,14 +135,28 @@ int LLVMFuzzerInitialize(int *count, char ***words)
     return 0;
 }
 
-int LLVMFuzzerTestOneInput(const uint8_t *data, size_t size)
+static void lay_file(void)
 {
     char path[64];
+    const uint8_t *end = left_size == 0 ? NULL : memchr(left, 0, left_size);
+    size_t length = end == NULL ? left_size : (size_t)(end - left);
 
-    left = data;
-    left_size = size;
     snprintf(path, sizeof path, "%s/log-databases", folder);
     unlink(path);
+    if (left_size == 0 || left[0] != '{')
+        return;
+    FILE *file = fopen(path, "w");
+    if (file == NULL || fwrite(left, 1, length, file) != length || fclose(file) != 0)
+        abort();
+    left += length + (end != NULL);
+    left_size -= length + (end != NULL);
+}
+
+int LLVMFuzzerTestOneInput(const uint8_t *data, size_t size)
+{
+    left = data;
+    left_size = size;
+    lay_file();
     if (stand_in_prepared(0) == 0)
         stand_in_lists(0, "7:6300000000000000010000000000000001:0000000100000000");
     if (tx_open() == TX_OK) {
