@@ -84,7 +84,8 @@ def run_one(world, folder, is_dynamic, count, seed):
     print(f"{how}:", ", ".join(f"{number} {name}" for name, number in found.items()), flush=True)
     print(f"{how}: {it.failed} programs that failed; the last one: {it.counts['last']}")
     wrong = found["in one and not the other, or different"] + found["told, and otherwise in the databases"] + found["in doubt"]
-    return wrong + it.failed + (found["sum"] != SUM)
+    # A run that moved nothing has shown nothing.
+    return wrong + it.failed + (found["sum"] != SUM) + (found["transfers in both"] == 0)
 
 
 def run(world, count, seed, sanitizers=""):
