@@ -20,6 +20,16 @@ log = logging.getLogger("garterfossil")
 SUFFIX, VERSION = "-databases", 1
 
 
+def _see_kinds(found: Dict[str, Any]) -> None:
+    """Sees that all is there, and of its kind: it would be found later otherwise. Raises KeyError, TypeError or ValueError."""
+    numbers = [found.get("incarnation", 0), *(entry["number"] for entry in found["databases"])]
+    texts = [found["manager"], *(entry[key] for entry in found["databases"] for key in ("at", "identity"))]
+    texts += [found["shut"]] if found.get("shut") is not None else []
+    wrong = [one for one in numbers if type(one) is not int or one < 0] + [one for one in texts if not isinstance(one, str)]
+    if wrong:
+        raise ValueError(f"{wrong[0]!r} is of another kind than what stood there")
+
+
 class Identities:
     """What the databases of a log call themselves, by their numbers. Any thread may ask."""
 
@@ -42,7 +52,7 @@ class Identities:
             log.warning("the log of %s is gone from %s: %s (`python -m garterfossil status`)", gone, path, same)
         else:
             self._known = {entry["number"]: {"at": entry["at"], "identity": entry["identity"]} for entry in found["databases"]}
-            self._incarnation, self._shut = int(found.get("incarnation", 0)), found.get("shut")
+            self._incarnation, self._shut = found.get("incarnation", 0), found.get("shut")
 
     def _read(self) -> Optional[Dict[str, Any]]:
         try:
@@ -51,12 +61,11 @@ class Identities:
                 found: Dict[str, Any] = json.loads(re.sub(r",\s*}\s*$", "}", it.read()))
             if found["version"] != VERSION:
                 raise SetupError(f"{self.path} is of another version of the driver")
-            # What is missing would be found later otherwise.
-            found["manager"], [(entry["number"], entry["at"], entry["identity"]) for entry in found["databases"]]
+            _see_kinds(found)
             return found
         except FileNotFoundError:
             return None
-        except (OSError, ValueError, KeyError, TypeError) as error:
+        except (OSError, ValueError, KeyError, TypeError, RecursionError) as error:
             raise SetupError(
                 f"{self.path} can't be read ({error}): it says which databases the log belongs to. If they are surely the same, remove it"
             ) from error

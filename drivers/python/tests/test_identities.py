@@ -110,6 +110,32 @@ class Identities(Case):
             with self.assertRaisesRegex(SetupError, SUFFIX):
                 self.manager()
 
+    def test_a_file_that_is_nested_deeply_or_has_what_is_of_another_kind_is_refused_and_left_as_it_was(self):
+        self.manager().close()
+        with open(self.log + SUFFIX) as it:
+            right = json.load(it)
+        text = json.dumps(right)
+        entry = json.dumps(right["databases"][0])
+        wrong = [
+            100000 * "[",
+            text.replace('"shop"', 100000 * "[" + 100000 * "]"),
+            *(text.replace('"incarnation": 1', f'"incarnation": {one}') for one in ("1e999", "-1e999", "NaN", "-1", "true", '"1"', "null")),
+            *(text.replace(entry, entry.replace('"number": 0', f'"number": {one}')) for one in ("[]", '"a"', "1e999", "null")),
+            *(text.replace(f'"{what}"', "3") for what in ("shop", "the left one")),
+            text.replace('"manager"', '"shut": false, "manager"'),
+        ]
+        for said in wrong:
+            self.assertNotEqual(said, text)
+            with open(self.log + SUFFIX, "w") as it:
+                it.write(said)
+            with self.subTest(said[:200]), self.assertRaisesRegex(SetupError, f"{SUFFIX} can't be read"):
+                self.manager()
+            with open(self.log + SUFFIX) as it:
+                self.assertEqual(it.read(), said)
+        with open(self.log + SUFFIX, "w") as it:
+            it.write(text)
+        self.manager().close()
+
     def test_an_older_log_is_refused_also_if_no_database_lists_anything(self):
         self.manager().close()
         shutil.copy(self.log, self.log + ".copy")
