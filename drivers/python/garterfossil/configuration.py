@@ -36,7 +36,10 @@ class Configuration:
     @classmethod
     def read(cls, path: str) -> Configuration:
         """What a file of TOML says. Raises SetupError if it can't be read, or says something else."""
-        return cls.of(_toml(path), path)
+        try:
+            return cls.of(_toml(path), path)
+        except RecursionError as error:
+            raise SetupError(f"{path}: it is nested too deeply") from error
 
     @classmethod
     def of(cls, found: Mapping[str, Any], path: str) -> Configuration:
@@ -44,11 +47,13 @@ class Configuration:
         for key, value in found.items():
             if key not in ("database", "mirror") and not isinstance(value, KEYS.get(key, ())):
                 raise SetupError(f"{path}: {key} = {value!r} isn't right; the keys are {', '.join(KEYS)}, [[database]] and [mirror]")
-        if "log" not in found or not isinstance(found.get("database"), list) or not found["database"]:
+        if "log" not in found or not found.get("database") or not _are_tables(found["database"]):
             raise SetupError(f"{path}: it needs the key log, and a table [[database]] for each database")
+        if "mirror" in found and not _are_tables([found["mirror"]]):
+            raise SetupError(f"{path}: mirror is a table, [mirror]")
         tables = [dict(table) for table in found["database"]]
         names = [table.pop("as") for table in tables if "as" in table]
-        if names and len(set(names)) != len(tables):
+        if names and (not all(isinstance(name, str) for name in names) or len(set(names)) != len(tables)):
             raise SetupError(f"{path}: either each database has a name of its own (as = ..), or none has")
         databases = [_database(table, f"{path}: database {rm}") for rm, table in enumerate(tables)]
         log = os.path.join(os.path.dirname(os.path.abspath(path)), found["log"])
@@ -103,6 +108,10 @@ def _toml(path: str) -> Dict[str, Any]:
     except ValueError as error:
         raise SetupError(f"{path}: {error}") from error
     return found
+
+
+def _are_tables(found: Any) -> bool:
+    return isinstance(found, list) and all(isinstance(one, dict) for one in found)
 
 
 def _database(table: Dict[str, Any], where: str) -> Database:

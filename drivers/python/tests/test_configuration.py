@@ -40,8 +40,24 @@ class Configurations(unittest.TestCase):
         made = self.made(database=[{"kind": "tests.fake_database:FakeDatabase"}])
         self.assertEqual([type(one) for one in made.databases], [FakeDatabase])
 
+    def test_a_file_that_is_nested_deeply(self):
+        deep = [100000 * "[", f"log{3000 * '.a'} = 1", f"name = {2000 * '['}{2000 * ']'}", f"[[database]]\nkind = {2000 * '['}"]
+        with tempfile.TemporaryDirectory() as folder:
+            path = os.path.join(folder, "bank.toml")
+            for text in deep:
+                with open(path, "w") as it:
+                    it.write(text)
+                with self.subTest(text[:40]), self.assertRaisesRegex(SetupError, "bank.toml: it is nested too deeply|bank.toml: |tomli"):
+                    Configuration.read(path)
+
     def test_what_is_wrong_is_told_with_the_file_and_the_key(self):
         wrong = [
+            ({"database": ["bank"]}, r"\[\[database\]\]"),
+            ({"database": [3]}, r"\[\[database\]\]"),
+            ({"mirror": "bank"}, r"\[mirror\]"),
+            ({"mirror": 3}, r"\[mirror\]"),
+            ({"database": [{"as": [], **RIGHT["database"][0]}]}, "name of its own"),
+            ({"database": [{"as": 3, **RIGHT["database"][0]}]}, "name of its own"),
             ({"thread": 4}, "thread = 4"),
             ({"threads": "4"}, "threads = '4'"),
             ({"database": []}, r"\[\[database\]\]"),
