@@ -309,7 +309,7 @@ class _LogHold:
     def __enter__(self) -> int:
         """Holds it: the incarnation, which is later than those of all branches."""
         self._coordinator = Coordinator.start(self._command, 1.0)
-        return int(self._coordinator.greeting.split(" ")[1])
+        return self._coordinator.incarnation
 
     def __exit__(self, *_: object) -> None:
         if self._coordinator is not None:

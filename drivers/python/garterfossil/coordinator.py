@@ -5,6 +5,7 @@ from __future__ import annotations
 import collections
 import logging
 import os
+import re
 import select
 import socket
 import struct
@@ -31,6 +32,8 @@ REFUSED_LOG = "xatm: log: "
 OTHER_FAULTS = "it is of another version, or damaged, or the disk is full"
 #: In seconds: the least for which a reply is waited for, the least for the greeting, and the longest for the end of the process.
 SHORTEST, LONGEST_GREETING, LONGEST_END = 2.0, 30.0, 10.0
+#: The first line of a session: the incarnation, and how many decisions and heuristic ends the log has.
+GREETING = re.compile(r"restarted ([0-9]{1,20}) ([0-9]{1,20}) [0-9]{1,20}")
 #: The version of the protocol that this driver speaks.
 PROTOCOL = "1"
 #: Stands between the moves of a line, and between their replies.
@@ -108,13 +111,13 @@ class Coordinator:
         self._ending = threading.Lock()
         self._fault: Optional[str] = None
         COORDINATORS.add(self)
-        #: The greeting of the session: `restarted`, the incarnation, and how many decisions and heuristic ends the log has.
-        self.greeting = self._greet()
-        if not self.greeting.startswith("restarted "):
-            raise self._gone(f"it began with the line: {self.greeting}")
+        greeting = self._greet()
+        found = GREETING.fullmatch(greeting)
+        if found is None:
+            raise self._gone(f"it began with the line: {greeting}")
         self._wait_for(self._patience)
-        #: The number of the session, among those of its log.
-        self.incarnation = int(self.greeting.split(" ")[1])
+        #: The number of the session, among those of its log; and how many decisions to commit that has.
+        self.incarnation, self.decisions = int(found.group(1)), int(found.group(2))
         self._see_moves(command[0])
 
     @classmethod
@@ -185,6 +188,11 @@ class Coordinator:
         if words.startswith("error "):
             raise self._killed(f"it replied {words!r} to {reply.move!r}")
         return words
+
+    def not_understood(self, words: str, to: str) -> CoordinatorGone:
+        """It has replied what there is no such reply for, so that nobody knows what it means: its process is ended, and the next session
+        finds out what it had decided."""
+        return self._killed(f"it replied {words!r} to {to!r}")
 
     def quit(self) -> None:
         """Ends the session and the process. What is open stays in doubt, as after a crash."""
@@ -294,8 +302,12 @@ class Coordinator:
         """Takes the reply to the line that was written first."""
         log.debug("< %s", line)
         with self._posting:
-            replies = self._under_way.popleft()
-            self._asked -= any(reply.is_asked for reply in replies)
+            replies = self._under_way.popleft() if self._under_way else None
+            self._asked -= any(reply.is_asked for reply in replies or ())
+        if replies is None:
+            raise self._killed(f"it said {line!r}, and nothing was asked")
+        if not line.isascii():
+            raise self._killed(f"it replied what is no text of ASCII: {line!r}")
         words = line.split(AND)
         if line == "stopped" or len(words) != len(replies):
             full = "; the disk of the log is full" if self._path is not None and is_disk_full(self._path) else ""
@@ -324,11 +336,13 @@ class Coordinator:
     def _see_moves(self, program: str) -> None:
         """Sees that it takes moves."""
         try:
-            self.ask("due")
+            words = self.ask("due")
         except CoordinatorGone as gone:
             if "error " in str(gone):
                 raise SetupError(OLDER.format(program)) from gone
             raise
+        if words.split(" ")[0] != "due":
+            raise self.not_understood(words, "due")
 
     def _wait_for(self, seconds: float) -> None:
         """From now on a reply is waited for for so many seconds."""
@@ -349,7 +363,8 @@ class Coordinator:
         if not some:
             raise self._gone("its output ended")
         whole, end, self._begun = (self._begun + some).rpartition(b"\n")
-        return whole.decode("ascii").split("\n") if end else []
+        # What isn't ASCII is seen where its line is taken, behind the replies that came before it.
+        return whole.decode("ascii", "replace").split("\n") if end else []
 
     def _silent(self) -> CoordinatorGone:
         """It is stopped, or its disk hangs: it is ended, and the next session finds out what it had decided."""

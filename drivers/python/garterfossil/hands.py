@@ -7,7 +7,7 @@ from __future__ import annotations
 import functools
 import logging
 import time
-from typing import TYPE_CHECKING, Callable, Dict, List, Mapping, NamedTuple, Optional, Sequence, Set
+from typing import TYPE_CHECKING, Callable, Dict, List, Mapping, NamedTuple, Optional, Sequence, Set, Tuple
 
 from .adapters.base import Connection, Options
 from .aside import side_by_side
@@ -255,12 +255,14 @@ class Hands:
         while True:
             assert self._reply is not None
             words = self._session.coordinator.wait(self._reply)
-            verb, *rms = words.split(" ")
-            if verb in TOLD:
-                told = Told.parse(words)
+            try:
+                told, verb, parts = self._understood(words)
+            except (IndexError, KeyError, ValueError) as error:
+                raise self._session.coordinator.not_understood(words, self._reply.move) from error
+            if told is not None:
                 self.fate = told.outcome
                 return told
-            answers = self._make(verb, [self.parts[int(rm)] for rm in rms])
+            answers = self._make(verb, parts)
             if verb == "prepare" and all(code in (Code.OK, Code.RDONLY) for code in answers):
                 # Unless the coordinator never hears of it.
                 self._session.coordinator.see_up()
@@ -271,6 +273,19 @@ class Hands:
             self._move("tell", *said, is_asked=not is_over)
             if is_over:
                 return Told(Outcome.COMMITTED)
+
+    def _understood(self, words: str) -> Tuple[Optional[Told], str, List[Part]]:
+        """The outcome that a reply tells, or else the call, and the branches at which it is to be
+        made. Raises IndexError, KeyError or ValueError, if there is no such reply."""
+        verb, *rms = words.split(" ")
+        if verb in TOLD:
+            told = Told.parse(words)
+            named = [*told.owed, *told.mixed, *([] if told.rm is None else [told.rm])]
+            return told, verb, [self.parts[rm] for rm in named]
+        parts = [self.parts[int(rm)] for rm in rms]
+        if verb not in CALLS or not parts:
+            raise KeyError(verb)
+        return None, verb, parts
 
     def _make(self, verb: str, parts: Sequence[Part]) -> List[Optional[Code]]:
         if verb == "commit":
@@ -312,10 +327,20 @@ class Recovery:
                 listed = self._listed() if listed is None else listed[PAGE:]
                 reply = ask(f"end {number} lost" if listed is None else " ".join([f"page {number}", *map(str, listed[:PAGE])]))
             elif verb in ("xa_commit", "xa_rollback", "xa_forget"):
-                code = self._made(Call(verb, Xid.parse(words[0])))
+                code = self._made(self._call(reply))
                 reply = ask(f"end {number} {'lost' if code is None else int(code)}")
-            else:
+            elif verb in ("recovered", "later") or verb == "strange" and words:
                 return reply
+            else:
+                raise self._session.coordinator.not_understood(reply, f"a recovery of {number}")
+
+    def _call(self, reply: str) -> Call:
+        verb, *xids = reply.split(" ")
+        try:
+            return Call(verb, Xid.parse(xids[0]))
+        except (IndexError, ValueError) as error:
+            number = self._rm.number
+            raise self._session.coordinator.not_understood(reply, f"a recovery of {number}") from error
 
     def _listed(self) -> Optional[List[Xid]]:
         try:

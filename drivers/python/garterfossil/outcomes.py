@@ -26,6 +26,13 @@ class Outcome(enum.Enum):
 TOLD = {"committed": Outcome.COMMITTED, "rolled-back": Outcome.ROLLED_BACK, "unknown": Outcome.UNKNOWN}
 
 
+def _fate(coordinator: Coordinator, gtrid: str) -> Outcome:
+    words = coordinator.ask(f"fate {gtrid}")
+    if words not in TOLD:
+        raise coordinator.not_understood(words, f"fate {gtrid}")
+    return TOLD[words]
+
+
 class Outcomes:
     """The outcomes that were told, and those that a later session tells: of a transaction that was
     being decided as its session ended the very next one knows how it ended."""
@@ -48,7 +55,7 @@ class Outcomes:
         """A session has begun: how those ended that the one before was deciding."""
         with self._lock:
             asked = set(self._asked)
-        found = {gtrid: TOLD[coordinator.ask(f"fate {gtrid}")] for gtrid in asked}
+        found = {gtrid: _fate(coordinator, gtrid) for gtrid in asked}
         with self._lock:
             self._asked -= asked
             self._found.update(found)

@@ -3,6 +3,7 @@
 from __future__ import annotations
 
 import logging
+import re
 import threading
 import time
 from dataclasses import dataclass
@@ -26,6 +27,9 @@ from .threads import Threads
 from .xid import Xid
 
 log = logging.getLogger("garterfossil")
+
+#: How a reply ends that tells a thread's next transaction.
+NEXT = re.compile(r" next ([0-9a-f]{32})\Z")
 
 
 @dataclass(frozen=True)
@@ -164,7 +168,7 @@ class Session:
                 raise CoordinatorGone(f"another program has had the log since it was looked at, in session {incarnation - 1}")
             # Before the first transaction begins, and before anything is ended.
             self.unknown_to_log = self.mirror.begin(incarnation, decisions)
-        log.info("session %d began: the log has %s decisions to commit", incarnation, self.coordinator.greeting.split(" ")[2])
+        log.info("session %d began: the log has %d decisions to commit", incarnation, self.coordinator.decisions)
         self.recover_at_the_start(is_first)
 
     def line(self, thread: int, rm: int) -> Line:
@@ -181,7 +185,11 @@ class Session:
         """A transaction of the thread begins: its name. Raises NotNow while the log is new and a database wasn't looked at."""
         self.coordinator.see_up()
         reply = self._next[thread] or self.coordinator.post(f"start {thread}", thread, is_asked=True)
-        gtrid = self.coordinator.wait(reply).rpartition(" next ")[2]
+        words = self.coordinator.wait(reply)
+        found = NEXT.search(words)
+        if found is None:
+            raise self.coordinator.not_understood(words, reply.move)
+        gtrid = found.group(1)
         self._next[thread] = None
         self._last[thread], self._live[thread] = int(gtrid[16:], 16), gtrid
         return gtrid

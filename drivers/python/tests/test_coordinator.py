@@ -70,6 +70,32 @@ class Coordinators(unittest.TestCase):
                 coordinator.ask(f"say {says}", 1)
             self.assertTrue(coordinator.is_gone)
 
+    def test_what_is_no_text_ends_the_session_behind_what_came_before_it(self):
+        says = "say = sys.stdout.buffer.write; says = 'two' if moves[0] == 'one' else say(b'one\\n\\xcc\\n') and 'three'"
+        coordinator = process(ECHO.replace("    says = ", "    " + says + "\n    _ = "))
+        first, second = coordinator.post("first", 1), coordinator.post("second", 2)
+        with self.assertRaisesRegex(CoordinatorGone, "no text of ASCII"):
+            coordinator.wait(second)
+        self.assertEqual(coordinator.wait(first), "one")
+        self.assertTrue(coordinator.is_gone)
+
+    def test_a_line_that_nobody_asked_for_ends_the_session(self):
+        coordinator = process(ECHO.replace("print(says", "print(2 * (says + chr(10))"))
+        with self.assertRaisesRegex(CoordinatorGone, "nothing was asked"):
+            for number in range(3):
+                coordinator.ask(f"move {number}", 1)
+        self.assertTrue(coordinator.is_gone)
+
+    def test_a_greeting_that_is_none(self):
+        for numbers in ("x 0 0", "1", " 0 0", "1 0", "1 0 -1", f"{30 * '1'} 0 0"):
+            says = f"restarted {numbers}"
+            with self.subTest(says), self.assertRaisesRegex(CoordinatorGone, f"it began with the line: {says}"):
+                process(f"print({says!r}, flush=True)")
+
+    def test_one_that_does_not_say_what_is_due(self):
+        with self.assertRaisesRegex(CoordinatorGone, "it replied 'dew' to 'due'"):
+            process(ECHO.replace('print("due"', 'print("dew"'))
+
     def test_a_transaction_that_cannot_begin_yet(self):
         coordinator = process(ECHO.replace('says = ', 'says = "error not now" if moves[0] == "start 1" else '))
         with self.assertRaises(NotNow):

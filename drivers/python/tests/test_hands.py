@@ -40,6 +40,49 @@ class Calls(Case):
             self.move(xa)
         self.assertEqual(self.written(), (["take"], ["give"]))
 
+    def test_a_reply_that_there_is_none_of_ends_the_session_and_nothing_is_lost(self):
+        calls, outcomes = ("prepare 0 9", "prepare x", "prepare", "commit", "perhaps 0 1", ""), ("committed owed 9", "rolled-back 99 0")
+        for wrong in (*calls, *(f"{outcome} next 0" for outcome in outcomes)):
+            for move in ("join", "tell"):
+                with self.subTest(wrong, move=move), self.manager() as xa:
+                    self.move(xa)
+                    self.says_in_place_of_a_reply(xa, move, wrong, is_asked=move == "tell")
+                    # Before the votes are told nothing is decided; behind that the next session knows it.
+                    with self.assertRaises(RolledBack if move == "join" else OutcomeUnknown):
+                        with xa.transaction() as t:
+                            t[0].execute("take")
+                            t[1].execute("give")
+                    self.assertIs(xa.outcome(t.gtrid), Outcome.ROLLED_BACK if move == "join" else Outcome.COMMITTED)
+                    self.move(xa)
+                written = self.written()
+                self.assertEqual([len(one) for one in written], [2 if move == "join" else 3] * 2)
+                self.assertEqual((self.left.prepared, self.right.prepared), ({}, {}))
+                self.left.written.clear()
+                self.right.written.clear()
+
+    def test_a_next_transaction_that_has_no_name_ends_the_session(self):
+        with self.manager(threads=1) as xa:
+            self.move(xa)
+            for wrong in ("committed", "committed next x", "committed next 1 "):
+                session = xa._session
+                self.says_in_place_of_a_reply(xa, "tell", wrong, is_asked=False)
+                self.move(xa)
+                self.assertTrue(session.coordinator.is_gone)
+                self.assertIn(f"it replied {wrong!r} to 'tell 1 0 0'", session.coordinator._fault)
+        self.assertEqual([len(one) for one in self.written()], [4, 4])
+
+    def says_in_place_of_a_reply(self, xa, move, wrong, is_asked):
+        """The next reply to such a move is this one, once."""
+        coordinator, left = xa._session.coordinator, [wrong]
+        wait = coordinator.wait
+
+        def waits(reply):
+            words = wait(reply)
+            is_it = reply.move.startswith(move) and reply.is_asked is is_asked
+            return left.pop() if left and is_it else words
+
+        coordinator.wait = waits
+
     def test_behind_the_work_the_coordinator_is_waited_for_once(self):
         asked = []
         with self.manager() as xa:
