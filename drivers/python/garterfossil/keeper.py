@@ -19,6 +19,8 @@ log = logging.getLogger("garterfossil")
 
 #: A recovery that couldn't be done is tried again after so many seconds.
 RECOVERY_PAUSE = 1.0
+#: So many seconds behind the last commit the coordinator is asked what is due, by which rows leave the log that no branch needs.
+IDLE = 1.0
 
 
 class Keeper:
@@ -31,6 +33,9 @@ class Keeper:
         # By database, the thread that recovers it, and since when.
         self._working: Dict[int, Tuple[threading.Thread, float]] = {}
         self._is_over = False
+        # When a transaction last left a row in the log, and whether a thread waits until the session is idle behind it.
+        self._row = 0.0
+        self._is_idle_awaited = False
         # Ends the pauses.
         self._stop = threading.Event()
 
@@ -70,6 +75,35 @@ class Keeper:
             if not rm.is_recovery_due:
                 del self._working[rm.number]
             return rm.is_recovery_due
+
+    def note_row(self) -> None:
+        """A transaction has left a row in the log, and its branches are told. Others that follow soon let it leave the log; else an idle
+        session does."""
+        with self._lock:
+            self._row = time.monotonic()
+            if self._is_idle_awaited or self._is_over:
+                return
+            try:
+                threading.Thread(target=self._ask_when_idle, name="garterfossil idle", daemon=True).start()
+            except RuntimeError:
+                # As above: it stays in the log until the next one.
+                return
+            self._is_idle_awaited = True
+
+    def _ask_when_idle(self) -> None:
+        while True:
+            with self._lock:
+                left = self._row + IDLE - time.monotonic()
+                self._is_idle_awaited = left > 0
+            if left <= 0:
+                break
+            if self._stop.wait(left):
+                return
+        try:
+            self._session.coordinator.ask("due")
+        except CoordinatorGone as error:
+            # The next session finds the row.
+            log.warning("%s", error)
 
     def try_to_recover(self, rm: ResourceManager) -> bool:
         """Recovers the database, if it can be reached. Whether that was done."""

@@ -246,6 +246,8 @@ class Session:
             self._rms[rm].is_recovery_due = True
         if self.mirror is not None and told.outcome is Outcome.COMMITTED and not owed:
             self.mirror.over(gtrid)
+        if told.outcome is Outcome.COMMITTED and len(parts) > 1:
+            self.keeper.note_row()
         # Mostly a connection alone was lost, and the branch is ended at once.
         for patience in (0, GLANCE):
             for rm in told.owed:

@@ -304,6 +304,7 @@ class Coordinator:
             xids.discard(xid)
 
     def do_due(self):
+        self.take_rows()
         return " ".join(["due", *(str(rm) for rm, calls in self.debts.items() if calls)])
 
     def do_fate(self, gtrid):

@@ -6,6 +6,7 @@ import threading
 import time
 import unittest
 from concurrent.futures import ThreadPoolExecutor
+from unittest import mock
 
 from garterfossil import CoordinatorGone, Outcome, OutcomeUnknown, RolledBack, SetupError, Xid
 from garterfossil import recovery
@@ -119,6 +120,39 @@ class Beside(Case):
         begun = time.monotonic()
         xa.close()
         self.assertLess(time.monotonic() - begun, 3)
+
+    def test_an_idle_session_leaves_no_row_of_what_is_over_in_the_log(self):
+        with self.manager(threads=3) as xa:
+            asked = len(self.requests("due"))
+            self.move(xa)
+            self.assertNotEqual(self.in_the_log()["rows"], {})
+            wait_for(lambda: self.in_the_log()["rows"] == {})
+            # Once, and never again as long as nothing commits.
+            time.sleep(1.5)
+            self.assertEqual(len(self.requests("due")), asked + 1)
+            self.assertFalse([thread for thread in threading.enumerate() if thread.name == "garterfossil idle"])
+            self.move(xa)
+            wait_for(lambda: len(self.requests("due")) == asked + 2 and self.in_the_log()["rows"] == {})
+        self.assertEqual(self.written(), (2 * ["take"], 2 * ["give"]))
+
+    def test_a_session_that_is_busy_asks_nothing_between_and_one_that_ends_waits_for_nothing(self):
+        with mock.patch("garterfossil.keeper.IDLE", 40.0), self.manager() as xa:
+            asked = len(self.requests("due"))
+            for _ in range(20):
+                self.move(xa)
+            self.assertEqual(len([thread for thread in threading.enumerate() if thread.name == "garterfossil idle"]), 1)
+            self.assertEqual(len(self.requests("due")), asked)
+            begun = time.monotonic()
+        self.assertLess(time.monotonic() - begun, 20)
+        wait_for(lambda: not any(thread.name == "garterfossil idle" for thread in threading.enumerate()))
+
+    def test_an_idle_session_whose_coordinator_is_gone(self):
+        with self.manager() as xa:
+            self.move(xa)
+            xa._session.coordinator.kill()
+            time.sleep(1.5)
+            self.move(xa)
+        self.assertEqual(self.written(), (2 * ["take"], 2 * ["give"]))
 
     def test_threads_end_once_nothing_is_due(self):
         with self.manager() as xa:
