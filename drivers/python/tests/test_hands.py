@@ -8,6 +8,7 @@ import unittest
 from concurrent.futures import ThreadPoolExecutor
 
 from garterfossil import CoordinatorGone, HeuristicEnd, Outcome, OutcomeUnknown, RolledBack, SetupError, TransactionManager, XaError, Xid
+from garterfossil import recovery
 from garterfossil.codes import Code
 from garterfossil.errors import ConnectionLost
 from garterfossil.hands import Told
@@ -70,6 +71,26 @@ class Calls(Case):
                 self.assertTrue(session.coordinator.is_gone)
                 self.assertIn(f"it replied {wrong!r} to 'tell 1 0 0'", session.coordinator._fault)
         self.assertEqual([len(one) for one in self.written()], [4, 4])
+
+    def test_a_recovery_that_is_told_no_call_ends_the_session(self):
+        for wrong in ("", "xa_commit", "xa_commit 7:0", "strange", "perhaps"):
+            with self.subTest(wrong), self.manager() as xa:
+                session = xa._session
+                self.says_in_place_of_a_reply(xa, "recover", wrong, is_asked=True)
+                with self.assertRaisesRegex(CoordinatorGone, f"it replied {wrong!r} to"):
+                    recovery.recover(session, session._rms[0])
+                self.assertTrue(session.coordinator.is_gone)
+                self.move(xa)
+
+    def test_a_fate_that_is_none_ends_the_session_and_is_asked_again(self):
+        with self.manager() as xa:
+            session = xa._session
+            gtrid = f"{session.coordinator.incarnation:016x}{99:016x}"
+            self.says_in_place_of_a_reply(xa, "fate", "perhaps", is_asked=True)
+            session.outcomes.ask(gtrid)
+            with self.assertRaisesRegex(CoordinatorGone, "it replied 'perhaps' to 'fate"):
+                session.outcomes.find(session.coordinator)
+            self.assertIs(xa.outcome(gtrid), Outcome.ROLLED_BACK)
 
     def says_in_place_of_a_reply(self, xa, move, wrong, is_asked):
         """The next reply to such a move is this one, once."""
