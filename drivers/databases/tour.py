@@ -417,6 +417,13 @@ class Tour:
         print(f"told  a branch is rolled back by hand, against the decision: {self.holds(t.gtrid)}; {raised}")
 
 
+def words_of(call, answer):
+    """An answer as an `answer` request tells it, behind the thread and the resource manager."""
+    if answer.page is None:
+        return f"{call.name} {call.xid} {answer.code:d}"
+    return " ".join([f"{call.name} {len(answer.page)}", *map(str, answer.page)])
+
+
 class Asked:
     """A session that is asked for requests (docs/SERVE.md), with a connection for each of its lines, over a log of its own."""
 
@@ -456,7 +463,7 @@ class Asked:
     def make(self, thread, rm, text):
         call = Call.parse(text)
         answer = self.connections[thread, rm].do(call)
-        self.ask(f"answer {thread} {rm} {answer.words_to(call)}")
+        self.ask(f"answer {thread} {rm} {words_of(call, answer)}")
 
     def prepare_both(self):
         for rm in (0, 1):

@@ -45,20 +45,9 @@ class Call(NamedTuple):
         """What databases call it in SQL: COMMIT for xa_commit."""
         return self.name.partition("_")[2].upper()
 
-    @property
-    def ends_a_prepared_branch(self) -> bool:
-        """Whether it is made again until it is answered: the other calls are given up with their connection."""
-        return self.name == "xa_rollback" or self.name == "xa_commit" and "TMONEPHASE" not in self.flags
-
 
 class Answer(NamedTuple):
     """What a resource manager answered: a code; to an xa_recover the identifiers that it lists."""
 
     code: Code = Code.OK
     page: Optional[Tuple[Xid, ...]] = None
-
-    def words_to(self, call: Call) -> str:
-        """The answer as an `answer` request tells it, behind the thread and the resource manager."""
-        if self.page is None:
-            return f"{call.name} {self.code:d}" if call.xid is None else f"{call.name} {call.xid} {self.code:d}"
-        return " ".join([f"{call.name} {len(self.page)}", *map(str, self.page)])

@@ -416,10 +416,6 @@ class Connection(abc.ABC):
         is_earlier = self.scanned_before is None or int.from_bytes(xid.gtrid[-16:-8], "big") < self.scanned_before
         return is_earlier and xid not in self.put_off
 
-    def has_unprepared(self, xid: Xid) -> bool:
-        """Whether the branch is the connection's own, and not prepared."""
-        return xid == self._xid and self._state is not State.PREPARED
-
     def listed(self) -> List[Xid]:
         """The prepared branches of the connection's own place."""
         return [xid for xid in self._listed() if self.place.owns(xid)]
