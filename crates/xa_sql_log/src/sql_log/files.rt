@@ -32,6 +32,9 @@ const CACHE_PAGES: usize = 128;
 /// How a database file begins.
 const SQLITE: &[u8] = b"SQLite format 3\0";
 
+/// The same before its first byte is written.
+const UNFINISHED: &[u8] = b"\0QLite format 3\0";
+
 /// How a log uses its files, with this seed for the salts of its journal.
 pub(super) fn options_of(seed: u64) -> Options {
     Options {
@@ -176,13 +179,23 @@ fn files_of(alloc: Global, journal: &[u8], db: &[u8]) -> Result<Files<Memory>, L
     })
 }
 
-/// Whether a file that begins so is to be read, beside a journal of these bytes: it begins as a database does, or has one byte
-/// at most, or the journal has what is still to be copied into it. So a large file of another kind is refused by its beginning.
+/// Whether a file begins as a database does, or as one whose first page was written, except for its
+/// first byte, which is written last: a kill while the file was first made leaves it so.
+fn has_mark(beginning: &[u8]) -> bool
+    ensures { result ≡ (starts_with nat_eq beginning.now SQLITE.now || starts_with nat_eq beginning.now UNFINISHED.now) }
+{
+    beginning.starts_with(SQLITE) || beginning.starts_with(UNFINISHED)
+}
+
+/// Whether a file that begins so is to be read, beside a journal of these bytes: it has a
+/// database's mark, or one byte at most, or the journal has what is still to be copied into it. So
+/// a large file of another kind is refused by its beginning.
 fn may_be_database(beginning: &[u8], journal: &[u8]) -> bool
     ensures { result ≡ (nat_le (length beginning.now) 1
-        || (starts_with nat_eq beginning.now SQLITE.now || is_rest journal.now)) }
+        || ((starts_with nat_eq beginning.now SQLITE.now || starts_with nat_eq beginning.now UNFINISHED.now)
+        || is_rest journal.now)) }
 {
-    beginning.len() <= 1 || beginning.starts_with(SQLITE) || is_rest(journal)
+    beginning.len() <= 1 || has_mark(beginning) || is_rest(journal)
 }
 
 /// The first bytes of the file at a path, as many as a database's mark has.
