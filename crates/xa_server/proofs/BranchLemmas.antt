@@ -1,8 +1,8 @@
 -- What a driver tells is of branches that have identifiers.
-use Rattle.std.proofs.Common.{◌≡◌, ◌∙◌, ◌⊎◌, inl, inr, ℕ, zero, suc, ◌+◌, Bool, true, false, List, [], ◌∷◌, map, get_or, Option, Some, None, IfSome, option_map, refl, sym, ap, subst}
+use Rattle.std.proofs.Common.{◌≡◌, ◌∙◌, inl, inr, ℕ, zero, suc, ◌+◌, Bool, true, false, List, [], ◌∷◌, map, Option, Some, None, IfSome, option_map, refl, sym, ap, subst}
 use Rattle.std.proofs.lemmas.List.Elements.{All-get_or}
 use Rattle.std.proofs.lemmas.Option.{get_or_from_slice_get, slice_get-map, slice_get_within}
-use Rattle.std.specs.Prelude.{All, MatchBool, if◌then◌else◌, slice_get}
+use Rattle.std.specs.Prelude.{MatchBool, if◌then◌else◌, slice_get}
 use Rattle.xa_base.proofs.BranchLemmas.{numbers_fit}
 use Rattle.xa_base.specs.Answer.{map_answer}
 use Rattle.xa_base.specs.Branch.{branch_of_xid}

@@ -1,5 +1,5 @@
 -- What becomes of the log.
-use Rattle.std.proofs.Common.{◌≡◌, ◌⊎◌, inl, inr, ℕ, ◌+◌, zero, suc, List, [], ◌∷◌, Option, Some, None, ap}
+use Rattle.std.proofs.Common.{◌≡◌, inl, inr, ℕ, ◌+◌, zero, suc, List, [], ◌∷◌, Option, Some, None, ap}
 use Rattle.std.specs.Prelude.{Result, Ok, Err}
 use Rattle.xa_base.specs.declared.branch.Gtrid.{Gtrid}
 use Rattle.xa_base.specs.declared.refusal.Refusal.{Refusal}

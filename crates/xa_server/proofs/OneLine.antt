@@ -31,6 +31,10 @@ kept_of_none : (line kept : List ℕ) → IsKeptOf line kept → line ≡ [] →
 kept_of_none [] kept keeps none = keeps.short (omega arith)
 kept_of_none (b ∷ bs) kept keeps none = absurd (cons_is_not_nil b bs none)
 
+-- what was written whole was begun
+pub wholly_begun : (written all : Option (List ℕ)) (line : List ℕ) → Appends written all line → AppendsBeginning written all line
+wholly_begun written all line appends = ([], record { written = line; whole = sym (append-nil line); appends = appends })
+
 module _ {L : Type 0} (moment : L → Moment) (name : List ℕ) where
   -- nothing was written, and nothing done
   pub off_at_once : (unread written all : Option (List ℕ)) (c : Server L) → Keeps written all → BreaksOff moment name unread written all c c

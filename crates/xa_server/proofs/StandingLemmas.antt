@@ -5,7 +5,7 @@ use Rattle.xa_base.specs.declared.refusal.Refusal.{Refusal}
 use Rattle.xa_server.specs.Crashes.{LosesFrom, LosesOne}
 use Rattle.xa_session.specs.Steps.{HappenInTurn}
 use Rattle.xa_server.specs.declared.server.Server.{Server}
-use Rattle.xa_model.specs.Trace.{Happening, Happening.Crashed}
+use Rattle.xa_model.specs.Trace.{Happening}
 use Rattle.xa_requests.specs.declared.response.Response.{Response}
 use Rattle.xa_requests.specs.declared.response.Response.TheVariants as responses
 use Rattle.xa_session.specs.declared.session.Session.{Session}

@@ -18,6 +18,7 @@ pub mod Serving
 pub mod ServingLines
 pub mod Sessions
 pub mod Standing
+pub mod Strange
 pub mod Telling
 pub mod Tracking
 pub mod Transactions

@@ -1,6 +1,6 @@
 -- One transaction alone: sessions of a manager one after another, where nothing is supposed of the branches of any other transaction. So one
 -- branch that a database forgot, or that somebody ended against the log, is the trouble of its own transaction.
-use Rattle.std.specs.Prelude.{◌≡◌, ◌≤◌, ◌⊎◌, ℕ, true, false, if◌then◌else◌, Bool, List, [], ◌∷◌, Option, Some, is_some}
+use Rattle.std.specs.Prelude.{◌≡◌, ◌≤◌, ◌⊎◌, ℕ, true, false, if◌then◌else◌, Bool, List, [], ◌∷◌, Some, is_some}
 use Rattle.std.specs.FinMap.{get}
 use Rattle.xa_base.specs.Branch.{branch_eq}
 use Rattle.xa_base.specs.StateTable.{asks_of, broken}

@@ -12,6 +12,7 @@ pub mod laws;
 mod lines;
 mod server;
 mod serving;
+mod strange;
 
 pub use server::Server;
 pub use serving::ServeFault;

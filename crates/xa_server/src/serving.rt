@@ -13,6 +13,7 @@ ghost use Rattle.xa_session.specs.Session.{IsReady};
 
 use crate::lines::{LineReply, all_asked_by, is_nothing, read_line, write_reply};
 use crate::server::Server;
+use crate::strange::Beginnings;
 use std::alloc::AllocError;
 use std::io::{BufReader, Read, Write};
 use thiserror::Error;
@@ -33,6 +34,9 @@ pub enum ServeFault {
     /// A request for memory was refused outside of a step.
     #[error("out of memory")]
     Memory,
+    /// A page was refused that lists a branch which no session over the log began.
+    #[error("a resource manager lists a branch that no session over the log began")]
+    Strange,
 }
 
 impl From<AllocError> for ServeFault {
@@ -82,19 +86,23 @@ fn flush_before_waiting<R: Read, W: Write>(
 
 impl<L: DecisionLog + Drop> Server<L> {
     /// Does what a request asks for, and gives its reply.
-    fn reply_by(&mut self, asked: &Option<Request>) -> Response
+    fn reply_by(&mut self, beginnings: &mut Beginnings, asked: &Option<Request>) -> Response
         requires { IsReady self.old.session }
         ensures ready { IsReady self.new.session }
         ensures replies { RepliesBy L.moment asked.now self.old result self.new }
     {
         match asked {
-            Some(request) => self.perform(request),
+            Some(request) => {
+                let reply = self.perform(request);
+                beginnings.hear(request, &reply);
+                reply
+            }
             None => Response::Fault(RequestFault::NoRequest),
         }
     }
 
     /// Does what the requests of a line ask for, in turn, up to the first that is refused. Gives the reply to the last.
-    fn reply_in_turn(&mut self, asked: &[Option<Request>]) -> LineReply
+    fn reply_in_turn(&mut self, beginnings: &mut Beginnings, asked: &[Option<Request>]) -> LineReply
         requires ready { IsReady self.old.session }
         requires some { 0 < length asked.now }
         ensures ready { IsReady self.new.session }
@@ -103,21 +111,26 @@ impl<L: DecisionLog + Drop> Server<L> {
         let [first, others @ ..] = asked else {
             return LineReply::alone(Response::Fault(RequestFault::NoRequest));
         };
-        let mut told = LineReply::alone(self.reply_by(first));
+        let mut told = LineReply::alone(self.reply_by(beginnings, first));
         for request in others {
             if ends_line(&told.reply) {
                 return told;
             }
             told = LineReply {
                 before: told.before + 1,
-                reply: self.reply_by(request),
+                reply: self.reply_by(beginnings, request),
             };
         }
         told
     }
 
     /// Does what a line asks for, and gives its reply.
-    fn reply_to(&mut self, name: &ManagerName, line: &[u8]) -> Result<LineReply, ServeFault>
+    fn reply_to(
+        &mut self,
+        beginnings: &mut Beginnings,
+        name: &ManagerName,
+        line: &[u8],
+    ) -> Result<LineReply, ServeFault>
         requires { IsReady self.old.session }
         ensures ready { IsReady self.new.session }
         ensures ok { IfOk result (λ told. RepliesToLine L.moment
@@ -126,15 +139,18 @@ impl<L: DecisionLog + Drop> Server<L> {
         ensures err { OnErr result (self.new ≡ self.old) }
     {
         match all_asked_by(self.alloc, name, line) {
-            Ok(asked) => Ok(self.reply_in_turn(asked.as_slice())),
+            Ok(asked) => Ok(self.reply_in_turn(beginnings, asked.as_slice())),
             Err(_) => Err(ServeFault::Memory),
         }
     }
 
-    /// Reads a line, does what it asks for, and writes its reply. What was written before is flushed first, if the line may
-    /// have to be waited for. Says whether the session goes on: not after `quit`, and not at the end of the input.
+    /// Reads a line, does what it asks for, and writes its reply. What was written before is flushed
+    /// first, if the line may have to be waited for. Says whether the session goes on: not after
+    /// `quit`, and not at the end of the input. It is broken off after the reply that refuses a page
+    /// with a strange branch.
     fn serve_line<R: Read, W: Write>(
         &mut self,
+        beginnings: &mut Beginnings,
         name: &ManagerName,
         input: &mut BufReader<R>,
         output: &mut W,
@@ -153,8 +169,11 @@ impl<L: DecisionLog + Drop> Server<L> {
         if is_nothing(&line) {
             return Ok(false);
         }
-        let told = self.reply_to(name, &line.bytes)?;
+        let told = self.reply_to(beginnings, name, &line.bytes)?;
         write_reply(self.alloc, name, &told, output)?;
+        if beginnings.is_strange {
+            return Err(ServeFault::Strange);
+        }
         Ok(goes_on(line.is_ended, &told.reply))
     }
 
@@ -164,9 +183,11 @@ impl<L: DecisionLog + Drop> Server<L> {
     /// each before it. What was written is flushed before input is waited for: so what was read together is replied by
     /// one write. What is written last the caller flushes. A line is ended by a line feed, which the last one may lack.
     ///
-    /// Input comes if the requests can't be read, Output if a reply can't be written, and Memory if a request for memory
-    /// was refused outside of a step. What was done then is what whole lines that were read ask for, in their order, and
-    /// each reply was written but the last, of which a beginning was.
+    /// Input comes if the requests can't be read, Output if a reply can't be written, Memory if a request for memory
+    /// was refused outside of a step, and Strange once a page was refused that lists a branch which no session over the
+    /// log began: then the session is over, and whoever has the log keeps others from starting over it. What was done
+    /// then is what whole lines that were read ask for, in their order, and each reply was written but the last, of which
+    /// a beginning was, or all.
     pub fn serve<R: Read, W: Write>(
         &mut self,
         input: &mut BufReader<R>,
@@ -203,10 +224,11 @@ impl<L: DecisionLog + Drop> Server<L> {
             (reader_remaining R.remaining input.old)
             (W.contents output.old) (W.contents output.new) self.old self.new) }
     {
+        let mut beginnings = Beginnings::before(self.session.incarnation());
         let greeting = LineReply::alone(self.greeting());
         write_reply(self.alloc, name, &greeting, output)?;
         for _ in 0..u64::MAX {
-            if !self.serve_line(name, input, output)? {
+            if !self.serve_line(&mut beginnings, name, input, output)? {
                 return Ok(());
             }
         }

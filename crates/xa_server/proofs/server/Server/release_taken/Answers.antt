@@ -1,4 +1,4 @@
-use Rattle.std.proofs.Common.{◌∙◌, Some, subst, sym}
+use Rattle.std.proofs.Common.{◌∙◌, subst, sym}
 use Rattle.xa_server.proofs.ReleaseLemmas.{one_is_released}
 use Rattle.xa_server.specs.Releasing.{ReleasesAll, if_taken}
 use Rattle.xa_server.proofs.server.Server.release_taken.Goals as goal

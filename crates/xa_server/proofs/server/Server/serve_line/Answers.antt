@@ -1,8 +1,9 @@
 use Rattle.std.proofs.Common.{◌∙◌, false, subst, sym}
 use Rattle.std.specs.Io.Buffered.{reader_remaining}
 use Rattle.xa_log.proofs.Parts.{on_err}
-use Rattle.xa_server.proofs.OneLine.{at_end, off_at_once, off_behind, one_line, served_behind_flush}
+use Rattle.xa_server.proofs.OneLine.{at_end, off_at_once, off_behind, one_line, served_behind_flush, wholly_begun}
 use Rattle.xa_server.proofs.LineLemmas.{asks_of}
+use Rattle.xa_server.specs.NamedLines.{line_written}
 use Rattle.xa_server.specs.Serving.{RepliesToLine}
 use Rattle.xa_server.specs.ServingLines.{BreaksOff, ServesLine}
 use Rattle.xa_server.proofs.server.Server.serve_line.Goals as goal
@@ -50,6 +51,24 @@ returns-in_err-write_reply-clause-err g c =
     c.in_ok-line.ensures (sym c.is_nothing.ensures ∙ c.if-is_nothing.false)
     (subst (λ l. RepliesToLine moment (asks_of name l) old told new) c.deref.ensures.value c.in_ok-told.ensures.ok)
     c.flush_before_waiting.ensures.keeps c.in_err-write_reply.ensures.err)
+
+pub returns-then-beginnings-clause-err : goal.returns-then-beginnings-clause-err
+returns-then-beginnings-clause-err g c =
+    let moment = g.L.DecisionLog.moment in
+    let name = c.args.name.now in
+    let left = reader_remaining g.R.Read.remaining in
+    let contents = g.W.Write.contents in
+    let written = contents c.args.output.now in
+    let mid = contents c.flush_before_waiting.new.output in
+    let all = contents c.write_reply.new.output in
+    let line = c.in_ok-line.line in
+    let told = c.in_ok-told.told in
+    let old = c.args.self.now in
+    let new = c.reply_to.new.self in
+    off_behind moment name (left c.args.input.now) (left c.read_line.new.input) written mid all line.bytes.items line.is_ended told old new
+    c.in_ok-line.ensures (sym c.is_nothing.ensures ∙ c.if-is_nothing.false)
+    (subst (λ l. RepliesToLine moment (asks_of name l) old told new) c.deref.ensures.value c.in_ok-told.ensures.ok)
+    c.flush_before_waiting.ensures.keeps (wholly_begun mid all (line_written name told) c.in_ok-write_reply.ensures.ok)
 
 pub returns-then-is_nothing-clause-ok : goal.returns-then-is_nothing-clause-ok
 returns-then-is_nothing-clause-ok g c =
