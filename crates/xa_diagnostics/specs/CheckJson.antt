@@ -26,12 +26,12 @@ abbrev pub is_well : List Diagnostic → List ℕ
 is_well found = if length found == 0 then codes "true" else codes "false"
 
 -- what a file is
-abbrev pub kind_name : FileKind → List ℕ
-kind_name Scenario = codes "scenario"
-kind_name Jobs = codes "jobs"
+abbrev pub file_kind_name : FileKind → List ℕ
+file_kind_name Scenario = codes "scenario"
+file_kind_name Jobs = codes "jobs"
 
 -- the file at a path, these faults, and what a run will refuse
 abbrev pub check_json : (path : List ℕ) → FileKind → List Diagnostic → (warnings : List ℕ) → List ℕ
 check_json path kind found warnings =
-    codes "{\"file\":" ++ quoted path ++ codes ",\"ok\":" ++ is_well found ++ codes ",\"kind\":\"" ++ kind_name kind
+    codes "{\"file\":" ++ quoted path ++ codes ",\"ok\":" ++ is_well found ++ codes ",\"kind\":\"" ++ file_kind_name kind
     ++ codes "\",\"faults\":" ++ array (map fault_json found) ++ codes ",\"warnings\":" ++ array (items_in Line (lines warnings)) ++ codes "}\n"

@@ -2,7 +2,7 @@
 //! next fault shows.
 
 ghost use Rattle.std.specs.Prelude.{◌≡◌, IfOk};
-ghost use Rattle.xa_diagnostics.specs.CheckJson.{kind_name};
+ghost use Rattle.xa_diagnostics.specs.CheckJson.{file_kind_name};
 ghost use Rattle.toml.specs.View.{table_view};
 ghost use Rattle.xa_diagnostics.specs.Documents.{file_kind_of, kind_in};
 
@@ -31,7 +31,7 @@ impl FileKind {
 
     /// The word for it.
     pub fn name(self) -> &'static str
-        ensures { result.now ≡ kind_name self }
+        ensures { result.now ≡ file_kind_name self }
     {
         match self {
             FileKind::Scenario => "scenario",

@@ -10,8 +10,8 @@ use Rattle.xa_base.specs.declared.code.How.{How}
 use Rattle.xa_base.specs.declared.code.How.TheVariants.{Com, Rb, Mix, Haz}
 
 -- whether a transaction has a row among these
-abbrev pub has_row : List Gtrid → Gtrid → Bool
-has_row decisions g = list_any (λ h. gtrid_eq h g) decisions
+abbrev pub lists_decision : List Gtrid → Gtrid → Bool
+lists_decision decisions g = list_any (λ h. gtrid_eq h g) decisions
 
 -- what the end is to a decision to commit
 abbrev pub against_commit : How → List ℕ
@@ -31,11 +31,11 @@ without_row Mix = codes "committed in part. Its transaction has no row: it was r
 without_row Haz = codes "perhaps ended. Its transaction has no row: it was rolled back, or is committed and over. "
     ++ codes "Look what is there, and how another branch of it ended"
 
-abbrev pub end_text : How → (has_row : Bool) → List ℕ
-end_text how true = against_commit how
-end_text how false = without_row how
+abbrev pub own_end_text : How → (is_listed : Bool) → List ℕ
+own_end_text how true = against_commit how
+own_end_text how false = without_row how
 
-abbrev pub end_line : Branch × How → (has_row : Bool) → List ℕ
-end_line row has_row =
+abbrev pub own_end_line : Branch × How → (is_listed : Bool) → List ℕ
+own_end_line row is_listed =
     text_of (xid_of_branch row.0) ++ codes " was ended by resource manager " ++ decimal row.0.rm
-    ++ codes " itself: " ++ end_text row.1 has_row ++ codes "\n"
+    ++ codes " itself: " ++ own_end_text row.1 is_listed ++ codes "\n"

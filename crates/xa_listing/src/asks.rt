@@ -3,7 +3,7 @@
 ghost use Rattle.std.specs.Prelude.{◌≡◌, IfErr, IfOk};
 ghost use Rattle.std.specs.String.{string_bytes};
 ghost use Rattle.xa_files.specs.declared.fault.RunFault.TheVariants.{Memory};
-ghost use Rattle.xa_listing.specs.Ends.{against_commit, end_line, end_text, has_row, without_row};
+ghost use Rattle.xa_listing.specs.Ends.{against_commit, own_end_line, own_end_text, lists_decision, without_row};
 
 use crate::statements::{mariadb_commit, postgresql_commit};
 use std::alloc::Global;
@@ -80,17 +80,17 @@ fn without_row(how: How) -> &'static str
 }
 
 /// Whether a transaction has a row among these.
-fn has_row(decisions: &[Gtrid], gtrid: Gtrid) -> bool
-    ensures { result ≡ has_row decisions.now gtrid }
+fn lists_decision(decisions: &[Gtrid], gtrid: Gtrid) -> bool
+    ensures { result ≡ lists_decision decisions.now gtrid }
 {
     decisions.contains(&gtrid)
 }
 
 /// What a heuristic end is to its transaction, by whether that has a row.
-fn end_text(how: How, has_row: bool) -> &'static str
-    ensures { result.now ≡ end_text how has_row }
+fn own_end_text(how: How, is_listed: bool) -> &'static str
+    ensures { result.now ≡ own_end_text how is_listed }
 {
-    if has_row {
+    if is_listed {
         against_commit(how)
     } else {
         without_row(how)
@@ -103,14 +103,14 @@ fn heuristic_text(
     row: &(Branch, How),
     decisions: &[Gtrid],
 ) -> Result<String, RunFault>
-    ensures text { IfOk result (λ text. string_bytes text ≡ end_line row.now
-        (has_row decisions.now row.now.0.gtrid)) }
+    ensures text { IfOk result (λ text. string_bytes text ≡ own_end_line row.now
+        (lists_decision decisions.now row.now.0.gtrid)) }
     ensures fault { IfErr result (λ e. e ≡ Memory) }
 {
     let (branch, how) = row;
     let rm = branch.rm;
     let name = branch.xid().text(alloc)?;
-    let what = end_text(*how, has_row(decisions, branch.gtrid));
+    let what = own_end_text(*how, lists_decision(decisions, branch.gtrid));
     Ok(format!(in alloc; "{name} was ended by resource manager {rm} itself: {what}\n")?)
 }
 

@@ -19,9 +19,9 @@ decision_of (Steps.Abandon g) = Some (g, Rollback)
 decision_of step = None
 
 -- no row waits for the branch any more: it has acknowledged, or has a record
-abbrev pub is_settled : Ledger → Branch → Bool
-is_settled l b = list_any (λ c. branch_eq c b) l.acknowledged.items || list_any (λ c. branch_eq c b) l.recorded.items
+abbrev pub counts_as_done : Ledger → Branch → Bool
+counts_as_done l b = list_any (λ c. branch_eq c b) l.acknowledged.items || list_any (λ c. branch_eq c b) l.recorded.items
 
 -- those that said yes to a transaction, except for the settled ones
 abbrev pub waited_for : Ledger → Gtrid → List Branch
-waited_for l g = filter (λ b. gtrid_eq b.gtrid g && not (is_settled l b)) l.participants.items
+waited_for l g = filter (λ b. gtrid_eq b.gtrid g && not (counts_as_done l b)) l.participants.items

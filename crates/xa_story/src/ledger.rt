@@ -1,7 +1,7 @@
 //! What the manager knows of its transactions, and the rows of its log.
 
 ghost use Rattle.std.specs.Prelude.{◌≡◌, IfOk};
-ghost use Rattle.xa_story.specs.Rows.{is_settled, waited_for};
+ghost use Rattle.xa_story.specs.Rows.{counts_as_done, waited_for};
 
 use std::alloc::Global;
 use xa_base::{Answer, Branch, Call, Code, Gtrid, Memory, Part, Xid};
@@ -135,8 +135,8 @@ impl Ledger {
     }
 
     /// Whether no row waits for the branch any more: it has acknowledged, or has a record.
-    fn is_settled(&self, branch: Branch) -> bool
-        ensures { result ≡ is_settled self.now branch }
+    fn counts_as_done(&self, branch: Branch) -> bool
+        ensures { result ≡ counts_as_done self.now branch }
     {
         self.acknowledged.contains(&branch) || self.recorded.contains(&branch)
     }
@@ -147,7 +147,7 @@ impl Ledger {
     {
         let mut left = Vec::new(alloc);
         for branch in self.participants.iter() {
-            if branch.gtrid == gtrid && !self.is_settled(*branch) {
+            if branch.gtrid == gtrid && !self.counts_as_done(*branch) {
                 left.push(*branch)?;
             }
         }
