@@ -1,0 +1,3 @@
+mod Untold
+mod Reached
+mod Deciding
