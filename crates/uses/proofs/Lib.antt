@@ -13,4 +13,3 @@ mod Sessions
 mod StartRows
 mod TwoManagers
 mod TwoSessions
-mod WorkedSessions

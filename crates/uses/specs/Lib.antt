@@ -6,4 +6,3 @@ pub mod Processes
 pub mod Sessions
 pub mod Starts
 pub mod Transactions
-pub mod WorkedSessions

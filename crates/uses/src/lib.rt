@@ -1,7 +1,7 @@
 //! Callers of the libraries, each proved to do what its contract says. A file is named after its
-//! library, without the `xa_`; `serve`, `transactions`, `worked`, `managers` and `paths` are of
-//! `xa_server`, `own_log`, `processes`, `recovery`, `swaps` and `crash` are further callers of
-//! `xa_system`, and `sql_jobs` of `xa_workers`.
+//! library, without the `xa_`; `serve`, `transactions`, `managers` and `paths` are of `xa_server`,
+//! `own_log`, `processes`, `recovery`, `swaps` and `crash` are further callers of `xa_system`, and
+//! `sql_jobs` of `xa_workers`.
 //!
 //! Nothing runs them: that a call comes to its end is said by the tests of the libraries that it
 //! calls.
@@ -29,5 +29,4 @@ pub mod swaps;
 pub mod system;
 pub mod tm;
 pub mod transactions;
-pub mod worked;
 pub mod workers;

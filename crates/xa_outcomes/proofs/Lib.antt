@@ -1,3 +1,6 @@
-mod Untold
-mod Reached
 mod Deciding
+mod Reached
+mod Untold
+mod WorkedLines
+mod WorkedServed
+mod WorkedSessions

@@ -7,18 +7,17 @@ use Rattle.xa_base.specs.StateTable.{Kind, Kind.Commit as Commits, Kind.End as E
 use Rattle.xa_base.specs.declared.branch.Gtrid.{Gtrid}
 use Rattle.xa_base.specs.declared.code.Code.TheVariants.{Success}
 use Rattle.xa_base.specs.declared.state.Standing.{Standing}
-use Rattle.xa_base.specs.declared.state.Standing.TheVariants.{Active, Committed, Idle, Prepared, Unstarted}
+use Rattle.xa_base.specs.declared.state.Standing.TheVariants.{Active, Committed, Completed, Idle, Prepared, Unstarted}
 use Rattle.xa_base.specs.declared.vote.Vote.TheVariants.{Yes}
 use Rattle.xa_log.specs.Content.{Content}
 use Rattle.xa_log.specs.Contract.{Moment}
-use Rattle.xa_model.specs.Trace.{Branch, Code}
+use Rattle.xa_model.specs.Trace.{Branch, Code, How}
 use Rattle.xa_monitor.specs.Agreement.{MayAllStand.AsTold}
-use Rattle.xa_monitor.specs.Seen.{Seen}
 use Rattle.xa_monitor.specs.Standings.{Comes, Explains, ExplainsIf}
-use Rattle.xa_server.specs.Sessions.{AreServed, AreServed.NoneYet, AreServed.OneMore, IsSessionLeft.AfterLine}
+use Rattle.xa_server.specs.Sessions.{AreServed, AreServed.NoneYet, AreServed.Between, AreServed.OneMore, IsSessionLeft.AfterLine}
 use Rattle.xa_server.specs.Transactions.{AreServedFor.NoneYet as NoneYetFor, AreServedFor.OneMore as OneMoreFor, MayStandFor.AsTold as AsToldFor}
 use Rattle.xa_server.specs.declared.server.Server.{Server}
-use Rattle.uses.specs.WorkedSessions.{IsToldFirst, MayStandApart, TellThis, WorkedSessionsAreServed, at_one, at_two, stand, told_second, votes_told}
+use Rattle.xa_outcomes.specs.WorkedSessions.{MayStandApart, TellThis, at_one, at_two, stand_at, told_second, votes_told}
 
 module _ (g : Gtrid) where
   abbrev a : Branch
@@ -35,7 +34,7 @@ module _ (g : Gtrid) where
   -- ** one call
 
   on_one : (sa sb to : Standing) (k : Kind) (code : Code) → Explains sa k code to → (x : Branch)
-      → ExplainsIf (branch_eq a x) (stand g sa sb x) k code (stand g to sb x)
+      → ExplainsIf (branch_eq a x) (stand_at g sa sb x) k code (stand_at g to sb x)
   on_one sa sb to k code e x = by (branch_eq a x) (if branch_eq b x then sb else Unstarted)
     where
       by : (t : Bool) (rest : Standing) → ExplainsIf t (if t then sa else rest) k code (if t then to else rest)
@@ -43,7 +42,7 @@ module _ (g : Gtrid) where
       by false rest = refl
 
   on_two : (sa sb to : Standing) (k : Kind) (code : Code) → Explains sb k code to → (x : Branch)
-      → ExplainsIf (branch_eq b x) (stand g sa sb x) k code (stand g sa to x)
+      → ExplainsIf (branch_eq b x) (stand_at g sa sb x) k code (stand_at g sa to x)
   on_two sa sb to k code e x = by (branch_eq a x) (branch_eq b x) (apart x)
     where
       by : (t u : Bool) → (t ≡ true → u ≡ true → ⊥)
@@ -67,7 +66,7 @@ module _ (g : Gtrid) where
 
   -- ** the first session
 
-  none : (x : Branch) → stand g Unstarted Unstarted x ≡ Unstarted
+  none : (x : Branch) → stand_at g Unstarted Unstarted x ≡ Unstarted
   none x = by (branch_eq a x) (branch_eq b x)
     where
       by : (t u : Bool) → (if t then Unstarted else (if u then Unstarted else Unstarted)) ≡ Unstarted
@@ -76,7 +75,7 @@ module _ (g : Gtrid) where
       by false false = refl
 
   abbrev now : (sa sb : Standing) → Branch → Standing
-  now sa sb x = stand g sa sb x
+  now sa sb x = stand_at g sa sb x
 
   to_both : (x : Branch) → Comes (votes_told g) x Unstarted (now Prepared Prepared x)
   to_both x = (
@@ -109,10 +108,6 @@ module _ (g : Gtrid) where
     on_two Prepared Idle Prepared Prepares Success preparing x,
   )
 
-  comes_first : (seen : Seen) → IsToldFirst g seen → (x : Branch) → Comes seen x Unstarted (now Prepared Prepared x)
-  comes_first seen (inl is) x = subst (λ s. Comes s x Unstarted (now Prepared Prepared x)) (sym is) (to_both x)
-  comes_first seen (inr is) x = subst (λ s. Comes s x Unstarted (now Prepared Prepared x)) (sym is) (to_both x)
-
   -- ** the second session
 
   commits : (x : Branch) → ExplainsIf (branch_eq a x) (broken (now Prepared Prepared x)) Commits Success (now Committed Prepared x)
@@ -130,29 +125,28 @@ module _ (g : Gtrid) where
 
   -- ** both
 
-  module _ {L : Type 0} (moment : L → Moment) (name : List ℕ) (left : Content) (last : Server L)
-      (tell : TellThis moment name g left last) where
+  module _ {L : Type 0} (moment : L → Moment) (name : List ℕ) (last : Server L) (tell : TellThis moment name g last) where
     first : AreServed moment name (Some tell.first) (now Prepared Prepared)
     first =
-        OneMore _ (λ x. Unstarted) (now Prepared Prepared) tell.handed tell.one tell.told tell.seen tell.now tell.first [] [] NoneYet
+        OneMore _ (λ x. Unstarted) (now Prepared Prepared) tell.handed tell.one (votes_told g) (votes_told g) tell.now tell.first [] [] NoneYet
         (record { left = tell.empty; was_left = tell.is_empty; holds = tell.holds }) tell.session tell.is_left tell.honest
-        (AsTold (now Prepared Prepared) (λ x. comes_first tell.seen tell.tells x))
+        (AsTold (now Prepared Prepared) to_both)
 
-    worked : MayStandApart moment name g left last
+    worked : MayStandApart moment name g last
     worked = record {
       served =
           OneMore (Some tell.first) (now Prepared Prepared) (now Committed Prepared) tell.next tell.two (told_second g) (told_second g)
           last last [] []
           first (record { left = tell.mid; was_left = tell.leaves_mid; holds = tell.holds_mid }) tell.second AfterLine tell.honest_last
           (AsTold (now Committed Prepared) (λ x. comes_second x));
-      alone =
+      alone = λ left leaves.
           OneMoreFor tell.mid left (now Prepared Prepared) (now Committed Prepared) tell.next tell.two (told_second g) (told_second g)
           last last [] []
-          (OneMoreFor tell.empty tell.mid (λ x. Unstarted) (now Prepared Prepared) tell.handed tell.one tell.told tell.seen tell.now
+          (OneMoreFor tell.empty tell.mid (λ x. Unstarted) (now Prepared Prepared) tell.handed tell.one (votes_told g) (votes_told g) tell.now
           tell.first [] []
           (NoneYetFor tell.empty tell.is_empty) tell.holds tell.session tell.is_left tell.honest
-          (AsToldFor (now Prepared Prepared) (λ x is. comes_first tell.seen tell.tells x)) tell.leaves_mid)
-          tell.holds_mid tell.second AfterLine tell.honest_last (AsToldFor (now Committed Prepared) (λ x is. comes_second x)) tell.leaves;
+          (AsToldFor (now Prepared Prepared) (λ x is. to_both x)) tell.leaves_mid)
+          tell.holds_mid tell.second AfterLine tell.honest_last (AsToldFor (now Committed Prepared) (λ x is. comes_second x)) leaves;
       committed = ap (λ t. if t then Committed else (if branch_eq b a then Prepared else Unstarted)) (branch_eq-refl a);
       prepared = two_is (branch_eq a b) refl;
     }
@@ -161,5 +155,25 @@ module _ (g : Gtrid) where
         two_is true e = absurd (apart b e (branch_eq-refl b))
         two_is false e = ap (λ t. if t then Prepared else Unstarted) (branch_eq-refl b)
 
-pub are_served : {L : Type 0} (moment : L → Moment) → WorkedSessionsAreServed moment
-are_served moment name g left last tell = worked g moment name left last tell
+    -- or the database has ended the other by itself since
+    ended : (how : How) → AreServed moment name (Some last) (now Committed (Completed how))
+    ended how = Between (Some last) (now Committed Prepared) (now Committed (Completed how)) b how worked.served worked.prepared alone
+      where
+        alone : (x : Branch) → now Committed (Completed how) x ≡ (if branch_eq b x then Completed how else now Committed Prepared x)
+        alone x = by (branch_eq a x) (branch_eq b x) (apart x)
+          where
+            by : (t u : Bool) → (t ≡ true → u ≡ true → ⊥)
+                → (if t then Committed else (if u then Completed how else Unstarted))
+                ≡ (if u then Completed how else (if t then Committed else (if u then Prepared else Unstarted)))
+            by true true both = absurd (both refl refl)
+            by true false both = refl
+            by false true both = refl
+            by false false both = refl
+
+pub stand_apart : {L : Type 0} (moment : L → Moment) (name : List ℕ) (g : Gtrid) (last : Server L) → TellThis moment name g last
+    → MayStandApart moment name g last
+stand_apart moment name g last tell = worked g moment name last tell
+
+pub ended_alone : {L : Type 0} (moment : L → Moment) (name : List ℕ) (g : Gtrid) (last : Server L) → TellThis moment name g last
+    → (how : How) → AreServed moment name (Some last) (stand_at g Committed (Completed how))
+ended_alone moment name g last tell how = ended g moment name last tell how
