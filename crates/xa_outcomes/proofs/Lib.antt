@@ -1,5 +1,8 @@
 mod Deciding
+mod FailedRequests
 mod Reached
+mod ServedOutcomes
+mod ServedSessions
 mod Untold
 mod WorkedLines
 mod WorkedServed

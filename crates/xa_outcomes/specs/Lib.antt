@@ -1,3 +1,4 @@
 pub mod Outcomes
 pub mod Parts
+pub mod Served
 pub mod WorkedSessions

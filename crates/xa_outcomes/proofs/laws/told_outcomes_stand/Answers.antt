@@ -1,0 +1,22 @@
+use Rattle.xa_outcomes.proofs.ServedOutcomes.{never_told, told_decided, told_heuristic}
+use Rattle.xa_server.proofs.SessionChains.{Laws}
+use Rattle.xa_outcomes.proofs.laws.told_outcomes_stand.Goals as goal
+
+pub returns : goal.returns
+returns g c =
+    let moment = g.L.DecisionLog.moment in
+    let laws : Laws g.row.L.Denot = record {
+      left = c.starts_find_the_log.ensures.left;
+      decision = c.starts_find_the_log.ensures.decision;
+      settlement = c.starts_find_the_log.ensures.settlement;
+      done = c.starts_find_the_log.ensures.done;
+      answer = c.starts_find_the_log.ensures.answer;
+      explained = c.sessions_are_explained.ensures;
+      waiting = c.waiting_calls_are_tracked.ensures;
+    } in
+    let starts = c.starts_are_histories.ensures in
+    record {
+      never = never_told moment laws starts.content starts.apart;
+      decided = told_decided moment laws starts.content starts.apart;
+      heuristic = told_heuristic moment laws starts.content starts.apart;
+    }

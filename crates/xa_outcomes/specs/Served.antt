@@ -1,0 +1,121 @@
+-- What a server told of the outcome of a transaction is so, behind all of its sessions.
+use Rattle.std.specs.Prelude.{◌≡◌, ◌⊎◌, ℕ, true, List, Option, Some, is_some}
+use Rattle.std.specs.FinMap.{get}
+use Rattle.xa_base.specs.Branch.{gtrid_eq}
+use Rattle.xa_base.specs.declared.branch.Gtrid.{Gtrid}
+use Rattle.xa_base.specs.declared.state.Standing.{Standing}
+use Rattle.xa_base.specs.declared.state.Standing.TheVariants.{Committed, Prepared}
+use Rattle.xa_base.specs.declared.step.Outcome.TheVariants as Outcomes
+use Rattle.xa_log.specs.Content.{Content}
+use Rattle.xa_log.specs.Contract.{Moment}
+use Rattle.xa_model.specs.Facts.{has_gtrid}
+use Rattle.xa_model.specs.Promises.Agreement.{IsUndone}
+use Rattle.xa_model.specs.Trace.{Branch, Fault, Happening.CompletedAlone, How, Origin, Trace, Trace.Then}
+use Rattle.xa_monitor.specs.Seen.{Seen}
+use Rattle.xa_monitor.specs.Sessions.{IsCommitting, nothing_yet}
+use Rattle.xa_outcomes.specs.Outcomes.{IsDecided, IsDecidedBehind, IsEndedAs, IsHandedOver, TellsHeuristic}
+use Rattle.xa_outcomes.specs.Parts.{IsPart}
+use Rattle.xa_requests.specs.declared.request.Request.{Request}
+use Rattle.xa_requests.specs.declared.request.Request.TheVariants as requests
+use Rattle.xa_server.specs.Sessions.{AreServed, AreServed.Between, AreServed.NoneYet, AreServed.OneMore, HasOneHistory, IsSessionLeft, IsSessionLeft.AfterLine, IsSessionLeft.InAnswer, IsSessionLeft.InRequest, WasLeft}
+use Rattle.xa_server.specs.declared.server.Server.{Server}
+use Rattle.xa_session.specs.Logging.{LeavesContent}
+use Rattle.xa_session.specs.Tracking.{IsRaisedFrom}
+
+-- ** the parts of the one history
+
+-- A session is the last part of it: what its lines and their replies tell, or that and the answer in which its log failed.
+pub record IsServedPart (o : Origin) (told seen : Seen) (past whole : Trace) : Type 0 where
+  pub kept : Seen
+  pub is_kept : (kept ≡ told) ⊎ (kept ≡ seen)
+  pub fails : Option Fault
+  pub part : IsPart o kept fails past whole
+
+-- The history is of these sessions, each a part of it, in their order.
+abbrev pub IsOfServed : {L : Type 0} (moment : L → Moment) (name : List ℕ) (last : Option (Server L)) (f : Branch → Standing)
+    → AreServed moment name last f → Trace → Type 0
+IsOfServed moment name _ _ NoneYet whole = whole ≡ nothing_yet 0
+IsOfServed moment name _ _ (OneMore last from to handed o told seen now left done cut before handed_on is is_left honest may) whole =
+    (past : Trace) × IsOfServed moment name last from before past × IsServedPart o told seen past whole
+IsOfServed moment name _ _ (Between last from to d how before was final) whole =
+    (past : Trace) × IsOfServed moment name last from before past × (whole ≡ Then past (CompletedAlone d how))
+
+-- the one right history of them, for a start over the log that the last one left
+pub record HaveServedHistory {L : Type 0} (moment : L → Moment) (name : List ℕ) (last : Option (Server L)) (f : Branch → Standing)
+    (served : AreServed moment name last f) (next : Origin) : Type 0 where
+  pub history : HasOneHistory f next
+  pub parts : IsOfServed moment name last f served history.whole
+
+abbrev pub ServedSessionsAreParts : {L : Type 0} → (L → Moment) → Type 0
+ServedSessionsAreParts {L} moment =
+    (name : List ℕ) (last : Option (Server L)) (f : Branch → Standing) (c : Content) (next : Origin) (served : AreServed moment name last f)
+    → WasLeft moment last c → IsRaisedFrom c next → HaveServedHistory moment name last f served next
+
+-- ** never decided
+
+-- the request decides to commit it
+abbrev pub AsksToCommit : Gtrid → Request → Type 0
+AsksToCommit g (requests.Decide gs Outcomes.Commit) = has_gtrid gs g ≡ true
+AsksToCommit g (requests.Settle h) = gtrid_eq h g ≡ true
+AsksToCommit g request = ⊥
+
+-- the session was left in such a request
+abbrev pub IsLeftCommitting : {L : Type 0} (moment : L → Moment) → Gtrid → (told : Seen) (now : Server L) (seen : Seen) (left : Server L)
+    → IsSessionLeft moment told now seen left → Type 0
+IsLeftCommitting moment g told now _ _ AfterLine = ⊥
+IsLeftCommitting moment g told now _ _ (InRequest request left changes performs) = AsksToCommit g request
+IsLeftCommitting moment g told now _ _ (InAnswer t r name code call left waits performs) = ⊥
+
+-- None of these sessions told that it was decided to commit, nor that an xa_commit in one phase of a branch of it waits, nor was left in a
+-- request to commit it.
+abbrev pub WasNeverToldDecided : {L : Type 0} (moment : L → Moment) (name : List ℕ) (g : Gtrid) (last : Option (Server L)) (f : Branch → Standing)
+    → AreServed moment name last f → Type 0
+WasNeverToldDecided moment name g _ _ NoneYet = Unit
+WasNeverToldDecided moment name g _ _ (OneMore last from to handed o told seen now left done cut before handed_on is is_left honest may) =
+    (IsDecided g told → ⊥) × (IsHandedOver g told → ⊥) × (IsLeftCommitting moment g told now seen left is_left → ⊥)
+    × WasNeverToldDecided moment name g last from before
+WasNeverToldDecided moment name g _ _ (Between last from to d how before was final) = WasNeverToldDecided moment name g last from before
+
+-- Then none of its branches is committed. So it may be told as rolled back, and nobody need be asked.
+abbrev pub NeverToldIsNeverCommitted : {L : Type 0} → (L → Moment) → Type 0
+NeverToldIsNeverCommitted {L} moment =
+    (name : List ℕ) (last : Server L) (f : Branch → Standing) (c : Content) (served : AreServed moment name (Some last) f) (b : Branch)
+    → LeavesContent moment last.session.manager c → WasNeverToldDecided moment name b.gtrid (Some last) f served → f b ≡ Committed → ⊥
+
+-- ** decided
+
+-- One of these sessions told that the branch's transaction was decided to commit, behind the branch's vote XA_OK.
+abbrev pub WasToldDecided : {L : Type 0} (moment : L → Moment) (name : List ℕ) (b : Branch) (last : Option (Server L)) (f : Branch → Standing)
+    → AreServed moment name last f → Type 0
+WasToldDecided moment name b _ _ NoneYet = ⊥
+WasToldDecided moment name b _ _ (OneMore last from to handed o told seen now left done cut before handed_on is is_left honest may) =
+    IsDecidedBehind b told ⊎ WasToldDecided moment name b last from before
+WasToldDecided moment name b _ _ (Between last from to d how before was final) = WasToldDecided moment name b last from before
+
+-- The branch is committed, or stands prepared still, or its database ended it by itself. No branch of its transaction is rolled back or lost;
+-- and as long as one stands prepared, the log that is left has the row.
+pub record WillCommitInLog (f : Branch → Standing) (log : Content) (b : Branch) : Type 0 where
+  pub commits : IsCommitting (f b)
+  pub none_undone : (c : Branch) → c.gtrid ≡ b.gtrid → IsUndone (f c) → ⊥
+  pub row_stays : (c : Branch) → c.gtrid ≡ b.gtrid → f c ≡ Prepared → is_some (get log.decisions b.gtrid) ≡ true
+
+abbrev pub ToldDecidedWillCommit : {L : Type 0} → (L → Moment) → Type 0
+ToldDecidedWillCommit {L} moment =
+    (name : List ℕ) (last : Server L) (f : Branch → Standing) (c : Content) (served : AreServed moment name (Some last) f) (b : Branch)
+    → LeavesContent moment last.session.manager c → WasToldDecided moment name b (Some last) f served → WillCommitInLog f c b
+
+-- ** ended by a database
+
+-- One of these sessions told that a database had ended the branch by itself, and how.
+abbrev pub WasToldEndedAlone : {L : Type 0} (moment : L → Moment) (name : List ℕ) (b : Branch) (how : How) (last : Option (Server L))
+    (f : Branch → Standing) → AreServed moment name last f → Type 0
+WasToldEndedAlone moment name b how _ _ NoneYet = ⊥
+WasToldEndedAlone moment name b how _ _ (OneMore last from to handed o told seen now left done cut before handed_on is is_left honest may) =
+    TellsHeuristic b how told ⊎ WasToldEndedAlone moment name b how last from before
+WasToldEndedAlone moment name b how _ _ (Between last from to d by before was final) = WasToldEndedAlone moment name b how last from before
+
+-- So it is behind all of them.
+abbrev pub ToldHeuristicEndsStay : {L : Type 0} → (L → Moment) → Type 0
+ToldHeuristicEndsStay {L} moment =
+    (name : List ℕ) (last : Server L) (f : Branch → Standing) (c : Content) (served : AreServed moment name (Some last) f) (b : Branch) (how : How)
+    → LeavesContent moment last.session.manager c → WasToldEndedAlone moment name b how (Some last) f served → IsEndedAs how (f b)
