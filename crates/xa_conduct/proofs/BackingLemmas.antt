@@ -1,8 +1,8 @@
 -- What backs the place of a branch, and the outcome of a transaction.
-use Rattle.std.proofs.Common.{◌≡◌, ◌∙◌, ◌∷◌, ◌++◌, ap, ℕ, ◌<◌, Bool, true, false, ◌&&◌, ◌||◌, List, [], Option, Some, None, get_or, length, refl, inl, inr, subst, sym, eq-eqb, lit<}
+use Rattle.std.proofs.Common.{◌≡◌, ◌∙◌, ◌∷◌, ◌++◌, ap, ℕ, ◌<◌, Bool, true, false, ◌&&◌, ◌||◌, List, [], Option, Some, None, get_or, length, take, drop, refl, inl, inr, subst, sym, eq-eqb, lit<}
 use Rattle.std.proofs.Math.ListN.{set}
-use Rattle.std.proofs.lemmas.Bool.{and_from, and_parts, false≢true, or_cases, or_left, or_right, true≢false}
-use Rattle.std.proofs.lemmas.List.Elements.{All-push, All-set, All-weaker}
+use Rattle.std.proofs.lemmas.Bool.{and_from, and_parts, cases_Bool, false≢true, or_cases, or_left, or_right, true≢false}
+use Rattle.std.proofs.lemmas.List.Elements.{All-append, All-drop, All-push, All-set, All-take, All-weaker}
 use Rattle.std.specs.List.{list_any}
 use Rattle.std.specs.Prelude.{All}
 use Rattle.xa_base.proofs.XidOrder.{xid_eq-refl}
@@ -16,7 +16,7 @@ use Rattle.xa_base.specs.declared.code.Code.TheVariants as codes
 use Rattle.xa_base.specs.declared.code.How.TheVariants as hows
 use Rattle.xa_requests.specs.declared.request.Request.{Request}
 use Rattle.xa_requests.specs.declared.request.Request.TheVariants as requests
-use Rattle.xa_conduct.specs.Backing.{AreBacked, IsBacked, IsToldSo, KeepsBacked, KeepsResting, OutcomeRests, Rests, WasAtOnce, asks_at_once, asks_commit, asks_forget, asks_prepare, asks_rollback, branch_at, is_backed, is_commit, is_end, is_later, is_on, is_refused, is_yes, loses, standing_after, tells, was_asked}
+use Rattle.xa_conduct.specs.Backing.{AreBacked, KeepAllBacked, IsBacked, IsToldSo, KeepsBacked, KeepsResting, OutcomeRests, RestOn, Rests, WasAtOnce, asks_at_once, asks_commit, asks_forget, asks_prepare, asks_rollback, branch_at, is_backed, is_commit, is_end, is_later, is_on, is_refused, is_yes, loses, standing_after, tells, was_asked}
 use Rattle.xa_conduct.specs.Decided.{AsksNoLess, is_commit_of, is_rollback_of, is_same}
 use Rattle.xa_conduct.specs.Meaning.{kind_at, step_of}
 use Rattle.xa_conduct.specs.Places.{is_asked, rank}
@@ -105,11 +105,14 @@ module _ (asked more : (Request → Bool) → Bool) (keeps : (p : Request → Bo
   parts_more g t parts backed =
       All-weaker (IsBacked asked g t) (IsBacked more g t) (λ part. backed_more (branch_at g t part.rm) part.place) parts backed
 
-  pub rests_more : (t : Transaction) → Rests asked t → Rests more t
-  rests_more t rests = record {
-    outcome = outcome_more t.gtrid t.thread t.standing rests.outcome;
-    parts = parts_more t.gtrid t.thread t.parts.items rests.parts;
+  pub rest_more : (g : Gtrid) (t : ℕ) (standing : Standing) (parts : List Part) → RestOn asked g t standing parts → RestOn more g t standing parts
+  rest_more g t standing parts rest = record {
+    outcome = outcome_more g t standing rest.outcome;
+    parts = parts_more g t parts rest.parts;
   }
+
+  pub rests_more : (t : Transaction) → Rests asked t → Rests more t
+  rests_more t rests = rest_more t.gtrid t.thread t.standing t.parts.items rests
 
   pub all_rest_more : (ts : List Transaction) → All (Rests asked) ts → All (Rests more) ts
   all_rest_more ts rest = All-weaker (Rests asked) (Rests more) rests_more ts rest
@@ -195,14 +198,22 @@ module _ (asked : (Request → Bool) → Bool) (g : Gtrid) (t rm : ℕ) (standin
 -- ** one branch after another
 
 -- one of them goes on, and more was asked for
-pub part_moved : (past old new : List Request) (g : Gtrid) (t : ℕ) (parts : List Part) (i : ℕ) (from to : Part) → i < length parts
-    → from ≡ get_or parts i from → to.rm ≡ from.rm → AsksNoLess old new → KeepsBacked old new (branch_at g t from.rm) from.place to.place
+pub part_moved : (past old new : List Request) (g : Gtrid) (t : ℕ) (parts : List Part) (i : ℕ) (d to : Part) → i < length parts
+    → to.rm ≡ (get_or parts i d).rm → AsksNoLess old new
+    → KeepsBacked old new (branch_at g t (get_or parts i d).rm) (get_or parts i d).place to.place
     → AreBacked (was_asked past old) g t parts → AreBacked (was_asked past new) g t (set parts i to)
-part_moved past old new g t parts i from to within at same more keeps backed =
-    let here : IsBacked (was_asked past old) g t from = subst (IsBacked (was_asked past old) g t) (sym at) (backed i from within) in
+part_moved past old new g t parts i d to within same more keeps backed =
     All-set (IsBacked (was_asked past new) g t) parts i to
-    (subst (λ (rm : ℕ). is_backed (was_asked past new) (branch_at g t rm) to.place ≡ true) (sym same) (keeps past here))
+    (subst (λ (rm : ℕ). is_backed (was_asked past new) (branch_at g t rm) to.place ≡ true) (sym same) (keeps past (backed i d within)))
     (parts_more (was_asked past old) (was_asked past new) (asked_more past old new more) g t parts backed)
+
+-- as they went on before
+pub branches_moved : (begun old new : List Request) (g : Gtrid) (t : ℕ) (first parts : List Part) (i : ℕ) (d to : Part) → i < length parts
+    → to.rm ≡ (get_or parts i d).rm → AsksNoLess old new
+    → KeepsBacked old new (branch_at g t (get_or parts i d).rm) (get_or parts i d).place to.place
+    → KeepAllBacked begun old g t first parts → KeepAllBacked begun new g t first (set parts i to)
+branches_moved begun old new g t first parts i d to within same more keeps kept = λ past backed.
+    part_moved past old new g t parts i d to within same more keeps (kept past backed)
 
 -- ** one report
 
@@ -293,6 +304,88 @@ outcome_moved past old new g t rm standing heard place report more backed told i
     (told_more (was_asked [] new) (was_asked past new) (asked_now past new) b place (step_of place report).code told)
     (outcome_more (was_asked past old) (was_asked past new) keeps g t standing rests))
 
+-- also where the branch waited for no call
+outcome_went : (past old new : List Request) (g : Gtrid) (t rm : ℕ) (standing : Standing) (heard : Heard) (place : Place) (report : Report)
+    → AsksNoLess old new → is_backed (was_asked past old) (branch_at g t rm) place ≡ true
+    → (is_asked place ≡ true → IsToldSo (was_asked [] new) (branch_at g t rm) place (step_of place report).code)
+    → heard ≡ (step_of place report).heard → OutcomeRests (was_asked past old) g t standing
+    → OutcomeRests (was_asked past new) g t (standing_after standing heard rm)
+outcome_went past old new g t rm standing heard place report more backed told is rests =
+    elim (cases_Bool (is_asked place)) [
+      | inl asked ↦ outcome_moved past old new g t rm standing heard place report more backed (told asked) is rests
+      | inr idle ↦ subst (λ (h : Heard). OutcomeRests (was_asked past new) g t (standing_after standing h rm))
+          (sym (is ∙ ap (λ (s : Step). s.heard) (no_step place report idle)))
+          (outcome_more (was_asked past old) (was_asked past new) (asked_more past old new more) g t standing rests)
+    ]
+
+-- ** the branches of a transaction
+
+pub rest_kept : (past old new : List Request) (g : Gtrid) (t : ℕ) (standing : Standing) (parts : List Part) → AsksNoLess old new
+    → RestOn (was_asked past old) g t standing parts → RestOn (was_asked past new) g t standing parts
+rest_kept past old new g t standing parts more rest =
+    rest_more (was_asked past old) (was_asked past new) (asked_more past old new more) g t standing parts rest
+
+-- under other names of the same
+pub rest_as : (asked : (Request → Bool) → Bool) (g h : Gtrid) (t u : ℕ) (standing other : Standing) (parts now : List Part) → h ≡ g → u ≡ t
+    → other ≡ standing → now ≡ parts → RestOn asked g t standing parts → RestOn asked h u other now
+rest_as asked g h t u standing other parts now same_g same_t same_s same_p rest =
+    subst (λ (x : Gtrid). RestOn asked x u other now) (sym same_g)
+    (subst (λ (x : ℕ). RestOn asked g x other now) (sym same_t)
+    (subst (λ (x : Standing). RestOn asked g t x now) (sym same_s) (subst (RestOn asked g t standing) (sym same_p) rest)))
+
+pub outcome_kept : (past old new : List Request) (g : Gtrid) (t : ℕ) (standing : Standing) → AsksNoLess old new
+    → OutcomeRests (was_asked past old) g t standing → OutcomeRests (was_asked past new) g t standing
+outcome_kept past old new g t standing more rests =
+    outcome_more (was_asked past old) (was_asked past new) (asked_more past old new more) g t standing rests
+
+pub parts_kept : (past old new : List Request) (g : Gtrid) (t : ℕ) (parts : List Part) → AsksNoLess old new → AreBacked (was_asked past old) g t parts
+    → AreBacked (was_asked past new) g t parts
+parts_kept past old new g t parts more backed = parts_more (was_asked past old) (was_asked past new) (asked_more past old new more) g t parts backed
+
+-- all of them went on, and were written back
+pub rest_each : (past old new : List Request) (g : Gtrid) (t : ℕ) (standing : Standing) (parts lent now : List Part) (len : ℕ) → AsksNoLess old new
+    → lent ≡ parts → KeepAllBacked old new g t lent now → OutcomeRests (was_asked past new) g t standing → AreBacked (was_asked past old) g t parts
+    → RestOn (was_asked past new) g t standing (take len (now ++ drop (length now) parts))
+rest_each past old new g t standing parts lent now len more is keeps outcome backed =
+    let P : Part → Type 0 = IsBacked (was_asked past new) g t in
+    let went : All P now = keeps past (subst (AreBacked (was_asked past old) g t) (sym is) backed) in
+    let rest : All P parts = parts_more (was_asked past old) (was_asked past new) (asked_more past old new more) g t parts backed in
+    record {
+      outcome = outcome;
+      parts =
+          All-take P len (now ++ drop (length now) parts) (All-append P now (drop (length now) parts) went (All-drop P (length now) parts rest));
+    }
+
+-- one branch more, at which work goes on
+pub rest_joined : (asked : (Request → Bool) → Bool) (g : Gtrid) (t : ℕ) (standing : Standing) (parts now : List Part) (part : Part)
+    → now ≡ parts ++ part ∷ [] → part.place ≡ Working → RestOn asked g t standing parts → RestOn asked g t standing now
+rest_joined asked g t standing parts now part is works rest =
+    let begun : IsBacked asked g t part = subst (λ (p : Place). is_backed asked (branch_at g t part.rm) p ≡ true) (sym works) refl in
+    record {
+      outcome = rest.outcome;
+      parts = subst (AreBacked asked g t) (sym is) (All-push (IsBacked asked g t) parts part rest.parts begun);
+    }
+
+-- one was heard
+pub rest_heard : (past old new : List Request) (g : Gtrid) (t : ℕ) (standing after : Standing) (parts now : List Part) (i : ℕ) (from to : Part)
+    (report : Report) (heard : Heard) → i < length parts → from ≡ get_or parts i from → now ≡ set parts i to → to.rm ≡ from.rm
+    → AsksNoLess old new → KeepsBacked old new (branch_at g t from.rm) from.place to.place
+    → (is_asked from.place ≡ true → IsToldSo (was_asked [] new) (branch_at g t from.rm) from.place (step_of from.place report).code)
+    → heard ≡ (step_of from.place report).heard → after ≡ standing_after standing heard from.rm
+    → RestOn (was_asked past old) g t standing parts → RestOn (was_asked past new) g t after now
+rest_heard past old new g t standing after parts now i from to report heard within at is same more keeps told hears stands rest =
+    let here : IsBacked (was_asked past old) g t from = subst (IsBacked (was_asked past old) g t) (sym at) (rest.parts i from within) in
+    record {
+      outcome =
+          subst (OutcomeRests (was_asked past new) g t) (sym stands)
+          (outcome_went past old new g t from.rm standing heard from.place report more here told hears rest.outcome);
+      parts =
+          subst (AreBacked (was_asked past new) g t) (sym is)
+          (All-set (IsBacked (was_asked past new) g t) parts i to
+          (subst (λ (rm : ℕ). is_backed (was_asked past new) (branch_at g t rm) to.place ≡ true) (sym same) (keeps past here))
+          (parts_more (was_asked past old) (was_asked past new) (asked_more past old new more) g t parts rest.parts));
+    }
+
 -- ** one transaction after another
 
 -- one of them goes on, and more was asked for
@@ -303,10 +396,20 @@ rest_moved past old new ts i from to within at more keeps rest =
     All-set (Rests (was_asked past new)) ts i to (keeps past here)
     (all_rest_more (was_asked past old) (was_asked past new) (asked_more past old new more) ts rest)
 
+-- more was asked for
+pub rest_more_asked : (past old new : List Request) (ts : List Transaction) → AsksNoLess old new → All (Rests (was_asked past old)) ts
+    → All (Rests (was_asked past new)) ts
+rest_more_asked past old new ts more rest = all_rest_more (was_asked past old) (was_asked past new) (asked_more past old new more) ts rest
+
 -- nothing has happened in one
 pub rest_begun : (asked : (Request → Bool) → Bool) (ts : List Transaction) (i : ℕ) (to : Transaction) → Rests asked to → All (Rests asked) ts
     → All (Rests asked) (set ts i to)
 rest_begun asked ts i to begun rest = All-set (Rests asked) ts i to begun rest
+
+-- one is as it was
+pub rest_same : (asked : (Request → Bool) → Bool) (ts : List Transaction) (i : ℕ) (same : Transaction) → i < length ts → same ≡ get_or ts i same
+    → All (Rests asked) ts → All (Rests asked) (set ts i same)
+rest_same asked ts i same within at rest = All-set (Rests asked) ts i same (subst (Rests asked) (sym at) (rest i same within)) rest
 
 -- one more
 pub rest_pushed : (asked : (Request → Bool) → Bool) (ts us : List Transaction) (to : Transaction) → us ≡ ts ++ to ∷ [] → Rests asked to

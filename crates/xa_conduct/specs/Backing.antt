@@ -159,10 +159,18 @@ IsBacked asked g t part = is_backed asked (branch_at g t part.rm) part.place ≡
 abbrev pub AreBacked : ((Request → Bool) → Bool) → Gtrid → (thread : ℕ) → List Part → Type 0
 AreBacked asked g t parts = All (IsBacked asked g t) parts
 
--- what is noted of a transaction rests on what was asked for
-pub record Rests (asked : (Request → Bool) → Bool) (t : Transaction) : Type 0 where
-  pub outcome : OutcomeRests asked t.gtrid t.thread t.standing
-  pub parts : AreBacked asked t.gtrid t.thread t.parts.items
+-- as the branches of a transaction go on
+abbrev pub KeepAllBacked : (old new : List Request) → Gtrid → (thread : ℕ) → List Part → List Part → Type 0
+KeepAllBacked old new g t parts now = (past : List Request) → AreBacked (was_asked past old) g t parts → AreBacked (was_asked past new) g t now
+
+-- how a transaction of this name stands, and its branches, rests on what was asked for
+pub record RestOn (asked : (Request → Bool) → Bool) (g : Gtrid) (thread : ℕ) (standing : Standing) (branches : List Part) : Type 0 where
+  pub outcome : OutcomeRests asked g thread standing
+  pub parts : AreBacked asked g thread branches
+
+-- what is noted of a transaction does
+abbrev pub Rests : ((Request → Bool) → Bool) → Transaction → Type 0
+Rests asked t = RestOn asked t.gtrid t.thread t.standing t.parts.items
 
 -- as transactions go on, one or all
 abbrev pub KeepsResting : (old new : List Request) → Transaction → Transaction → Type 0
@@ -170,3 +178,7 @@ KeepsResting old new t u = (past : List Request) → Rests (was_asked past old) 
 
 abbrev pub KeepResting : (old new : List Request) → List Transaction → List Transaction → Type 0
 KeepResting old new ts us = (past : List Request) → All (Rests (was_asked past old)) ts → All (Rests (was_asked past new)) us
+
+-- what rested on some requests still does
+abbrev pub KeepsRest : (ts us : List Transaction) → Type 0
+KeepsRest ts us = (asked : (Request → Bool) → Bool) → All (Rests asked) ts → All (Rests asked) us

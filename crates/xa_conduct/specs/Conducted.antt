@@ -17,7 +17,7 @@ use Rattle.xa_conduct.specs.Acting.{Acts, GoesOn}
 abbrev pub ConductedSessionsAreServed : {L : Type 0} → (L → Moment) → Type 0
 ConductedSessionsAreServed {L} moment =
     (threads rms : ℕ) (handed : L) (first now : Server L) → StartsOver moment threads rms handed first → GoesOn moment first now
-    → (acts : Acts moment first now) × (lines_read [] acts.lines ≡ acts.lines)
+    → (acts : Acts moment [] first now) × (lines_read [] acts.lines ≡ acts.lines)
     × ((name : List ℕ) (lines : List (List ℕ)) → lines_read name lines ≡ acts.lines → list_any is_log_fault acts.replies ≡ false
     → (o : Origin) → BeginsWith threads rms first.session.manager o
     → (seen : Seen) × HaveTold o.threads (lines_read name lines) acts.replies Start seen × IsSession moment name handed o seen now)

@@ -1,6 +1,7 @@
 pub mod Acting
 pub mod Backing
 pub mod Conducted
+pub mod Conducting
 pub mod Debts
 pub mod Decided
 pub mod Meaning
@@ -10,3 +11,4 @@ pub mod Over
 pub mod Pages
 pub mod Places
 pub mod Plain
+pub mod Told

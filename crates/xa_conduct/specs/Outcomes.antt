@@ -17,7 +17,8 @@ use Rattle.xa_server.specs.Lines.{asked_in}
 use Rattle.xa_server.specs.NamedLines.{lines_read}
 use Rattle.xa_server.specs.Sessions.{AreServed, AreServed.Between, AreServed.NoneYet, AreServed.OneMore}
 use Rattle.xa_server.specs.declared.server.Server.{Server}
-use Rattle.xa_conduct.specs.Decided.{is_same}
+use Rattle.xa_conduct.specs.Acting.{Acts}
+use Rattle.xa_conduct.specs.Decided.{is_commit_of, is_rollback_of, is_same}
 
 -- what was asked for decides the transaction so
 abbrev pub IsDecisionOf : Outcome → Gtrid → Option Request → Type 0
@@ -31,6 +32,14 @@ SaysDecided outcome g (line ∷ lines) (reply ∷ replies) = SaysDecided outcome
 SaysDecided outcome g lines replies = ⊥
 
 module _ {L : Type 0} (moment : L → Moment) where
+  -- A decision on which an outcome rests that a conductor told is that of a line that was replied so: where it was asked for and done, one of the
+  -- lines that led here did, and was replied that it is decided.
+  abbrev pub ToldDecisionsWereMade : Type 0
+  ToldDecisionsWereMade =
+      (done : List Request) (first now : Server L) (acts : Acts moment done first now) (g : Gtrid)
+      → (list_any (is_commit_of g) done ≡ true → SaysDecided outcomes.Commit g acts.lines acts.replies)
+      × (list_any (is_rollback_of g) done ≡ true → SaysDecided outcomes.Rollback g acts.lines acts.replies)
+
   -- a line of one of these sessions
   abbrev pub WasDecided : (name : List ℕ) (outcome : Outcome) (g : Gtrid) (last : Option (Server L)) (f : Branch → Standing)
       → AreServed moment name last f → Type 0

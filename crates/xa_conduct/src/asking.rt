@@ -1,8 +1,9 @@
 //! Requests are asked of the server.
 
-ghost use Rattle.std.specs.Prelude.{◌≡◌, true};
-ghost use Rattle.xa_conduct.specs.Acting.{GoesOn};
+ghost use Rattle.std.specs.Prelude.{◌≡◌, ◌∷◌, [], true};
+ghost use Rattle.xa_conduct.specs.Acting.{GoesOn, GoesOnBy, is_done};
 ghost use Rattle.xa_conduct.specs.Plain.{is_plain};
+ghost use Rattle.xa_conduct.specs.declared.asking.Asked.TheVariants as Outcomes;
 ghost use Rattle.xa_session.specs.Session.{IsReady};
 
 use crate::laws::plain_requests_have_lines;
@@ -24,7 +25,9 @@ pub(crate) enum Asked {
 }
 
 /// What a reply says of its request.
-fn asked_by(reply: &Response) -> Asked {
+fn asked_by(reply: &Response) -> Asked
+    ensures { result ≡ Outcomes.Done → is_done reply.now ≡ true }
+{
     match reply {
         Response::Fault(RequestFault::NoSuchState) | Response::Fault(RequestFault::NoSuchAnswer) =>
             { Asked::Unexplained }
@@ -39,6 +42,8 @@ pub(crate) fn reply_to<L: DecisionLog + Drop>(server: &mut Server<L>, request: &
     requires ready { IsReady server.old.session }
     ensures ready { IsReady server.new.session }
     ensures acts { GoesOn L.moment server.old server.new }
+    ensures done { is_done result ≡ true →
+        GoesOnBy L.moment (request.now ∷ []) server.old server.new }
 {
     plain_requests_have_lines();
     server.perform(request)
@@ -50,6 +55,8 @@ pub(crate) fn ask<L: DecisionLog + Drop>(server: &mut Server<L>, request: &Reque
     requires ready { IsReady server.old.session }
     ensures ready { IsReady server.new.session }
     ensures acts { GoesOn L.moment server.old server.new }
+    ensures done { result ≡ Outcomes.Done →
+        GoesOnBy L.moment (request.now ∷ []) server.old server.new }
 {
     let reply = reply_to(server, request);
     asked_by(&reply)
@@ -60,6 +67,8 @@ pub(crate) fn ask_all<L: DecisionLog + Drop>(server: &mut Server<L>, plan: &Plan
     requires { IsReady server.old.session }
     ensures ready { IsReady server.new.session }
     ensures acts { GoesOn L.moment server.old server.new }
+    ensures done { result ≡ true →
+        GoesOnBy L.moment plan.now.requests.items server.old server.new }
 {
     for request in plan.requests() {
         match ask(server, request) {

@@ -1,7 +1,10 @@
 //! The conductor: a line of moves in turn. A file for the pages of recoveries, and one for what they end.
 
-ghost use Rattle.std.specs.Prelude.{◌≡◌, ◌≤◌, length, IfOk};
-ghost use Rattle.xa_conduct.specs.Acting.{GoesOn};
+ghost use Rattle.std.specs.Prelude.{◌≡◌, ◌≤◌, true, false, length, IfOk, List, string_bytes};
+ghost use Rattle.xa_conduct.specs.Acting.{Acts, GoesOn};
+ghost use Rattle.xa_conduct.specs.Conducting.{Conducts, TurnsSo};
+ghost use Rattle.xa_requests.specs.declared.request.Request.{Request};
+ghost use Rattle.xa_server.specs.declared.server.Server.{Server};
 ghost use Rattle.xa_session.specs.Session.{IsReady};
 
 mod ends;
@@ -36,6 +39,8 @@ impl<L: DecisionLog + Drop> Conductor<L> {
         requires { IsReady server.session }
         ensures ready { IfOk result (λ c. IsReady c.server.session) }
         ensures acts { IfOk result (λ c. GoesOn L.moment server c.server) }
+        ensures rests { IfOk result (λ c. (done : List Request) → (first : Server L) →
+            Acts L.moment done first server → Conducts L.moment first c) }
     {
         let (incarnation, rows) = start_of(&server.greeting());
         let mut notes = Notes::new(alloc, incarnation, threads, rms)?;
@@ -70,6 +75,8 @@ impl<L: DecisionLog + Drop> Conductor<L> {
         requires { IsReady self.old.server.session }
         ensures ready { IsReady self.new.server.session }
         ensures acts { GoesOn L.moment self.old.server self.new.server }
+        ensures rests { IfOk result (λ text.
+            TurnsSo L.moment self.old self.new (string_bytes text)) }
     {
         if self.notes.is_stopped {
             return self.text("stopped");
@@ -89,9 +96,12 @@ impl<L: DecisionLog + Drop> Conductor<L> {
     /// The moves of threads, which are one line. All that follows from them is asked of the server before one is replied.
     fn move_threads(&mut self, moves: &[Option<Move>]) -> Result<String, Memory>
         requires few { length moves.now ≤ 1024 }
+        requires going { self.old.notes.is_stopped ≡ false }
         requires ready { IsReady self.old.server.session }
         ensures ready { IsReady self.new.server.session }
         ensures acts { GoesOn L.moment self.old.server self.new.server }
+        ensures rests { IfOk result (λ text.
+            TurnsSo L.moment self.old self.new (string_bytes text)) }
     {
         let mut plan = Plan::new(self.alloc);
         let replies = self.notes.take_all(moves, &mut plan)?;
@@ -101,7 +111,8 @@ impl<L: DecisionLog + Drop> Conductor<L> {
         if !ask_all(&mut self.server, &plan) {
             return self.stop();
         }
-        self.notes.reply(replies.as_slice(), nexts.as_slice())
+        let text = self.notes.reply(replies.as_slice(), nexts.as_slice())?;
+        Ok(text)
     }
 
     /// A request was refused that couldn't be: nothing more is told.
@@ -109,6 +120,8 @@ impl<L: DecisionLog + Drop> Conductor<L> {
         requires { IsReady self.old.server.session }
         ensures ready { IsReady self.new.server.session }
         ensures acts { GoesOn L.moment self.old.server self.new.server }
+        ensures kept { self.new.notes.transactions ≡ self.old.notes.transactions }
+        ensures stopped { self.new.notes.is_stopped ≡ true }
     {
         self.notes.is_stopped = true;
         self.text("stopped")
@@ -119,6 +132,7 @@ impl<L: DecisionLog + Drop> Conductor<L> {
         requires { IsReady self.old.server.session }
         ensures ready { IsReady self.new.server.session }
         ensures acts { GoesOn L.moment self.old.server self.new.server }
+        ensures kept { self.new.notes.transactions ≡ self.old.notes.transactions }
     {
         let mut plan = Plan::new(self.alloc);
         plan.done(self.notes.over.as_slice())?;
@@ -132,6 +146,7 @@ impl<L: DecisionLog + Drop> Conductor<L> {
         requires { IsReady self.old.server.session }
         ensures ready { IsReady self.new.server.session }
         ensures acts { GoesOn L.moment self.old.server self.new.server }
+        ensures kept { self.new.notes.transactions ≡ self.old.notes.transactions }
     {
         if !self.ask_over()? {
             return self.stop();
@@ -144,6 +159,7 @@ impl<L: DecisionLog + Drop> Conductor<L> {
         requires { IsReady self.old.server.session }
         ensures ready { IsReady self.new.server.session }
         ensures acts { GoesOn L.moment self.old.server self.new.server }
+        ensures kept { self.new.notes.transactions ≡ self.old.notes.transactions }
     {
         let _ = self.ask_over()?;
         self.notes.has_quit = true;
@@ -177,6 +193,7 @@ fn find_rows<L: DecisionLog + Drop>(
     requires { IsReady server.old.session }
     ensures ready { IsReady server.new.session }
     ensures acts { GoesOn L.moment server.old server.new }
+    ensures kept { notes.new.transactions ≡ notes.old.transactions }
 {
     for rm in 0..rms {
         let owed = reply_to(server, &Request::Owed { rm });

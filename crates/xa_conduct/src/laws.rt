@@ -1,6 +1,7 @@
 //! Laws of conducted sessions. These functions do nothing: each contract is a theorem.
 
 ghost use Rattle.xa_conduct.specs.Conducted.{ConductedSessionsAreServed};
+ghost use Rattle.xa_conduct.specs.Outcomes.{ToldDecisionsWereMade};
 ghost use Rattle.xa_conduct.specs.Plain.{PlainRequestsHaveLines};
 
 use xa_log::DecisionLog;
@@ -24,3 +25,9 @@ pub fn conducted_sessions_are_served<L: DecisionLog + Drop>()
     served_sessions_agree::<L>();
     without_a_name_nothing_changes();
 }
+
+/// The decisions on which outcomes rest that a conductor tells (`rests` of [`Conductor::turn`](crate::Conductor::turn)) were made:
+/// each by one of the lines that its requests are, which was replied that it is decided.
+pub fn told_decisions_were_made<L: DecisionLog + Drop>()
+    ensures { ToldDecisionsWereMade L.moment }
+{}

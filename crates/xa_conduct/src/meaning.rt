@@ -36,11 +36,11 @@ impl Heard {
         matches!(self, Heard::LostVote | Heard::LostAtOnce | Heard::LostEnd)
     }
 
-    /// Why the transaction can't be committed, if it can't.
-    pub fn objection(self) -> Option<RbCode> {
+    /// Why the transaction can't be committed, if it can't, and at which resource manager.
+    pub fn objection(self, rm: u32) -> Option<(RbCode, u32)> {
         match self {
-            Heard::No(code) => Some(code),
-            Heard::LostVote => Some(RbCode::CommFail),
+            Heard::No(code) => Some((code, rm)),
+            Heard::LostVote => Some((RbCode::CommFail, rm)),
             _ => None,
         }
     }

@@ -1,8 +1,11 @@
 //! What a conductor notes of its threads and resource managers. Nothing here touches the server: what is to be asked of it
 //! goes into a plan. A file for what follows from a line of moves, and one for recoveries.
 
-ghost use Rattle.std.specs.Prelude.{◌≡◌, ◌≤◌, length, IfOk, Some};
+ghost use Rattle.std.specs.Prelude.{◌≡◌, ◌≤◌, length, All, Bool, IfOk, Some};
+ghost use Rattle.xa_conduct.specs.Backing.{KeepResting, Rests};
+ghost use Rattle.xa_conduct.specs.Decided.{AsksNoLess};
 ghost use Rattle.xa_conduct.specs.Moves.{IsOfThread, thread_of};
+ghost use Rattle.xa_requests.specs.declared.request.Request.{Request};
 
 mod outcomes;
 mod recoveries;
@@ -57,7 +60,10 @@ pub(crate) struct Notes {
 
 impl Notes {
     /// Nothing has happened in this incarnation, of so many threads and resource managers.
-    pub fn new(alloc: Global, incarnation: u64, threads: u32, rms: u32) -> Result<Notes, Memory> {
+    pub fn new(alloc: Global, incarnation: u64, threads: u32, rms: u32) -> Result<Notes, Memory>
+        ensures { IfOk result (λ notes.
+            (asked : (Request → Bool) → Bool) → All (Rests asked) notes.transactions.items) }
+    {
         let mut transactions = Vec::with_capacity(alloc, threads as usize)?;
         for thread in 0..threads {
             let transaction = Transaction::new(alloc, thread, rms)?;
@@ -84,7 +90,9 @@ impl Notes {
     }
 
     /// The name of the transaction that begins next.
-    fn next(&mut self) -> Gtrid {
+    fn next(&mut self) -> Gtrid
+        ensures { self.new.transactions ≡ self.old.transactions }
+    {
         self.begun = self.begun.wrapping_add(1);
         Gtrid {
             incarnation: self.incarnation,
@@ -103,7 +111,11 @@ impl Notes {
         moves: &[Option<Move>],
         plan: &mut Plan,
     ) -> Result<Vec<Reply>, Memory>
-        ensures { IfOk result (λ replies. length replies.items ≡ length moves.now) }
+        ensures count { IfOk result (λ replies. length replies.items ≡ length moves.now) }
+        ensures more { IfOk result (λ _.
+            AsksNoLess plan.old.requests.items plan.new.requests.items) }
+        ensures rests { IfOk result (λ _. KeepResting plan.old.requests.items
+            plan.new.requests.items self.old.transactions.items self.new.transactions.items) }
     {
         let mut replies = Vec::with_capacity(self.alloc, moves.len())?;
         for asked in moves {
@@ -118,7 +130,11 @@ impl Notes {
 
     /// Takes a move of a thread: what is to be asked for goes into the plan.
     fn take(&mut self, asked: &Move, plan: &mut Plan) -> Result<Reply, Memory>
-        ensures { IfOk result (IsOfThread (thread_of asked.now)) }
+        ensures thread { IfOk result (IsOfThread (thread_of asked.now)) }
+        ensures more { IfOk result (λ _.
+            AsksNoLess plan.old.requests.items plan.new.requests.items) }
+        ensures rests { IfOk result (λ _. KeepResting plan.old.requests.items
+            plan.new.requests.items self.old.transactions.items self.new.transactions.items) }
     {
         match asked {
             Move::Start { thread } => self.start(*thread, plan),
@@ -132,7 +148,11 @@ impl Notes {
 
     /// The first transaction of a thread begins. The first thread is the recovery's.
     fn start(&mut self, thread: u32, plan: &mut Plan) -> Result<Reply, Memory>
-        ensures { IfOk result (IsOfThread (Some thread)) }
+        ensures thread { IfOk result (IsOfThread (Some thread)) }
+        ensures more { IfOk result (λ _.
+            AsksNoLess plan.old.requests.items plan.new.requests.items) }
+        ensures rests { IfOk result (λ _. KeepResting plan.old.requests.items
+            plan.new.requests.items self.old.transactions.items self.new.transactions.items) }
     {
         if thread == 0 || !self.may_begin() {
             return Ok(Reply::NotNow);
@@ -152,7 +172,11 @@ impl Notes {
 
     /// Branches began.
     fn join(&mut self, thread: u32, rms: &[u32], plan: &mut Plan) -> Result<Reply, Memory>
-        ensures { IfOk result (IsOfThread (Some thread)) }
+        ensures thread { IfOk result (IsOfThread (Some thread)) }
+        ensures more { IfOk result (λ _.
+            AsksNoLess plan.old.requests.items plan.new.requests.items) }
+        ensures rests { IfOk result (λ _. KeepResting plan.old.requests.items
+            plan.new.requests.items self.old.transactions.items self.new.transactions.items) }
     {
         let count = self.recoveries.len();
         match self.transactions.get_mut(thread as usize) {
@@ -164,7 +188,11 @@ impl Notes {
 
     /// The work is over, and is to be committed.
     fn commit(&mut self, thread: u32, plan: &mut Plan) -> Result<Reply, Memory>
-        ensures { IfOk result (IsOfThread (Some thread)) }
+        ensures thread { IfOk result (IsOfThread (Some thread)) }
+        ensures more { IfOk result (λ _.
+            AsksNoLess plan.old.requests.items plan.new.requests.items) }
+        ensures rests { IfOk result (λ _. KeepResting plan.old.requests.items
+            plan.new.requests.items self.old.transactions.items self.new.transactions.items) }
     {
         match self.transactions.get_mut(thread as usize) {
             Some(transaction) if transaction.may_commit() => transaction.finish(plan)?,
@@ -175,7 +203,11 @@ impl Notes {
 
     /// It is to be rolled back.
     fn roll_back(&mut self, thread: u32, plan: &mut Plan) -> Result<Reply, Memory>
-        ensures { IfOk result (IsOfThread (Some thread)) }
+        ensures thread { IfOk result (IsOfThread (Some thread)) }
+        ensures more { IfOk result (λ _.
+            AsksNoLess plan.old.requests.items plan.new.requests.items) }
+        ensures rests { IfOk result (λ _. KeepResting plan.old.requests.items
+            plan.new.requests.items self.old.transactions.items self.new.transactions.items) }
     {
         match self.transactions.get_mut(thread as usize) {
             Some(transaction) if transaction.may_roll_back() => transaction.roll_back(None, plan)?,
@@ -186,7 +218,11 @@ impl Notes {
 
     /// The calls that were told were answered so.
     fn tell(&mut self, thread: u32, reports: &[Report], plan: &mut Plan) -> Result<Reply, Memory>
-        ensures { IfOk result (IsOfThread (Some thread)) }
+        ensures thread { IfOk result (IsOfThread (Some thread)) }
+        ensures more { IfOk result (λ _.
+            AsksNoLess plan.old.requests.items plan.new.requests.items) }
+        ensures rests { IfOk result (λ _. KeepResting plan.old.requests.items
+            plan.new.requests.items self.old.transactions.items self.new.transactions.items) }
     {
         let Some(transaction) = self.transactions.get_mut(thread as usize) else {
             return Ok(Reply::NotNow);
@@ -206,7 +242,9 @@ impl Notes {
     }
 
     /// A debt of this session is paid: if it was the last of a committed transaction, its row may leave the log.
-    fn settle(&mut self, debt: &Debt) -> Result<(), Memory> {
+    fn settle(&mut self, debt: &Debt) -> Result<(), Memory>
+        ensures { self.new.transactions ≡ self.old.transactions }
+    {
         let branch = debt.branch;
         let due = debt.due;
         let before = self.debts.len();

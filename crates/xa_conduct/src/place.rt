@@ -2,6 +2,7 @@
 
 ghost use Rattle.std.specs.Prelude.{◌≡◌};
 ghost use Rattle.xa_conduct.specs.Places.{is_asked};
+ghost use Rattle.xa_conduct.specs.Told.{verb_at};
 
 /// How far a branch has come: which of its calls wait on its line, and so, which one its driver was told to make.
 #[derive(Clone, Copy, Debug, PartialEq, Eq)]
@@ -48,7 +49,9 @@ impl Place {
     }
 
     /// The word of the call that is told.
-    pub fn verb(self) -> &'static str {
+    pub fn verb(self) -> &'static str
+        ensures { result.now ≡ verb_at self }
+    {
         match self {
             Place::Preparing => "prepare",
             Place::AtOnce => "commit-at-once",

@@ -58,7 +58,9 @@ fn copy_of(alloc: Global, gtrids: &[Gtrid]) -> Result<Vec<Gtrid>, AllocError>
 
 impl Plan {
     /// Nothing is to be done yet.
-    pub fn new(alloc: Global) -> Plan {
+    pub fn new(alloc: Global) -> Plan
+        ensures { result.requests.items ≡ [] }
+    {
         Plan {
             alloc,
             requests: Vec::new(alloc),
@@ -66,7 +68,8 @@ impl Plan {
     }
 
     pub fn requests(&self) -> &[Request]
-        ensures { ArePlain result.now }
+        ensures plain { ArePlain result.now }
+        ensures same { result.now ≡ self.now.requests.items }
     {
         self.requests.as_slice()
     }

@@ -1,7 +1,10 @@
 //! The loop over the lines of a driver.
 
-ghost use Rattle.std.specs.Prelude.{IfOk};
-ghost use Rattle.xa_conduct.specs.Acting.{GoesOn};
+ghost use Rattle.std.specs.Prelude.{IfOk, List};
+ghost use Rattle.xa_conduct.specs.Acting.{Acts, GoesOn};
+ghost use Rattle.xa_conduct.specs.Conducting.{Conducts, KeepsConducting};
+ghost use Rattle.xa_requests.specs.declared.request.Request.{Request};
+ghost use Rattle.xa_server.specs.declared.server.Server.{Server};
 ghost use Rattle.xa_session.specs.Session.{IsReady};
 
 use crate::conductor::Conductor;
@@ -53,6 +56,7 @@ fn serve_moves<L: DecisionLog + Drop, R: Read, W: Write>(
     requires { IsReady conductor.old.server.session }
     ensures ready { IsReady conductor.new.server.session }
     ensures acts { GoesOn L.moment conductor.old.server conductor.new.server }
+    ensures rests { IfOk result (λ _. KeepsConducting L.moment conductor.old conductor.new) }
 {
     flush_before_waiting(input, output)?;
     let line = read_line(alloc, input)?;
@@ -88,6 +92,8 @@ pub fn serve<L: DecisionLog + Drop, R: Read, W: Write>(
     requires { IsReady server.session }
     ensures ready { IfOk result (λ c. IsReady c.server.session) }
     ensures acts { IfOk result (λ c. GoesOn L.moment server c.server) }
+    ensures rests { IfOk result (λ c. (done : List Request) → (first : Server L) →
+        Acts L.moment done first server → Conducts L.moment first c) }
 {
     let Ok(greeting) = response_text(alloc, &server.greeting()) else {
         return Err(ServeFault::Memory);

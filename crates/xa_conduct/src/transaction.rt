@@ -1,12 +1,15 @@
 //! The transaction of a thread, and how far it has come. Nothing here touches the server: what is to be asked of it goes
 //! into a plan.
 
-ghost use Rattle.std.specs.Prelude.{◌≡◌, ◌<◌, ◌≤◌, true, false, length, IfOk};
-ghost use Rattle.std.specs.List.{list_all, list_any};
+ghost use Rattle.std.specs.Prelude.{◌≡◌, Bool, true, false, IfOk, IfSome, None};
+ghost use Rattle.std.specs.List.{Contains, list_all, list_any};
+ghost use Rattle.xa_conduct.specs.Backing.{KeepAllBacked, KeepsResting, Rests, branch_at};
 ghost use Rattle.xa_conduct.specs.Backing.{standing_after};
-ghost use Rattle.xa_conduct.specs.Decided.{AsksNoLess, CommitIsAsked, is_for};
-ghost use Rattle.xa_conduct.specs.Over.{has_calls, has_left, is_over};
+ghost use Rattle.xa_conduct.specs.Decided.{AsksNoLess, CommitIsAsked, is_for, is_rollback_of};
+ghost use Rattle.xa_conduct.specs.Over.{has_calls, has_left, is_decided, is_over};
+ghost use Rattle.xa_conduct.specs.Places.{is_asked};
 ghost use Rattle.xa_conduct.specs.declared.transaction.Standing.TheVariants as Standings;
+ghost use Rattle.xa_requests.specs.declared.request.Request.{Request};
 
 use crate::debt::Debt;
 use crate::meaning::Heard;
@@ -66,9 +69,88 @@ fn are_for(reports: &[Report]) -> bool
     reports.iter().all(|report| is_for(*report))
 }
 
+/// The calls of the first phase wait, of each of these branches of which they don't yet.
+fn prepare_each(
+    parts: &mut [Part],
+    gtrid: Gtrid,
+    thread: u32,
+    plan: &mut Plan,
+) -> Result<(), AllocError>
+    ensures more { IfOk result (λ _. AsksNoLess plan.old.requests.items plan.new.requests.items) }
+    ensures backed { IfOk result (λ _. KeepAllBacked plan.old.requests.items
+        plan.new.requests.items gtrid thread parts.old parts.new) }
+{
+    for part in parts {
+        let rm = part.rm;
+        part.prepare(Branch { gtrid, thread, rm }, plan)?;
+    }
+    Ok(())
+}
+
+/// Each of these branches is to be committed in one phase.
+fn commit_each_at_once(
+    parts: &mut [Part],
+    gtrid: Gtrid,
+    thread: u32,
+    plan: &mut Plan,
+) -> Result<(), AllocError>
+    ensures more { IfOk result (λ _. AsksNoLess plan.old.requests.items plan.new.requests.items) }
+    ensures backed { IfOk result (λ _. KeepAllBacked plan.old.requests.items
+        plan.new.requests.items gtrid thread parts.old parts.new) }
+{
+    for part in parts {
+        let rm = part.rm;
+        part.commit_at_once(Branch { gtrid, thread, rm }, plan)?;
+    }
+    Ok(())
+}
+
+/// Each of these branches that is prepared is to be committed. Whether one is.
+fn commit_each(
+    parts: &mut [Part],
+    gtrid: Gtrid,
+    thread: u32,
+    plan: &mut Plan,
+) -> Result<bool, AllocError>
+    requires { CommitIsAsked plan.old.requests.items gtrid }
+    ensures more { IfOk result (λ _. AsksNoLess plan.old.requests.items plan.new.requests.items) }
+    ensures backed { IfOk result (λ _. KeepAllBacked plan.old.requests.items
+        plan.new.requests.items gtrid thread parts.old parts.new) }
+{
+    let mut is_one = false;
+    for part in parts {
+        let rm = part.rm;
+        if part.commit(Branch { gtrid, thread, rm }, plan)? {
+            is_one = true;
+        }
+    }
+    Ok(is_one)
+}
+
+/// Each of these branches that isn't over is to be rolled back.
+fn undo_each(
+    parts: &mut [Part],
+    gtrid: Gtrid,
+    thread: u32,
+    plan: &mut Plan,
+) -> Result<(), AllocError>
+    requires { list_any (is_rollback_of gtrid) plan.old.requests.items ≡ true }
+    ensures more { IfOk result (λ _. AsksNoLess plan.old.requests.items plan.new.requests.items) }
+    ensures backed { IfOk result (λ _. KeepAllBacked plan.old.requests.items
+        plan.new.requests.items gtrid thread parts.old parts.new) }
+{
+    for part in parts {
+        let rm = part.rm;
+        part.undo(Branch { gtrid, thread, rm }, plan)?;
+    }
+    Ok(())
+}
+
 impl Transaction {
     /// None has begun.
-    pub fn new(alloc: Global, thread: u32, rms: u32) -> Result<Transaction, AllocError> {
+    pub fn new(alloc: Global, thread: u32, rms: u32) -> Result<Transaction, AllocError>
+        ensures { IfOk result (λ t. (asked : (Request → Bool) → Bool) → Rests asked t) }
+    {
         Ok(Transaction {
             thread,
             gtrid: Gtrid {
@@ -84,7 +166,9 @@ impl Transaction {
     }
 
     /// The next transaction has begun.
-    pub fn begin(&mut self, gtrid: Gtrid) {
+    pub fn begin(&mut self, gtrid: Gtrid)
+        ensures { (asked : (Request → Bool) → Bool) → Rests asked self.new }
+    {
         self.gtrid = gtrid;
         self.standing = Standing::Open;
         self.has_row = false;
@@ -93,7 +177,9 @@ impl Transaction {
     }
 
     /// The branch at a resource manager.
-    fn branch_at(&self, rm: u32) -> Branch {
+    fn branch_at(&self, rm: u32) -> Branch
+        ensures { result ≡ branch_at self.now.gtrid self.now.thread rm }
+    {
         Branch {
             gtrid: self.gtrid,
             thread: self.thread,
@@ -136,14 +222,35 @@ impl Transaction {
         self.parts.iter().any(|part| part.place.is_asked())
     }
 
+    /// The first branch of which a call was told that is yet to be answered.
+    pub fn first_asked(&self) -> Option<Part>
+        ensures among { IfSome result (Contains self.now.parts.items) }
+        ensures asked { IfSome result (λ part. is_asked part.place ≡ true) }
+        ensures none { result ≡ None → has_calls self.now ≡ false }
+    {
+        for part in self.parts.as_slice() {
+            if part.place.is_asked() {
+                return Some(*part);
+            }
+        }
+        None
+    }
+
+    /// Whether it has an outcome.
+    pub fn has_outcome(&self) -> bool
+        ensures { result ≡ is_decided self.now.standing }
+    {
+        match self.standing {
+            Standing::Idle | Standing::Open | Standing::Ready => false,
+            Standing::Committed | Standing::RolledBack(_) | Standing::Unknown => true,
+        }
+    }
+
     /// Whether the transaction is over: decided, with nothing more to be answered.
     pub fn is_over(&self) -> bool
         ensures { result ≡ is_over self.now }
     {
-        match self.standing {
-            Standing::Idle | Standing::Open | Standing::Ready => false,
-            Standing::Committed | Standing::RolledBack(_) | Standing::Unknown => !self.is_asked(),
-        }
+        self.has_outcome() && !self.is_asked()
     }
 
     /// Whether the end of a branch is left to the recovery.
@@ -170,7 +277,12 @@ impl Transaction {
     }
 
     /// Branches began at these resource managers. Once there are two, the calls of the first phase wait.
-    pub fn join(&mut self, rms: &[u32], plan: &mut Plan) -> Result<(), AllocError> {
+    pub fn join(&mut self, rms: &[u32], plan: &mut Plan) -> Result<(), AllocError>
+        ensures more { IfOk result (λ _.
+            AsksNoLess plan.old.requests.items plan.new.requests.items) }
+        ensures rests { IfOk result (λ _. KeepsResting plan.old.requests.items
+            plan.new.requests.items self.old self.new) }
+    {
         self.has_moved = true;
         for rm in rms {
             if !self.has(*rm) {
@@ -184,43 +296,64 @@ impl Transaction {
     }
 
     /// A branch began at the resource manager.
-    fn add(&mut self, rm: u32, plan: &mut Plan) -> Result<(), AllocError> {
-        if let Some(is_open) = self.lines.get_mut(rm as usize) {
-            if !*is_open {
-                *is_open = true;
-                plan.open(self.thread, rm)?;
-            }
-        }
+    fn add(&mut self, rm: u32, plan: &mut Plan) -> Result<(), AllocError>
+        ensures more { IfOk result (λ _.
+            AsksNoLess plan.old.requests.items plan.new.requests.items) }
+        ensures rests { IfOk result (λ _. KeepsResting plan.old.requests.items
+            plan.new.requests.items self.old self.new) }
+    {
+        self.open(rm, plan)?;
         plan.start(self.branch_at(rm))?;
         self.parts.push(Part::new(rm))?;
         Ok(())
     }
 
+    /// The thread's line to the resource manager is open.
+    fn open(&mut self, rm: u32, plan: &mut Plan) -> Result<(), AllocError>
+        ensures more { IfOk result (λ _.
+            AsksNoLess plan.old.requests.items plan.new.requests.items) }
+        ensures gtrid { self.new.gtrid ≡ self.old.gtrid }
+        ensures thread { self.new.thread ≡ self.old.thread }
+        ensures standing { self.new.standing ≡ self.old.standing }
+        ensures parts { self.new.parts ≡ self.old.parts }
+    {
+        let Some(is_open) = self.lines.get_mut(rm as usize) else {
+            return Ok(());
+        };
+        if *is_open {
+            return Ok(());
+        }
+        *is_open = true;
+        plan.open(self.thread, rm)
+    }
+
     /// The calls of the first phase wait, of each branch of which they don't yet.
-    fn prepare(&mut self, plan: &mut Plan) -> Result<(), AllocError> {
+    fn prepare(&mut self, plan: &mut Plan) -> Result<(), AllocError>
+        ensures more { IfOk result (λ _.
+            AsksNoLess plan.old.requests.items plan.new.requests.items) }
+        ensures rests { IfOk result (λ _. KeepsResting plan.old.requests.items
+            plan.new.requests.items self.old self.new) }
+    {
         let gtrid = self.gtrid;
         let thread = self.thread;
-        let parts = self.parts.as_mut_slice();
-        for part in parts {
-            let rm = part.rm;
-            part.prepare(Branch { gtrid, thread, rm }, plan)?;
-        }
+        prepare_each(self.parts.as_mut_slice(), gtrid, thread, plan)?;
         Ok(())
     }
 
     /// The work is over, and is to be committed: the one branch in one phase.
-    pub fn finish(&mut self, plan: &mut Plan) -> Result<(), AllocError> {
+    pub fn finish(&mut self, plan: &mut Plan) -> Result<(), AllocError>
+        ensures more { IfOk result (λ _.
+            AsksNoLess plan.old.requests.items plan.new.requests.items) }
+        ensures rests { IfOk result (λ _. KeepsResting plan.old.requests.items
+            plan.new.requests.items self.old self.new) }
+    {
         self.has_moved = true;
         if self.parts.is_empty() {
             self.standing = Standing::Ready;
         }
         let gtrid = self.gtrid;
         let thread = self.thread;
-        let parts = self.parts.as_mut_slice();
-        for part in parts {
-            let rm = part.rm;
-            part.commit_at_once(Branch { gtrid, thread, rm }, plan)?;
-        }
+        commit_each_at_once(self.parts.as_mut_slice(), gtrid, thread, plan)?;
         Ok(())
     }
 
@@ -230,18 +363,18 @@ impl Transaction {
         why: Option<(RbCode, u32)>,
         plan: &mut Plan,
     ) -> Result<(), AllocError>
-        ensures { IfOk result (λ _. self.new.standing ≡ Standings.RolledBack why) }
+        ensures stands { IfOk result (λ _. self.new.standing ≡ Standings.RolledBack why) }
+        ensures more { IfOk result (λ _.
+            AsksNoLess plan.old.requests.items plan.new.requests.items) }
+        ensures rests { IfOk result (λ _. KeepsResting plan.old.requests.items
+            plan.new.requests.items self.old self.new) }
     {
         let gtrid = self.gtrid;
         let thread = self.thread;
         self.has_moved = true;
         self.standing = Standing::RolledBack(why);
         plan.decide(&[gtrid], Outcome::Rollback)?;
-        let parts = self.parts.as_mut_slice();
-        for part in parts {
-            let rm = part.rm;
-            part.undo(Branch { gtrid, thread, rm }, plan)?;
-        }
+        undo_each(self.parts.as_mut_slice(), gtrid, thread, plan)?;
         Ok(())
     }
 
@@ -251,16 +384,14 @@ impl Transaction {
         requires decided { CommitIsAsked plan.old.requests.items self.old.gtrid }
         ensures kept { IfOk result (λ _.
             AsksNoLess plan.old.requests.items plan.new.requests.items) }
+        ensures rests { IfOk result (λ _. KeepsResting plan.old.requests.items
+            plan.new.requests.items self.old self.new) }
     {
         let gtrid = self.gtrid;
         let thread = self.thread;
         self.standing = Standing::Committed;
-        let parts = self.parts.as_mut_slice();
-        for part in parts {
-            let rm = part.rm;
-            if part.commit(Branch { gtrid, thread, rm }, plan)? {
-                self.has_row = true;
-            }
+        if commit_each(self.parts.as_mut_slice(), gtrid, thread, plan)? {
+            self.has_row = true;
         }
         Ok(())
     }
@@ -286,8 +417,12 @@ impl Transaction {
         plan: &mut Plan,
         debts: &mut Vec<Debt>,
     ) -> Result<(), AllocError>
-        ensures { IfOk result (λ _. self.new.standing ≡ Standings.Ready →
+        ensures votes { IfOk result (λ _. self.new.standing ≡ Standings.Ready →
             list_all is_for reports.now ≡ true) }
+        ensures more { IfOk result (λ _.
+            AsksNoLess plan.old.requests.items plan.new.requests.items) }
+        ensures rests { IfOk result (λ _. KeepsResting plan.old.requests.items
+            plan.new.requests.items self.old self.new) }
     {
         self.has_moved = true;
         let why = self.hear_parts(reports, plan, debts)?;
@@ -297,7 +432,8 @@ impl Transaction {
                     self.standing = Standing::Ready;
                     Ok(())
                 } else {
-                    self.roll_back(why, plan)
+                    self.roll_back(why, plan)?;
+                    Ok(())
                 }
             }
             Standing::Committed | Standing::RolledBack(_) | Standing::Unknown => Ok(()),
@@ -310,32 +446,74 @@ impl Transaction {
         reports: &[Report],
         plan: &mut Plan,
         debts: &mut Vec<Debt>,
-    ) -> Result<Option<(RbCode, u32)>, AllocError> {
-        let gtrid = self.gtrid;
-        let thread = self.thread;
+    ) -> Result<Option<(RbCode, u32)>, AllocError>
+        ensures more { IfOk result (λ _.
+            AsksNoLess plan.old.requests.items plan.new.requests.items) }
+        ensures rests { IfOk result (λ _. KeepsResting plan.old.requests.items
+            plan.new.requests.items self.old self.new) }
+    {
         let mut reports = reports.iter();
         let mut why = None;
-        let parts = self.parts.as_mut_slice();
-        for part in parts {
-            if !part.place.is_asked() {
+        for at in 0..self.parts.len() {
+            if !self.is_asked_at(at) {
                 continue;
             }
             let Some(report) = reports.next() else {
                 break;
             };
-            let rm = part.rm;
-            let heard = part.hear(*report, Branch { gtrid, thread, rm }, plan, debts)?;
-            if heard.is_line_lost() {
-                if let Some(is_open) = self.lines.get_mut(rm as usize) {
-                    *is_open = false;
-                }
+            let objection = self.hear_at(at, *report, plan, debts)?;
+            if why.is_none() {
+                why = objection;
             }
-            if let (None, Some(code)) = (why, heard.objection()) {
-                why = Some((code, rm));
-            }
-            self.standing = standing_after(self.standing, heard, rm);
         }
         Ok(why)
+    }
+
+    /// Whether the branch at this place was told a call.
+    fn is_asked_at(&self, at: usize) -> bool {
+        match self.parts.get(at) {
+            Some(part) => part.place.is_asked(),
+            None => false,
+        }
+    }
+
+    /// The branch at this place hears its report. Why the transaction can't be committed, if it can't.
+    fn hear_at(
+        &mut self,
+        at: usize,
+        report: Report,
+        plan: &mut Plan,
+        debts: &mut Vec<Debt>,
+    ) -> Result<Option<(RbCode, u32)>, AllocError>
+        ensures more { IfOk result (λ _.
+            AsksNoLess plan.old.requests.items plan.new.requests.items) }
+        ensures rests { IfOk result (λ _. KeepsResting plan.old.requests.items
+            plan.new.requests.items self.old self.new) }
+    {
+        let gtrid = self.gtrid;
+        let thread = self.thread;
+        let Some(part) = self.parts.get_mut(at) else {
+            return Ok(None);
+        };
+        let rm = part.rm;
+        let heard = part.hear(report, Branch { gtrid, thread, rm }, plan, debts)?;
+        self.note(heard, rm);
+        Ok(heard.objection(rm))
+    }
+
+    /// A branch at a resource manager was heard.
+    fn note(&mut self, heard: Heard, rm: u32)
+        ensures gtrid { self.new.gtrid ≡ self.old.gtrid }
+        ensures thread { self.new.thread ≡ self.old.thread }
+        ensures parts { self.new.parts ≡ self.old.parts }
+        ensures standing { self.new.standing ≡ standing_after self.old.standing heard rm }
+    {
+        if heard.is_line_lost() {
+            if let Some(is_open) = self.lines.get_mut(rm as usize) {
+                *is_open = false;
+            }
+        }
+        self.standing = standing_after(self.standing, heard, rm);
     }
 }
 

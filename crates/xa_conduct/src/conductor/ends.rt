@@ -1,5 +1,6 @@
 //! What a recovery ends: how its calls were answered, and what is owed.
 
+ghost use Rattle.std.specs.Prelude.{◌≡◌};
 ghost use Rattle.xa_conduct.specs.Acting.{GoesOn};
 ghost use Rattle.xa_session.specs.Session.{IsReady};
 
@@ -24,6 +25,7 @@ impl<L: DecisionLog + Drop> Conductor<L> {
         requires { IsReady self.old.server.session }
         ensures ready { IsReady self.new.server.session }
         ensures acts { GoesOn L.moment self.old.server self.new.server }
+        ensures kept { self.new.notes.transactions ≡ self.old.notes.transactions }
     {
         let Some(call) = self.waiting(rm) else {
             return self.text("error not now");
@@ -42,6 +44,7 @@ impl<L: DecisionLog + Drop> Conductor<L> {
         requires { IsReady self.old.server.session }
         ensures ready { IsReady self.new.server.session }
         ensures acts { GoesOn L.moment self.old.server self.new.server }
+        ensures kept { self.new.notes.transactions ≡ self.old.notes.transactions }
     {
         if !matches!(
             ask(&mut self.server, &Request::CrashLine { thread: 0, rm }),
@@ -60,6 +63,7 @@ impl<L: DecisionLog + Drop> Conductor<L> {
         requires { IsReady self.old.server.session }
         ensures ready { IsReady self.new.server.session }
         ensures acts { GoesOn L.moment self.old.server self.new.server }
+        ensures kept { self.new.notes.transactions ≡ self.old.notes.transactions }
     {
         let Some(code) = code else {
             return Asked::Unexplained;
@@ -89,6 +93,7 @@ impl<L: DecisionLog + Drop> Conductor<L> {
         requires { IsReady self.old.server.session }
         ensures ready { IsReady self.new.server.session }
         ensures acts { GoesOn L.moment self.old.server self.new.server }
+        ensures kept { self.new.notes.transactions ≡ self.old.notes.transactions }
     {
         let [first, second, third] = codes_for(call.kind(), said);
         match self.try_code(rm, call, first) {
@@ -112,6 +117,7 @@ impl<L: DecisionLog + Drop> Conductor<L> {
         requires { IsReady self.old.server.session }
         ensures ready { IsReady self.new.server.session }
         ensures acts { GoesOn L.moment self.old.server self.new.server }
+        ensures kept { self.new.notes.transactions ≡ self.old.notes.transactions }
     {
         let Some(Code::Heuristic(_)) = code else {
             return Asked::Done;
@@ -140,6 +146,7 @@ impl<L: DecisionLog + Drop> Conductor<L> {
         requires { IsReady self.old.server.session }
         ensures ready { IsReady self.new.server.session }
         ensures acts { GoesOn L.moment self.old.server self.new.server }
+        ensures kept { self.new.notes.transactions ≡ self.old.notes.transactions }
     {
         match self.ask_forget(rm, call, code) {
             Asked::Done => {}
@@ -154,6 +161,7 @@ impl<L: DecisionLog + Drop> Conductor<L> {
         requires { IsReady self.old.server.session }
         ensures ready { IsReady self.new.server.session }
         ensures acts { GoesOn L.moment self.old.server self.new.server }
+        ensures kept { self.new.notes.transactions ≡ self.old.notes.transactions }
     {
         let owed = reply_to(&mut self.server, &Request::Owed { rm });
         self.notes.find_debts(rm, &owed)
@@ -164,6 +172,7 @@ impl<L: DecisionLog + Drop> Conductor<L> {
         requires { IsReady self.old.server.session }
         ensures ready { IsReady self.new.server.session }
         ensures acts { GoesOn L.moment self.old.server self.new.server }
+        ensures kept { self.new.notes.transactions ≡ self.old.notes.transactions }
     {
         let Some(debt) = self.notes.next_debt(rm) else {
             return self.end_recovery(rm);
@@ -186,6 +195,7 @@ impl<L: DecisionLog + Drop> Conductor<L> {
         requires { IsReady self.old.server.session }
         ensures ready { IsReady self.new.server.session }
         ensures acts { GoesOn L.moment self.old.server self.new.server }
+        ensures kept { self.new.notes.transactions ≡ self.old.notes.transactions }
     {
         let rows = self.notes.end_recovery(rm)?;
         ask_each_done(&mut self.server, self.alloc, rows.as_slice());

@@ -22,6 +22,7 @@ impl<L: DecisionLog + Drop> Conductor<L> {
         requires { IsReady self.old.server.session }
         ensures ready { IsReady self.new.server.session }
         ensures acts { GoesOn L.moment self.old.server self.new.server }
+        ensures kept { self.new.notes.transactions ≡ self.old.notes.transactions }
     {
         let Some(recovery) = self.notes.recoveries.get_mut(rm as usize) else {
             return self.text("error not now");
@@ -46,6 +47,7 @@ impl<L: DecisionLog + Drop> Conductor<L> {
         requires { IsReady self.old.server.session }
         ensures ready { IsReady self.new.server.session }
         ensures acts { GoesOn L.moment self.old.server self.new.server }
+        ensures kept { self.new.notes.transactions ≡ self.old.notes.transactions }
     {
         let page = Request::Issue {
             thread: 0,
@@ -74,6 +76,7 @@ impl<L: DecisionLog + Drop> Conductor<L> {
         requires { IsReady self.old.server.session }
         ensures ready { IsReady self.new.server.session }
         ensures acts { GoesOn L.moment self.old.server self.new.server }
+        ensures kept { self.new.notes.transactions ≡ self.old.notes.transactions }
     {
         match self.notes.recoveries.get_mut(rm as usize) {
             Some(recovery) if recovery.stage == Stage::Paging && xids.len() <= PAGE => {
@@ -101,6 +104,7 @@ impl<L: DecisionLog + Drop> Conductor<L> {
         requires ready { IsReady self.old.server.session }
         ensures ready { IsReady self.new.server.session }
         ensures acts { GoesOn L.moment self.old.server self.new.server }
+        ensures kept { self.new.notes.transactions ≡ self.old.notes.transactions }
     {
         let heard = Request::Answer {
             thread: 0,
@@ -125,6 +129,7 @@ impl<L: DecisionLog + Drop> Conductor<L> {
         requires { IsReady self.old.server.session }
         ensures ready { IsReady self.new.server.session }
         ensures acts { GoesOn L.moment self.old.server self.new.server }
+        ensures kept { self.new.notes.transactions ≡ self.old.notes.transactions }
     {
         match reply_to(&mut self.server, &Request::Waiting { thread: 0, rm }) {
             Response::Waits(call) => Some(call),
@@ -137,6 +142,7 @@ impl<L: DecisionLog + Drop> Conductor<L> {
         requires { IsReady self.old.server.session }
         ensures ready { IsReady self.new.server.session }
         ensures acts { GoesOn L.moment self.old.server self.new.server }
+        ensures kept { self.new.notes.transactions ≡ self.old.notes.transactions }
     {
         if let Some(call) = self.waiting(rm) {
             return Ok(call_text(self.alloc, &call)?);

@@ -1,8 +1,11 @@
 //! What follows from a line of moves: decisions, rows that leave the log, transactions that begin, and the replies.
 
-ghost use Rattle.std.specs.Prelude.{◌≡◌, ◌≤◌, length, IfOk};
+ghost use Rattle.std.specs.Prelude.{◌≡◌, ◌≤◌, ◌++◌, ◌∷◌, [], true, false, length, All, Bool, IfOk, string_bytes};
 ghost use Rattle.std.specs.List.{list_any};
-ghost use Rattle.xa_conduct.specs.Decided.{is_same};
+ghost use Rattle.xa_conduct.specs.Backing.{KeepResting, KeepsRest, Rests};
+ghost use Rattle.xa_conduct.specs.Decided.{AsksNoLess, is_same};
+ghost use Rattle.xa_conduct.specs.Told.{Adds, AreReplies, IsBehindWord, IsReply};
+ghost use Rattle.xa_requests.specs.declared.request.Request.{Request};
 
 use super::{Notes, Reply, add_over};
 use crate::plan::Plan;
@@ -59,6 +62,10 @@ impl Notes {
     /// All transactions that have their votes are decided by one request, and their branches are to be committed.
     pub fn decide(&mut self, replies: &[Reply], plan: &mut Plan) -> Result<(), Memory>
         requires { length replies.now ≤ 1024 }
+        ensures more { IfOk result (λ _.
+            AsksNoLess plan.old.requests.items plan.new.requests.items) }
+        ensures rests { IfOk result (λ _. KeepResting plan.old.requests.items
+            plan.new.requests.items self.old.transactions.items self.new.transactions.items) }
     {
         let ready = ready_of(self.alloc, self.transactions.as_slice(), replies)?;
         plan.decide(ready.as_slice(), Outcome::Commit)?;
@@ -78,7 +85,11 @@ impl Notes {
     }
 
     /// The rows of transactions that are over leave the log, once there are many.
-    pub fn finish(&mut self, replies: &[Reply], plan: &mut Plan) -> Result<(), Memory> {
+    pub fn finish(&mut self, replies: &[Reply], plan: &mut Plan) -> Result<(), Memory>
+        ensures more { IfOk result (λ _.
+            AsksNoLess plan.old.requests.items plan.new.requests.items) }
+        ensures same { self.new.transactions ≡ self.old.transactions }
+    {
         for reply in replies {
             match transaction_of(self.transactions.as_slice(), *reply) {
                 Some(transaction) if transaction.has_spare_row() => {
@@ -99,7 +110,11 @@ impl Notes {
         &mut self,
         replies: &[Reply],
         plan: &mut Plan,
-    ) -> Result<Vec<Option<Gtrid>>, Memory> {
+    ) -> Result<Vec<Option<Gtrid>>, Memory>
+        ensures more { IfOk result (λ _.
+            AsksNoLess plan.old.requests.items plan.new.requests.items) }
+        ensures same { self.new.transactions ≡ self.old.transactions }
+    {
         let mut nexts = Vec::with_capacity(self.alloc, replies.len())?;
         for reply in replies {
             let over = match transaction_of(self.transactions.as_slice(), *reply) {
@@ -119,14 +134,18 @@ impl Notes {
     }
 
     /// The replies to the moves of a line.
-    pub fn reply(&mut self, replies: &[Reply], nexts: &[Option<Gtrid>]) -> Result<String, Memory> {
+    pub fn reply(&mut self, replies: &[Reply], nexts: &[Option<Gtrid>]) -> Result<String, Memory>
+        ensures rests { IfOk result (λ _. KeepsRest self.old.transactions.items
+            self.new.transactions.items) }
+        ensures tells { IfOk result (λ text. (asked : (Request → Bool) → Bool) →
+            All (Rests asked) self.old.transactions.items →
+            AreReplies asked (string_bytes text)) }
+    {
         let mut text = String::new(self.alloc);
         let mut nexts = nexts.iter();
         let mut is_first = true;
         for reply in replies {
-            if !is_first {
-                text.push_str(";")?;
-            }
+            add_semicolon(&mut text, is_first)?;
             is_first = false;
             let next = match nexts.next() {
                 Some(next) => *next,
@@ -143,28 +162,88 @@ impl Notes {
         text: &mut String,
         reply: Reply,
         next: Option<Gtrid>,
-    ) -> Result<(), Memory> {
+    ) -> Result<(), Memory>
+        ensures rests { IfOk result (λ _. KeepsRest self.old.transactions.items
+            self.new.transactions.items) }
+        ensures tells { IfOk result (λ _. (asked : (Request → Bool) → Bool) →
+            All (Rests asked) self.old.transactions.items →
+            Adds (IsReply asked) (string_bytes text.old) (string_bytes text.new)) }
+    {
         match reply {
-            Reply::Thread(thread) => {
-                if let Some(transaction) = self.transactions.get_mut(thread as usize) {
-                    transaction.has_moved = false;
-                    add_told(text, self.alloc, transaction)?;
-                    if let Some(gtrid) = next {
-                        add_next(text, self.alloc, gtrid)?;
-                        transaction.begin(gtrid);
-                    }
-                }
-            }
+            Reply::Thread(thread) => self.add_thread(text, thread, next),
             Reply::Started(thread, gtrid) => {
                 if let Some(transaction) = self.transactions.get_mut(thread as usize) {
                     transaction.has_moved = false;
                 }
                 text.push_str("started")?;
                 add_next(text, self.alloc, gtrid)?;
+                Ok(())
             }
-            Reply::NoMove => text.push_str("error not a move")?,
-            Reply::NotNow => text.push_str("error not now")?,
+            Reply::NoMove => {
+                text.push_str("error not a move")?;
+                Ok(())
+            }
+            Reply::NotNow => {
+                text.push_str("error not now")?;
+                Ok(())
+            }
         }
+    }
+
+    /// Adds what the transaction of a thread is told.
+    fn add_thread(
+        &mut self,
+        text: &mut String,
+        thread: u32,
+        next: Option<Gtrid>,
+    ) -> Result<(), Memory>
+        ensures rests { IfOk result (λ _. KeepsRest self.old.transactions.items
+            self.new.transactions.items) }
+        ensures tells { IfOk result (λ _. (asked : (Request → Bool) → Bool) →
+            All (Rests asked) self.old.transactions.items →
+            Adds (IsReply asked) (string_bytes text.old) (string_bytes text.new)) }
+    {
+        let Some(transaction) = self.transactions.get_mut(thread as usize) else {
+            text.push_str("error not now")?;
+            return Ok(());
+        };
+        transaction.has_moved = false;
+        add_told(text, self.alloc, transaction)?;
+        add_begun(text, self.alloc, transaction, next)?;
         Ok(())
     }
+}
+
+/// Adds what parts a reply from the one before it, if there is one.
+fn add_semicolon(text: &mut String, is_first: bool) -> Result<(), Memory>
+    ensures first { IfOk result (λ _. is_first ≡ true →
+        string_bytes text.new ≡ string_bytes text.old) }
+    ensures other { IfOk result (λ _. is_first ≡ false →
+        string_bytes text.new ≡ string_bytes text.old ++ 59 ∷ []) }
+{
+    if is_first {
+        return Ok(());
+    }
+    text.push_str(";")?;
+    Ok(())
+}
+
+/// Adds the name of the transaction that begins behind this one, if one does.
+fn add_begun(
+    text: &mut String,
+    alloc: Global,
+    transaction: &mut Transaction,
+    next: Option<Gtrid>,
+) -> Result<(), Memory>
+    ensures rests { IfOk result (λ _. (asked : (Request → Bool) → Bool) →
+        Rests asked transaction.old → Rests asked transaction.new) }
+    ensures adds { IfOk result (λ _.
+        Adds IsBehindWord (string_bytes text.old) (string_bytes text.new)) }
+{
+    let Some(gtrid) = next else {
+        return Ok(());
+    };
+    add_next(text, alloc, gtrid)?;
+    transaction.begin(gtrid);
+    Ok(())
 }

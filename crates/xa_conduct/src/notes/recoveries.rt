@@ -1,5 +1,6 @@
 //! What is noted of recoveries.
 
+ghost use Rattle.std.specs.Prelude.{◌≡◌};
 ghost use Rattle.xa_conduct.specs.Pages.{BeganBefore};
 
 use super::Notes;
@@ -24,7 +25,9 @@ fn add_owed(recovery: &mut Recovery, xids: &[Xid]) -> Result<(), Memory> {
 
 impl Notes {
     /// Adds the transactions of these branches to those that had a row at the start.
-    pub fn add_found(&mut self, owed: &Response) -> Result<(), Memory> {
+    pub fn add_found(&mut self, owed: &Response) -> Result<(), Memory>
+        ensures { self.new.transactions ≡ self.old.transactions }
+    {
         if let Response::Owed(xids) = owed {
             for xid in xids.as_slice() {
                 if let Some(branch) = xid.branch() {
@@ -51,7 +54,9 @@ impl Notes {
     }
 
     /// What is owed at a resource manager: to branches of this session, and to those of rows of earlier ones.
-    pub fn find_debts(&mut self, rm: u32, owed: &Response) -> Result<(), Memory> {
+    pub fn find_debts(&mut self, rm: u32, owed: &Response) -> Result<(), Memory>
+        ensures { self.new.transactions ≡ self.old.transactions }
+    {
         let Some(recovery) = self.recoveries.get_mut(rm as usize) else {
             return Ok(());
         };
@@ -69,14 +74,18 @@ impl Notes {
     }
 
     /// The debt that is to be paid next.
-    pub fn next_debt(&mut self, rm: u32) -> Option<Debt> {
+    pub fn next_debt(&mut self, rm: u32) -> Option<Debt>
+        ensures { self.new.transactions ≡ self.old.transactions }
+    {
         let recovery = self.recoveries.get_mut(rm as usize)?;
         recovery.paying = recovery.left.pop();
         recovery.paying
     }
 
     /// What was called last is paid, or put off.
-    pub fn note_paid(&mut self, rm: u32, is_put_off: bool) -> Result<(), Memory> {
+    pub fn note_paid(&mut self, rm: u32, is_put_off: bool) -> Result<(), Memory>
+        ensures { self.new.transactions ≡ self.old.transactions }
+    {
         let Some(recovery) = self.recoveries.get_mut(rm as usize) else {
             return Ok(());
         };
@@ -92,7 +101,9 @@ impl Notes {
 
     /// The recovery is over, and another one is due if a branch is owed there still, or since. The
     /// transactions of earlier sessions of which a branch was owed there.
-    pub fn end_recovery(&mut self, rm: u32) -> Result<Vec<Gtrid>, Memory> {
+    pub fn end_recovery(&mut self, rm: u32) -> Result<Vec<Gtrid>, Memory>
+        ensures { self.new.transactions ≡ self.old.transactions }
+    {
         let is_owed = self.debts.iter().any(|debt| debt.branch.rm == rm);
         let Some(recovery) = self.recoveries.get_mut(rm as usize) else {
             return Ok(Vec::new(self.alloc));

@@ -1,4 +1,4 @@
-use Rattle.std.proofs.Common.{ℕ, List, subst, sym}
+use Rattle.std.proofs.Common.{ℕ, List, [], subst, sym}
 use Rattle.xa_server.proofs.WithoutName.{lines_as_are}
 use Rattle.xa_server.specs.Serving.{HaveReplies}
 use Rattle.xa_conduct.proofs.ActLemmas.{none_act}
@@ -7,7 +7,7 @@ use Rattle.xa_conduct.proofs.laws.conducted_sessions_are_served.Goals as goal
 pub returns : goal.returns
 returns g c = λ threads rms handed first now starts goes.
     let moment = g.L.DecisionLog.moment in
-    let acts = goes first (none_act moment first) in (
+    let acts = goes [] first (none_act moment first) in (
       acts,
       lines_as_are c.without_a_name_nothing_changes.ensures.lines acts.lines,
       λ name lines are no_fault o begins.

@@ -1,14 +1,25 @@
-use Rattle.std.proofs.Common.{[], refl}
+use Rattle.std.proofs.Common.{[], Some, inl, refl}
 use Rattle.std.proofs.lemmas.Bool.{or_left}
 use Rattle.std.specs.List.{list_any}
-use Rattle.xa_conduct.proofs.BackingLemmas.{same_itself}
+use Rattle.xa_conduct.proofs.BackingLemmas.{asked_more, asked_now, parts_kept, rest_each, same_itself}
 use Rattle.xa_conduct.specs.Decided.{is_rollback_of, is_same}
+use Rattle.xa_conduct.specs.declared.transaction.Standing.TheVariants.{RolledBack}
 use Rattle.xa_conduct.proofs.transaction.Transaction.roll_back.Goals as goal
 
-pub loop-part-init : goal.loop-part-init
-loop-part-init c =
+pub undo_each-requires : goal.undo_each-requires
+undo_each-requires c =
     let g = c.args.self.now.gtrid in
     c.in_ok-decide.ensures.rolls_back refl g (or_left (is_same g g) (list_any (is_same g) []) (same_itself g))
 
-pub loop-part-preserved : goal.loop-part-preserved
-loop-part-preserved c = c.in_ok-undo.ensures.more (is_rollback_of c.args.self.now.gtrid) c.loop-part.invariant
+pub returns-clause-rests : goal.returns-clause-rests
+returns-clause-rests c = λ past rests.
+    let s = c.args.self.now in
+    let g = s.gtrid in
+    let each = c.in_ok-undo_each.ensures in
+    let old = c.args.plan.now.requests.items in
+    let decided = c.decide.new.self.requests.items in
+    let new = c.undo_each.new.plan.requests.items in
+    let is = c.in_ok-decide.ensures.rolls_back refl g (or_left (is_same g g) (list_any (is_same g) []) (same_itself g)) in
+    rest_each past decided new g s.thread (RolledBack c.args.why) s.parts.items c.as_mut_slice.result.now c.undo_each.new.parts s.parts.len each.more
+    c.as_mut_slice.ensures.value each.backed (inl (asked_now past new (is_rollback_of g) (each.more (is_rollback_of g) is)))
+    (parts_kept past old decided g s.thread s.parts.items c.in_ok-decide.ensures.more rests.parts)

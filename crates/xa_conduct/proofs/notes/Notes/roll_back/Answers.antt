@@ -1,0 +1,9 @@
+use Rattle.std.proofs.Common.{arith, refl}
+use Rattle.xa_conduct.proofs.BackingLemmas.{rest_moved}
+use Rattle.xa_conduct.proofs.notes.Notes.roll_back.Goals as goal
+
+pub returns-clause-rests : goal.returns-clause-rests
+returns-clause-rests c = λ past rest.
+    rest_moved past c.args.plan.now.requests.items c.roll_back.new.plan.requests.items c.args.self.now.transactions.items c.args.thread
+    c.in-Some.transaction.now c.roll_back.new.self (omega (arith, c.in-Some.ensures.variant.0 refl)) c.in-Some.ensures.value
+    c.in_ok-roll_back-in-Some.ensures.more c.in_ok-roll_back-in-Some.ensures.rests rest

@@ -1,0 +1,10 @@
+use Rattle.xa_conduct.specs.Backing.{KeepsResting}
+use Rattle.xa_conduct.specs.Decided.{AsksNoLess}
+use Rattle.xa_conduct.proofs.transaction.Transaction.join.Given as goal
+
+-- what is noted rests on what was asked for, as it did, and what was asked for still is
+abbrev pub invariant-loop-rm : goal.invariant-loop-rm
+invariant-loop-rm l = record {
+  more : AsksNoLess l.fn.plan.requests.items l.plan.requests.items;
+  rests : KeepsResting l.fn.plan.requests.items l.plan.requests.items l.fn.self l.self;
+}
