@@ -50,7 +50,7 @@ use Rattle.xa_sql_log.specs.PreparedDatabase.{Prepares}
 use Rattle.xa_sql_log.specs.Rows.{content_of}
 use Rattle.xa_sql_log.specs.Sql.{AreLogTrees, content_in}
 use Rattle.xa_tm.specs.Calls.{log_in}
-use Rattle.uses.specs.Paths.{AgreeAfterBoth, HoldsContent, IsProcess, IsSessionOver, LeavesIt, WereReplied}
+use Rattle.uses.specs.Paths.{AgreeAfterBoth, IsHeldInFiles, IsProcess, IsSessionOver, LeavesIt, WereReplied}
 
 -- ** one session
 
@@ -141,7 +141,7 @@ module _ (s : State) (opens : Opens s) (live : IsLive s) where
       tables_of _ (subst (IsSound _) (sym trees_now) (empty_is_sound s.committed.trees empty.1))
 
   -- the log that is made of it has what the files hold
-  pub content_so : (new : State) (image : Image) (c : Content) → FindsIn image s → Prepares s new (Ok tt) → HoldsContent c image → content_in new ≡ Some c
+  pub content_so : (new : State) (image : Image) (c : Content) → FindsIn image s → Prepares s new (Ok tt) → IsHeldInFiles c image → content_in new ≡ Some c
   content_so new image c found taken (inl (none, is)) = ready_content nothing new (taken.made (blank image none found)) ∙ ap Some (sym is)
   content_so new image c found taken (inr (inl whole)) = found_whole c image s new opens live found whole taken
   content_so new image c found taken (inr (inr finds)) =
@@ -151,7 +151,7 @@ module _ (s : State) (opens : Opens s) (live : IsLive s) where
       ready_content _ new ready ∙ ap (λ db. Some (content_of db)) trees_now ∙ ap Some it.1
 
 -- a log over such files is in order
-pub order_so : (P : Type 0) (image : Image) (c : Content) → (HoldsLog image → P) → (HoldsLogOrNothing image → P) → HoldsContent c image → P
+pub order_so : (P : Type 0) (image : Image) (c : Content) → (HoldsLog image → P) → (HoldsLogOrNothing image → P) → IsHeldInFiles c image → P
 order_so P image c order found (inl (none, is)) = order (inl none)
 order_so P image c order found (inr (inl whole)) = order (whole_holds c image whole)
 order_so P image c order found (inr (inr finds)) = found (λ db at. inr (inr (finds db at).0))
@@ -171,7 +171,7 @@ module _ {L M : Type 0} (moment : L → Moment) (later : M → Moment) (begin : 
 
   -- a log that was opened over files with this content, and that was honest to the end of its session, holds it
   holds_opened : {N : Type 0} (at : N → Moment) (image : Image) (text written : List ℕ) (left : N) (p : IsProcess at image name text written left)
-      → (at left).is_honest → (c : Content) → HoldsContent c image → HoldsLeft at c p.opened
+      → (at left).is_honest → (c : Content) → IsHeldInFiles c image → HoldsLeft at c p.opened
   holds_opened at image text written left p honest c holds = record {
     order = p.order c holds;
     content = c;
@@ -190,8 +190,8 @@ module _ {L M : Type 0} (moment : L → Moment) (later : M → Moment) (begin : 
 
   pub agree_after : (image found : Image) (one two one_written two_written : List ℕ) (mid : L) (left : M)
       (first : IsProcess moment image name one one_written mid) (second : IsProcess later found name two two_written left) (content : Content)
-      (one_lines two_lines : List (List ℕ)) (one_replies two_replies : List Response) → HoldsContent nothing image → (moment mid).is_honest
-      → LeavesIt (moment mid) content → HoldsContent content found → (later left).is_honest
+      (one_lines two_lines : List (List ℕ)) (one_replies two_replies : List Response) → IsHeldInFiles nothing image → (moment mid).is_honest
+      → LeavesIt (moment mid) content → IsHeldInFiles content found → (later left).is_honest
       → WereReplied name first.session.told.turns one_lines one_replies → WereReplied name second.session.told.turns two_lines two_replies
       → AgreeAfterBoth later name content left one_lines two_lines one_replies two_replies
   agree_after image found one two one_written two_written mid left first second content one_lines two_lines one_replies two_replies empty honest leaves

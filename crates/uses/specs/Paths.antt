@@ -66,16 +66,16 @@ pub record IsSessionOver {L : Type 0} (moment : L → Moment) (name : List ℕ) 
 
 -- The files hold a log with this content: the database file is empty, and it is an empty one; or they are those of a log that was closed;
 -- or whatever an open may find in them is such a log.
-abbrev pub HoldsContent : Content → Image → Type 0
-HoldsContent c image =
+abbrev pub IsHeldInFiles : Content → Image → Type 0
+IsHeldInFiles c image =
     ((length image.db ≡ 0) × (c ≡ nothing))
     ⊎ (HoldsWhole c image ⊎ ((db : Trees) → AreFoundIn image db → AreLogTrees db × (content_of db ≡ c)))
 
 -- It opened the log in files with these contents, and served a driver that writes this text over it; this was written, and this log is left.
 pub record IsProcess {L : Type 0} (moment : L → Moment) (image : Image) (name text written : List ℕ) (left : L) : Type 0 where
   pub opened : L
-  pub order : (c : Content) → HoldsContent c image → (moment opened).is_in_order
-  pub finds : (c : Content) → HoldsContent c image → (moment opened).is_honest → (moment opened).content ≡ Some c
+  pub order : (c : Content) → IsHeldInFiles c image → (moment opened).is_in_order
+  pub finds : (c : Content) → IsHeldInFiles c image → (moment opened).is_honest → (moment opened).content ≡ Some c
   pub session : IsSessionOver moment name opened text written left
 
 -- ** two of them
@@ -110,7 +110,7 @@ pub record AreTwoProcesses {L M : Type 0} (moment : L → Moment) (later : M →
   pub first : IsProcess moment image name one one_written mid
   pub second : IsProcess later found name two two_written left
   pub agree :
-      (content : Content) (one_lines two_lines : List (List ℕ)) (one_replies two_replies : List Response) → HoldsContent nothing image
-      → (moment mid).is_honest → LeavesIt (moment mid) content → HoldsContent content found → (later left).is_honest
+      (content : Content) (one_lines two_lines : List (List ℕ)) (one_replies two_replies : List Response) → IsHeldInFiles nothing image
+      → (moment mid).is_honest → LeavesIt (moment mid) content → IsHeldInFiles content found → (later left).is_honest
       → WereReplied name first.session.told.turns one_lines one_replies → WereReplied name second.session.told.turns two_lines two_replies
       → AgreeAfterBoth later name content left one_lines two_lines one_replies two_replies

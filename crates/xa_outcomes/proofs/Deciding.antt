@@ -1,4 +1,4 @@
--- Which transactions a history commits, and what it keeps of a vote and a decision behind it.
+-- Which transactions a history commits, and what it keeps of a vote and a decision after it.
 use Rattle.std.proofs.Common.{◌≡◌, ◌∙◌, ◌⊎◌, inl, inr, ℕ, zero, suc, Bool, true, false, not, ◌&&◌, ◌||◌, ◌==◌, List, [], ◌∷◌, length, map, Option, Some, None, refl, sym, ap, subst}
 use Rattle.std.proofs.lemmas.Bool.{and_parts, or_cases, or_left, or_right, true≢false}
 use Rattle.std.specs.Prelude.{if◌then◌else◌}
@@ -23,7 +23,7 @@ use Rattle.xa_model.proofs.Invariant.Preservation.{always, begun_is_started}
 use Rattle.xa_model.proofs.Invariant.Rows.{rowed_kept}
 use Rattle.xa_model.proofs.ProcessLemmas.Joining.{gone_right}
 use Rattle.xa_model.proofs.ProcessLemmas.SameLogs.{same_listed}
-use Rattle.xa_model.specs.Facts.{Change, adds_row, doubt, ever, fault_change, had_row, handed_over, has_gtrid, has_row, next_answer, retries, vote, lists_row, log as rows_of, record_of, record_of_next, row_for, says_yes_in, standing, started, up, was_told}
+use Rattle.xa_model.specs.Facts.{adds_row, doubt, ever, fault_change, had_row, handed_over, has_gtrid, has_row, next_answer, retries, vote, lists_row, log as rows_of, record_of, record_of_next, row_for, says_yes_in, standing, started, up, was_told}
 use Rattle.xa_model.specs.Facts.Standings.{moved_by}
 use Rattle.xa_model.specs.Promises.Agreement.{IsUndone}
 use Rattle.xa_model.specs.Promises.Processes.{gone, resumed}
@@ -31,9 +31,9 @@ use Rattle.xa_model.specs.Protocol.{AllRight, SoundAnswer, call_code}
 use Rattle.xa_model.specs.Trace.{Answer, Branch, Call, Fault, Fault.InDecide, Fault.InHear, Gtrid, Happening, Happening.CompletedAlone, Happening.Crashed, Happening.Decided, Happening.Failed, Happening.Heard, Happening.Issued, Happening.PutOff, Happening.Restarted, Happening.Took, Happening.Voted, Code, How, Line, Origin, Trace, Trace.From, Trace.Then, Vote}
 use Rattle.xa_monitor.specs.Across.{continued_by}
 use Rattle.xa_monitor.specs.Seen.{Alone, Alone.Ends, Alone.NoMore as AloneNoMore, Alone.PutsOff, Alone.Votes, IsHistory, IsHistory.Does, IsHistory.Hears, IsHistory.Loses, IsHistory.LosesAnswer, IsHistory.Starts, IsManagers, KeepsRules, Seen, Seen.Answered, Seen.Did, Seen.Lost, break_of}
-use Rattle.xa_monitor.specs.Sessions.{AfterSessions, AfterSessions.Between, AfterSessions.NoneYet, AfterSessions.OneMore, Finds, FindsLog, HaveOneHistory, IsCommitting, Log, failed_in, nothing_yet}
+use Rattle.xa_monitor.specs.Sessions.{AfterSessions, AfterSessions.Between, AfterSessions.NoneYet, AfterSessions.OneMore, IsCommitting, Log, failed_in}
 use Rattle.xa_outcomes.proofs.Reached.{IsMade, made}
-use Rattle.xa_outcomes.specs.Outcomes.{DecidedWillCommit, HeuristicEndsStay, IsAskedOf, IsDecided, IsDecidedBehind, IsEndedAs, IsHandedOver, IsLeftDeciding, NeverDecidedIsNeverCommitted, SaidYes, TellsHeuristic, WasDecided, WasNeverDecided, WasToldHeuristic, WillCommit}
+use Rattle.xa_outcomes.specs.Outcomes.{DecidedWillCommit, HeuristicEndsStay, IsAskedOf, IsDecided, IsDecidedBehind, IsEndedAs, IsHandedOver, IsLeftDeciding, NeverDecidedIsNeverCommitted, SaidYes, TellsHeuristic, WasNeverDecided, WillCommit}
 use Rattle.xa_outcomes.specs.Parts.{GoesOnUntold, GoesOnUntold.Goes, GoesOnUntold.NoMore, IsOfSessions, IsUntold, SessionsAreParts}
 
 -- ** the one history
@@ -382,7 +382,7 @@ heard_vote b at l c a right vote = record {
     heard_so =
         ap (λ z. says_yes_in b.gtrid z a) vote.call ∙ (ap (λ z. says_yes_in b.gtrid (Calls.Prepare b) z) vote.answer ∙ gtrid_eq-refl b.gtrid)
 
--- ** behind a session
+-- ** after a session
 
 module _ (p : Trace) (b : Branch) where
   -- a branch that said yes in it
@@ -450,9 +450,10 @@ module _ (p : Trace) (b : Branch) where
       (commit_step b (continued_by p now) (Took l c a) right.0
       (on_alone (IsToCommit b) (commit_step b) p tr now alone right.0.0 (decided_so o seen tr i (right_alone p tr now alone right.0.0) d)))
 
--- ** behind all of them
+-- ** after all of them
 
--- what was seen in a session lasts, if each right happening keeps it: what any of them saw is so of the whole
+-- what was seen in a session lasts, if each right happening keeps it: what any of them saw is so of
+-- the whole
 module _ (Saw : Seen → Type 0) (Q : Trace → Type 0) (step : (tr : Trace) (e : Happening) → AllRight (Then tr e) → Q tr → Q (Then tr e))
     (saw_so : (p : Trace) (o : Origin) (seen : Seen) (told : Trace) → IsHistory o seen told → AllRight (continued_by p told) → Saw seen
     → Q (continued_by p told)) where

@@ -1,8 +1,8 @@
--- A session that is left in a request in which its log failed: in which step that was, and that it commits no other transactions than were asked
--- for.
+-- A session that is left in a request in which its log failed: in which step that was, and that it
+-- commits no other transactions than were asked for.
 use Rattle.std.proofs.Common.{◌≡◌, ◌∙◌, ◌⊎◌, inl, inr, Bool, true, false, ◌||◌, List, [], ◌∷◌, length, Option, Some, None, ap, refl, sym}
 use Rattle.std.proofs.lemmas.Bool.{or_cases, or_left, or_right, true≢false}
-use Rattle.std.specs.Prelude.{cond, filter, if◌then◌else◌, IfErr, Result, Ok, Err}
+use Rattle.std.specs.Prelude.{filter, if◌then◌else◌, IfErr, Result, Ok, Err}
 use Rattle.xa_base.specs.Branch.{gtrid_eq}
 use Rattle.xa_base.specs.declared.branch.Gtrid.{Gtrid}
 use Rattle.xa_base.specs.declared.refusal.Refusal.{Refusal}
@@ -35,7 +35,8 @@ use Rattle.xa_tm.specs.Book.{Book, Doubt, Doubt.Adds, Doubt.Drops, book_after, r
 use Rattle.xa_tm.specs.Calls.{FailsBy, book_in, written_by}
 use Rattle.xa_tm.specs.InTurn as turns
 
--- the log failed in a request: in this step of the session, by which the book then is as it was, with this change in doubt
+-- the log failed in a request: in this step of the session, by which the book then is as it was,
+-- with this change in doubt
 pub record FailsIn {L : Type 0} (o : Origin) (seen : Seen) (now left : Server L) (asked : Doubt) (fault : Fault) : Type 0 where
   pub step : IsFailedStep o seen now.session asked fault
   pub book : book_in left.session.manager ≡ book_after (book_in now.session.manager) asked (Failed fault)

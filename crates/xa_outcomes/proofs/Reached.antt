@@ -1,4 +1,5 @@
--- The right history of several sessions, which leaves each branch where it stands, and its parts: `IsReached` of `xa_monitor`, with these.
+-- The right history of several sessions, which leaves each branch where it stands, and its parts:
+-- `IsReached` of `xa_monitor`, with these.
 use Rattle.std.proofs.Common.{◌≡◌, ◌<◌, ◌⊎◌, inl, inr, ℕ, List, [], length, Bool, true, false, refl, sym, ap, ◌∙◌, subst, arith}
 use Rattle.std.proofs.lemmas.Bool.Decides.{nat_tests}
 use Rattle.std.proofs.lemmas.List.Elements.{at_from_Contains}
@@ -35,10 +36,10 @@ use Rattle.xa_monitor.specs.Seen.{IsHistory, Seen}
 use Rattle.xa_monitor.specs.Sessions.{AfterSessions, AfterSessions.Between, AfterSessions.NoneYet, AfterSessions.OneMore, Finds, FindsLog, IsSession, Log, Log.Empty, Log.LeftBy, failed_in, nothing_yet}
 use Rattle.xa_monitor.specs.Standings.{Comes}
 use Rattle.xa_outcomes.proofs.Untold.{LeavesUntold, leaves_untold}
-use Rattle.xa_outcomes.specs.Parts.{IsOfSessions, IsPart}
+use Rattle.xa_outcomes.specs.Parts.{IsOfSessions}
 
--- there is one right history of all that happened. It leaves each branch where it stands, but that what was open may be lost already; and the
--- next start finds the rows and records of it
+-- there is one right history of all that happened. It leaves each branch where it stands, except
+-- that what was open may be lost already; and the next start finds the rows and records of it
 pub record IsMade (log : Log) (f : Branch → Standing) (after : AfterSessions log f) : Type 0 where
   pub whole : Trace
   pub right : AllRight whole

@@ -1,23 +1,17 @@
--- What servers told of outcomes is so, behind all sessions.
-use Rattle.std.proofs.Common.{◌≡◌, ◌∙◌, inr, ℕ, true, List, Option, Some, sym}
+-- What servers told of outcomes is so, after all sessions.
+use Rattle.std.proofs.Common.{◌∙◌, inr, Some, sym}
 use Rattle.xa_base.specs.declared.answer.Answer.TheVariants.{Ret}
 use Rattle.xa_base.specs.declared.branch.Gtrid.{Gtrid}
 use Rattle.xa_base.specs.declared.code.Code.TheVariants.{Heuristic}
-use Rattle.xa_base.specs.declared.state.Standing.{Standing}
-use Rattle.xa_log.specs.Content.{Content}
 use Rattle.xa_log.specs.Contract.{Moment}
-use Rattle.xa_model.specs.Trace.{Answer, Branch, Call, How, Line, Origin}
+use Rattle.xa_model.specs.Trace.{Answer, Branch, Call, How, Line}
 use Rattle.xa_monitor.specs.Seen.{Seen, Seen.Answered}
 use Rattle.xa_outcomes.proofs.Deciding.{are_parts, ends_stay, never_committed, will_commit}
-use Rattle.xa_outcomes.proofs.ServedSessions.{GoesOnFrom, all_on}
+use Rattle.xa_outcomes.proofs.ServedSessions.{all_on}
 use Rattle.xa_outcomes.specs.Outcomes.{IsDecidedBehind, TellsHeuristic, WillCommit}
-use Rattle.xa_outcomes.specs.Parts.{HaveHistoryInParts}
 use Rattle.xa_outcomes.specs.Served.{NeverToldIsNeverCommitted, ServedSessionsAreParts, ToldDecidedWillCommit, ToldHeuristicEndsStay}
 use Rattle.xa_server.proofs.LeftLogs.{listed, raised_once, start_of}
 use Rattle.xa_server.proofs.SessionChains.{Laws}
-use Rattle.xa_server.specs.Sessions.{AreServed}
-use Rattle.xa_server.specs.declared.server.Server.{Server}
-use Rattle.xa_session.specs.Logging.{LeavesContent}
 use Rattle.xa_tm.specs.Laws.{StartRowsAreApart}
 use Rattle.xa_tm.specs.Starting.{StartsHaveContent}
 

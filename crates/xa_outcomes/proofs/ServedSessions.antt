@@ -1,19 +1,20 @@
--- Sessions that a server serves are sessions one after another, and what they tell is what is seen in these.
-use Rattle.std.proofs.Common.{◌≡◌, ◌∙◌, ◌<◌, ◌⊎◌, inl, inr, ℕ, true, List, [], ◌∷◌, ◌++◌, Option, Some, None, refl, sym, ap, subst}
+-- Sessions that a server serves are sessions one after another, and what they tell is what is seen
+-- in these.
+use Rattle.std.proofs.Common.{◌≡◌, ◌⊎◌, inl, inr, ℕ, true, List, [], ◌∷◌, ◌++◌, Option, Some, None, refl, subst}
 use Rattle.xa_base.specs.StateTable.{broken}
 use Rattle.xa_base.specs.declared.answer.Answer.TheVariants.{Ret}
 use Rattle.xa_base.specs.declared.branch.Gtrid.{Gtrid}
 use Rattle.xa_base.specs.declared.state.Standing.{Standing}
 use Rattle.xa_log.specs.Content.{Content}
 use Rattle.xa_log.specs.Contract.{Moment}
-use Rattle.xa_model.specs.Trace.{Answer, Branch, Call, Code, Fault, Line, Origin, Trace, line}
+use Rattle.xa_model.specs.Trace.{Answer, Branch, Call, Fault, Line, Origin, Trace, line}
 use Rattle.xa_monitor.proofs.Chains.{reached, untold}
 use Rattle.xa_monitor.proofs.ReachedStandings.{explained}
 use Rattle.xa_monitor.specs.Agreement.{IsLineOf, MayAllStand, WaitsAt}
 use Rattle.xa_monitor.specs.Seen.{Seen, Seen.Answered}
 use Rattle.xa_monitor.specs.Sessions.{AfterSessions, AfterSessions.Between as Ends_between, AfterSessions.NoneYet as No_session, AfterSessions.OneMore as One_session, Finds, IsSession as Is_session, Log, Log.Empty, Log.LeftBy, MayFail, WasFoundDecided}
 use Rattle.xa_monitor.specs.Standings.{Comes}
-use Rattle.xa_outcomes.proofs.FailedRequests.{FailsAsAsked, fails_as_asked}
+use Rattle.xa_outcomes.proofs.FailedRequests.{fails_as_asked}
 use Rattle.xa_outcomes.specs.Outcomes.{IsDecided, IsHandedOver, IsLeftDeciding, WasNeverDecided}
 use Rattle.xa_outcomes.specs.Parts.{IsOfSessions}
 use Rattle.xa_outcomes.specs.Served.{IsLeftCommitting, IsOfServed, WasNeverToldDecided}
@@ -27,7 +28,6 @@ use Rattle.xa_session.proofs.FailedAnswers.{fit_line}
 use Rattle.xa_session.specs.Logging.{KeepsLog}
 use Rattle.xa_session.specs.Tracking.{IsFailedAnswer, IsRaisedFrom}
 use Rattle.xa_tm.specs.BookAndLog.{IsTied}
-use Rattle.xa_tm.specs.Book.{book_after}
 use Rattle.xa_tm.specs.Calls.{book_in, log_in}
 
 -- one of these sessions saw it

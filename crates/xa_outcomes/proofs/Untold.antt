@@ -1,5 +1,6 @@
--- A right history that leaves the branches where they stand, and what in it wasn't told: `LeavesThere` of `xa_monitor`, with that part of it.
-use Rattle.std.proofs.Common.{◌≡◌, ◌+◌, ℕ, suc, List, [], ◌∷◌, ◌++◌, length, Bool, true, false, refl, sym, ap, ◌∙◌, subst, arith}
+-- A right history that leaves the branches where they stand, and what in it wasn't told:
+-- `LeavesThere` of `xa_monitor`, with that part of it.
+use Rattle.std.proofs.Common.{◌≡◌, ◌+◌, ℕ, List, [], ◌∷◌, ◌++◌, length, Bool, true, false, refl, sym, ap, ◌∙◌, subst, arith}
 use Rattle.std.proofs.lemmas.Bool.{or_parts}
 use Rattle.std.proofs.lemmas.List.{append-nil}
 use Rattle.std.specs.Prelude.{if◌then◌else◌, Option, Some, None, slice_get}
@@ -25,7 +26,7 @@ use Rattle.xa_monitor.specs.Seen.{Alone, Alone.Ends, Alone.NoMore as AloneNoMore
 use Rattle.xa_monitor.specs.Standings.{Comes, ExplainsAsked, ExplainsIf}
 use Rattle.xa_outcomes.specs.Parts.{GoesOnUntold, GoesOnUntold.Goes, GoesOnUntold.NoMore}
 
--- it leaves the branches there, and behind what was told only such happened as isn't told
+-- it leaves the branches there, and after what was told only such happened as isn't told
 pub record LeavesUntold (o : Origin) (seen : Seen) (Start : Origin → Type 0) (done cut : List Line) (f : Branch → Standing) : Type 0 where
   pub left : LeavesThere o seen Start done cut f
   pub untold : GoesOnUntold left.told left.now

@@ -1,9 +1,9 @@
--- The lines of two sessions that are worked out: what each asks for, and what a session that hears them keeps track of.
-use Rattle.std.proofs.Common.{◌≡◌, ◌∙◌, ◌<◌, ◌⊎◌, inl, inr, ℕ, Bool, true, false, ◌||◌, List, [], ◌∷◌, ◌++◌, length, length-append, Option, Some, None, refl, sym, ap, subst, arith}
-use Rattle.std.proofs.lemmas.Bool.{or_left, true≢false}
+-- The lines of two sessions that are worked out: what each asks for, and what a session that hears
+-- them keeps track of.
+use Rattle.std.proofs.Common.{◌≡◌, ◌∙◌, ℕ, Bool, true, false, List, [], ◌∷◌, ◌++◌, length, length-append, Some, None, refl, sym, ap, arith}
+use Rattle.std.proofs.lemmas.Bool.{true≢false}
 use Rattle.std.proofs.lemmas.List.{append-nil}
-use Rattle.std.specs.List.{list_any}
-use Rattle.std.specs.Prelude.{MatchBool, codes, if◌then◌else◌, slice_get}
+use Rattle.std.specs.Prelude.{codes, if◌then◌else◌, slice_get}
 use Rattle.std.specs.Str.{is_utf8, chars}
 use Rattle.std.specs.Fmt.{digits}
 use lib.Utf8.{encode}
@@ -20,14 +20,12 @@ use Rattle.xa_base.specs.declared.step.Outcome.TheVariants as Outcomes
 use Rattle.xa_files.specs.Numbers.{index_of}
 use Rattle.xa_files.specs.Words.{code_named}
 use Rattle.xa_line.specs.Histories.{known}
-use Rattle.xa_log.specs.Contract.{Moment}
 use Rattle.xa_model.proofs.Keys.{line_eq-refl}
 use Rattle.xa_model.specs.Facts.{issued, next_call, taken}
-use Rattle.xa_model.specs.Trace.{Answer, Branch, Call, Happening.Begun, Happening.Heard, Happening.Issued, Happening.Took, Line, Origin, Trace, Trace.Then, line, line_eq, line_of}
+use Rattle.xa_model.specs.Trace.{Answer, Branch, Call, Happening.Begun, Happening.Issued, Line, Origin, Trace, Trace.Then, line, line_eq, line_of}
 use Rattle.xa_monitor.proofs.Taken.{same_lines}
-use Rattle.xa_monitor.specs.Explained.{HasOnlyOlderRows}
-use Rattle.xa_monitor.specs.Seen.{Alone, IsHistory, IsHistory.Does, IsHistory.Hears, IsHistory.Starts, KeepsRules, Seen, Seen.Answered, Seen.Did, Seen.Start}
-use Rattle.xa_outcomes.specs.WorkedSessions.{AreMade, IsMade, IsReplied, Spoken, at_one, at_two, first_gtrid, is_issued, lines_of_commit, lines_of_one, lines_of_two, made}
+use Rattle.xa_monitor.specs.Seen.{IsHistory, IsHistory.Does, IsHistory.Hears, IsHistory.Starts, Seen, Seen.Answered, Seen.Did, Seen.Start}
+use Rattle.xa_outcomes.specs.WorkedSessions.{Spoken, at_one, at_two, first_gtrid, is_issued, lines_of_commit, lines_of_one, lines_of_two}
 use Rattle.xa_requests.specs.Answers.{answer_request, bare_answer, branch_answer}
 use Rattle.xa_requests.specs.Calls.{branch_call, call_in, issue_request}
 use Rattle.xa_requests.specs.Decisions.{decide_request}
@@ -35,18 +33,12 @@ use Rattle.xa_requests.specs.Names.{branch_named, each_named, gtrid_named}
 use Rattle.xa_requests.specs.Requests.{request_in, request_of}
 use Rattle.xa_requests.specs.Words.{words_of}
 use Rattle.xa_requests.specs.declared.request.CallName.{CallName}
-use Rattle.xa_requests.specs.declared.request.Request.{Request}
 use Rattle.xa_requests.specs.declared.request.Request.TheVariants as requests
 use Rattle.xa_requests.specs.declared.response.Response.{Response}
 use Rattle.xa_requests.specs.declared.response.Response.TheVariants as responses
 use Rattle.xa_server.specs.Lines.{asked_in}
-use Rattle.xa_server.specs.Performing.{Performs}
-use Rattle.xa_server.specs.Serving.{HaveReplies, RepliesTo}
-use Rattle.xa_server.specs.Telling.{HasName, HaveTold, Tells, TellsBy, is_log_fault}
-use Rattle.xa_server.specs.Tracking.{RepliesAreTracked, TracksReply}
+use Rattle.xa_server.specs.Telling.{HasName, Tells, is_log_fault}
 use Rattle.xa_server.specs.Votes.{is_heard}
-use Rattle.xa_server.specs.declared.server.Server.{Server}
-use Rattle.xa_session.specs.Tracking.{KeepsTrack, SessionsAreExplained}
 
 -- ** what each line asks for
 
@@ -89,34 +81,41 @@ one_asks = (
     issue_asks = refl;
     answer_request_is = refl;
     answer_asks = refl;
-  }, (
-  record {
-    call = Calls.Start (xid_of_branch one) false;
-    name = named Kinds.Start one;
-    is_known = refl;
-    issue_request_is = refl;
-    issue_asks = refl;
-    answer_request_is = refl;
-    answer_asks = refl;
-  }, (
-  record {
-    call = Calls.End (xid_of_branch one) false;
-    name = named Kinds.End one;
-    is_known = refl;
-    issue_request_is = refl;
-    issue_asks = refl;
-    answer_request_is = refl;
-    answer_asks = refl;
-  }, (
-  record {
-    call = Calls.Prepare (xid_of_branch one);
-    name = named Kinds.Prepare one;
-    is_known = refl;
-    issue_request_is = refl;
-    issue_asks = refl;
-    answer_request_is = refl;
-    answer_asks = refl;
-  }, tt)))
+  },
+  (
+    record {
+      call = Calls.Start (xid_of_branch one) false;
+      name = named Kinds.Start one;
+      is_known = refl;
+      issue_request_is = refl;
+      issue_asks = refl;
+      answer_request_is = refl;
+      answer_asks = refl;
+    },
+    (
+      record {
+        call = Calls.End (xid_of_branch one) false;
+        name = named Kinds.End one;
+        is_known = refl;
+        issue_request_is = refl;
+        issue_asks = refl;
+        answer_request_is = refl;
+        answer_asks = refl;
+      },
+      (
+        record {
+          call = Calls.Prepare (xid_of_branch one);
+          name = named Kinds.Prepare one;
+          is_known = refl;
+          issue_request_is = refl;
+          issue_asks = refl;
+          answer_request_is = refl;
+          answer_asks = refl;
+        },
+        tt,
+      ),
+    ),
+  ),
 )
 
 pub two_asks : AskForAll lines_of_two (line_of two) (Calls.OpenRm ∷ Calls.Start two false ∷ Calls.End two false ∷ Calls.Prepare two ∷ [])
@@ -130,34 +129,41 @@ two_asks = (
     issue_asks = refl;
     answer_request_is = refl;
     answer_asks = refl;
-  }, (
-  record {
-    call = Calls.Start (xid_of_branch two) false;
-    name = named Kinds.Start two;
-    is_known = refl;
-    issue_request_is = refl;
-    issue_asks = refl;
-    answer_request_is = refl;
-    answer_asks = refl;
-  }, (
-  record {
-    call = Calls.End (xid_of_branch two) false;
-    name = named Kinds.End two;
-    is_known = refl;
-    issue_request_is = refl;
-    issue_asks = refl;
-    answer_request_is = refl;
-    answer_asks = refl;
-  }, (
-  record {
-    call = Calls.Prepare (xid_of_branch two);
-    name = named Kinds.Prepare two;
-    is_known = refl;
-    issue_request_is = refl;
-    issue_asks = refl;
-    answer_request_is = refl;
-    answer_asks = refl;
-  }, tt)))
+  },
+  (
+    record {
+      call = Calls.Start (xid_of_branch two) false;
+      name = named Kinds.Start two;
+      is_known = refl;
+      issue_request_is = refl;
+      issue_asks = refl;
+      answer_request_is = refl;
+      answer_asks = refl;
+    },
+    (
+      record {
+        call = Calls.End (xid_of_branch two) false;
+        name = named Kinds.End two;
+        is_known = refl;
+        issue_request_is = refl;
+        issue_asks = refl;
+        answer_request_is = refl;
+        answer_asks = refl;
+      },
+      (
+        record {
+          call = Calls.Prepare (xid_of_branch two);
+          name = named Kinds.Prepare two;
+          is_known = refl;
+          issue_request_is = refl;
+          issue_asks = refl;
+          answer_request_is = refl;
+          answer_asks = refl;
+        },
+        tt,
+      ),
+    ),
+  ),
 )
 
 pub commit_asks : AskForAll lines_of_commit (line_of one) (Calls.OpenRm ∷ Calls.Commit one false ∷ [])
@@ -171,16 +177,19 @@ commit_asks = (
     issue_asks = refl;
     answer_request_is = refl;
     answer_asks = refl;
-  }, (
-  record {
-    call = Calls.Commit (xid_of_branch one) false;
-    name = named Kinds.Commit one;
-    is_known = refl;
-    issue_request_is = refl;
-    issue_asks = refl;
-    answer_request_is = refl;
-    answer_asks = refl;
-  }, tt)
+  },
+  (
+    record {
+      call = Calls.Commit (xid_of_branch one) false;
+      name = named Kinds.Commit one;
+      is_known = refl;
+      issue_request_is = refl;
+      issue_asks = refl;
+      answer_request_is = refl;
+      answer_asks = refl;
+    },
+    tt,
+  ),
 )
 
 pub begin_asks : asked_in (codes "begin 0") ≡ Some (requests.Begin 0)

@@ -12,13 +12,13 @@ use Rattle.xa_base.specs.declared.refusal.Refusal.TheVariants.{LogFault}
 use Rattle.xa_base.specs.declared.step.Outcome.TheVariants as Outcomes
 use Rattle.xa_log.specs.Content.{Content, with_bump}
 use Rattle.xa_log.specs.Contract.{Honestly, Moment}
-use Rattle.xa_model.specs.Trace.{Branch, Call, Happening.Begun, Happening.Issued, Line, Origin, Trace, line_of}
+use Rattle.xa_model.specs.Trace.{Branch, Call, Happening.Begun, Happening.Issued, Line, Origin, line_of}
 use Rattle.xa_monitor.specs.Explained.{HasOnlyOlderRows, IsExplained}
-use Rattle.xa_monitor.specs.Seen.{KeepsRules, Seen, Seen.Answered, Seen.Did, Seen.Start}
+use Rattle.xa_monitor.specs.Seen.{Seen, Seen.Answered, Seen.Did, Seen.Start}
 use Rattle.xa_names.specs.Laws.{LinesStay}
 use Rattle.xa_outcomes.proofs.WorkedLines.{AskFor, AskForAll, AnswerTold, NoneWaits, answer_told, begin_asks, begin_request_is, commit_asks, decide_request_is, issue_told, no_fault_heard, no_fault_issued, none_answered, none_at_start, none_begun, one_asks, tells_answer, tells_issue, two_asks, waits_first}
 use Rattle.xa_outcomes.proofs.WorkedSessions.{ended_alone, stand_apart}
-use Rattle.xa_outcomes.specs.WorkedSessions.{AreMade, AreWorked, Commits, IsLeftDeciding, IsMade, IsReplied, LeavesDeciding, Spoken, TellThis, at_one, at_two, first_gtrid, lines_of_commit, lines_of_one, lines_of_two, made, told_second, votes_told}
+use Rattle.xa_outcomes.specs.WorkedSessions.{AreMade, AreWorked, Commits, IsLeftDeciding, IsMade, LeavesDeciding, Spoken, TellThis, at_one, at_two, first_gtrid, lines_of_commit, lines_of_one, lines_of_two, made, told_second, votes_told}
 use Rattle.xa_requests.specs.declared.request.Request.{Request}
 use Rattle.xa_requests.specs.declared.request.Request.TheVariants as requests
 use Rattle.xa_requests.specs.declared.response.Response.{Response}
@@ -27,14 +27,12 @@ use Rattle.xa_server.proofs.LogLemmas.{replies_keep}
 use Rattle.xa_server.proofs.TurnLemmas.{both_replied}
 use Rattle.xa_server.proofs.WithoutName.{lines_as_are}
 use Rattle.xa_server.specs.Lines.{asked_in}
-use Rattle.xa_server.specs.NamedLines.{lines_read}
 use Rattle.xa_server.specs.Performing.{Performs}
 use Rattle.xa_server.specs.Serving.{HaveReplies, RepliesBy}
 use Rattle.xa_server.specs.Sessions.{HoldsLeft, IsEmptyLog, IsSession, IsSessionLeft.InRequest, StartsOver}
 use Rattle.xa_server.specs.Telling.{HasName, HaveTold, Tells, TellsBy, is_log_fault}
 use Rattle.xa_server.specs.Tracking.{RepliesAreTracked, TracksReply}
 use Rattle.xa_server.specs.declared.server.Server.{Server}
-use Rattle.xa_session.specs.Logging.{KeepsLog}
 use Rattle.xa_session.specs.Tracking.{KeepsTrack, SessionsAreExplained, StartsAreTracked}
 use Rattle.xa_tm.specs.Begins.{BeginsWith, records_begun, rows_begun}
 use Rattle.xa_tm.specs.Calls.{book_in, log_in}

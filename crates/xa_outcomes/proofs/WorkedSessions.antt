@@ -1,5 +1,5 @@
 -- Two sessions of one log, worked out.
-use Rattle.std.proofs.Common.{◌≡◌, ◌∙◌, inl, inr, ℕ, Bool, true, false, List, [], Some, refl, sym, ap, subst, arith}
+use Rattle.std.proofs.Common.{◌≡◌, ◌∙◌, inl, ℕ, Bool, true, false, List, [], Some, refl, sym, ap, arith}
 use Rattle.std.specs.Prelude.{if◌then◌else◌}
 use Rattle.xa_base.proofs.BranchKeys.{branch_eq-refl, branch_eq-true}
 use Rattle.xa_base.specs.Branch.{branch_eq}
@@ -9,7 +9,6 @@ use Rattle.xa_base.specs.declared.code.Code.TheVariants.{Success}
 use Rattle.xa_base.specs.declared.state.Standing.{Standing}
 use Rattle.xa_base.specs.declared.state.Standing.TheVariants.{Active, Committed, Completed, Idle, Prepared, Unstarted}
 use Rattle.xa_base.specs.declared.vote.Vote.TheVariants.{Yes}
-use Rattle.xa_log.specs.Content.{Content}
 use Rattle.xa_log.specs.Contract.{Moment}
 use Rattle.xa_model.specs.Trace.{Branch, Code, How}
 use Rattle.xa_monitor.specs.Agreement.{MayAllStand.AsTold}

@@ -1,4 +1,4 @@
--- What a session saw of the outcome of a transaction is so, behind all sessions.
+-- What a session saw of the outcome of a transaction is so, after all sessions.
 use Rattle.std.specs.Prelude.{◌≡◌, ◌⊎◌, true, Option, Some, None}
 use Rattle.xa_base.specs.Branch.{branch_eq, gtrid_eq}
 use Rattle.xa_base.specs.StateTable.{Kind, asks_of}
@@ -46,7 +46,7 @@ SaidYes b (Answered seen l (Calls.Prepare c) (Ret Success)) = (branch_eq c b ≡
 SaidYes b (Answered seen l c a) = SaidYes b seen
 SaidYes b (Lost seen l c) = SaidYes b seen
 
--- it was decided to commit, behind the vote XA_OK of this branch of it
+-- it was decided to commit, after the vote XA_OK of this branch of it
 abbrev pub IsDecidedBehind : Branch → Seen → Type 0
 IsDecidedBehind b Start = ⊥
 IsDecidedBehind b (Did seen (Decided h Outcomes.Commit)) = ((gtrid_eq h b.gtrid ≡ true) × SaidYes b seen) ⊎ IsDecidedBehind b seen
@@ -69,7 +69,8 @@ TellsHeuristic b how (Lost seen l c) = TellsHeuristic b how seen
 
 -- ** never decided
 
--- None of these sessions decided to commit it, nor issued an xa_commit in one phase of a branch of it, nor was left in a decision to commit it.
+-- None of these sessions decided to commit it, nor issued an xa_commit in one phase of a branch of
+-- it, nor was left in a decision to commit it.
 abbrev pub WasNeverDecided : Gtrid → (log : Log) (f : Branch → Standing) → AfterSessions log f → Type 0
 WasNeverDecided g _ _ (NoneYet i) = Unit
 WasNeverDecided g _ _ (OneMore log from to o seen fails done cut before found session may) =
@@ -83,14 +84,15 @@ NeverDecidedIsNeverCommitted =
 
 -- ** decided
 
--- One of these sessions decided to commit the branch's transaction, behind the branch's vote XA_OK.
+-- One of these sessions decided to commit the branch's transaction, after the branch's vote XA_OK.
 abbrev pub WasDecided : Branch → (log : Log) (f : Branch → Standing) → AfterSessions log f → Type 0
 WasDecided b _ _ (NoneYet i) = ⊥
 WasDecided b _ _ (OneMore log from to o seen fails done cut before found session may) = IsDecidedBehind b seen ⊎ WasDecided b log from before
 WasDecided b _ _ (Between log from to d how before was final) = WasDecided b log from before
 
--- The branch is committed, or stands prepared still, or its database ended it by itself. No branch of its transaction is rolled back or lost;
--- and as long as one stands prepared, each start over the log finds the row.
+-- The branch is committed, or stands prepared still, or its database ended it by itself. No branch
+-- of its transaction is rolled back or lost; and as long as one stands prepared, each start over
+-- the log finds the row.
 pub record WillCommit (log : Log) (f : Branch → Standing) (b : Branch) : Type 0 where
   pub commits : IsCommitting (f b)
   pub none_undone : (c : Branch) → c.gtrid ≡ b.gtrid → IsUndone (f c) → ⊥
@@ -115,7 +117,7 @@ IsEndedAs how (Completed h) = h ≡ how
 IsEndedAs how (Forgotten h) = h ≡ how
 IsEndedAs how _ = ⊥
 
--- So it is behind all of them, whatever was asked and answered since.
+-- So it is after all of them, whatever was asked and answered since.
 abbrev pub HeuristicEndsStay : Type 0
 HeuristicEndsStay =
     (log : Log) (f : Branch → Standing) (after : AfterSessions log f) (b : Branch) (how : How) → WasToldHeuristic b how log f after

@@ -1,5 +1,5 @@
 -- The one right history of sessions, and which part of it is which session.
-use Rattle.std.specs.Prelude.{ℕ, ◌≡◌, Option}
+use Rattle.std.specs.Prelude.{◌≡◌, Option}
 use Rattle.xa_base.specs.declared.state.Standing.{Standing}
 use Rattle.xa_base.specs.declared.step.Part.TheVariants as Part
 use Rattle.xa_model.specs.Promises.Processes.{resumed}
@@ -26,8 +26,8 @@ pub data GoesOnUntold (told : Trace) : Trace → Type 0 where
 
 -- ** the parts
 
--- A session is the last part of the history: behind its past, what was seen in it, what wasn't told of it yet, and the step in which its log
--- failed, if it did.
+-- A session is the last part of the history: after its past, what was seen in it, what wasn't told
+-- of it yet, and the step in which its log failed, if it did.
 pub record IsPart (o : Origin) (seen : Seen) (fails : Option Fault) (past whole : Trace) : Type 0 where
   pub told : Trace
   pub is_history : IsHistory o seen told
@@ -35,7 +35,8 @@ pub record IsPart (o : Origin) (seen : Seen) (fails : Option Fault) (past whole 
   pub untold : GoesOnUntold told now
   pub joined : whole ≡ continued_by (resumed past o) (failed_in fails now)
 
--- The history is of these sessions, each a part of it, in their order. Between two, and behind the last, only databases did something.
+-- The history is of these sessions, each a part of it, in their order. Between two, and after the
+-- last, only databases did something.
 abbrev pub IsOfSessions : (log : Log) (f : Branch → Standing) → AfterSessions log f → Trace → Type 0
 IsOfSessions _ _ (NoneYet i) whole = whole ≡ nothing_yet i
 IsOfSessions _ _ (OneMore log from to o seen fails done cut before found session may) whole =

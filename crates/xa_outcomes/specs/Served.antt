@@ -1,4 +1,4 @@
--- What a server told of the outcome of a transaction is so, behind all of its sessions.
+-- What a server told of the outcome of a transaction is so, after all of its sessions.
 use Rattle.std.specs.Prelude.{◌≡◌, ◌⊎◌, ℕ, true, List, Option, Some, is_some}
 use Rattle.std.specs.FinMap.{get}
 use Rattle.xa_base.specs.Branch.{gtrid_eq}
@@ -24,7 +24,8 @@ use Rattle.xa_session.specs.Tracking.{IsRaisedFrom}
 
 -- ** the parts of the one history
 
--- A session is the last part of it: what its lines and their replies tell, or that and the answer in which its log failed.
+-- A session is the last part of it: what its lines and their replies tell, or that and the answer
+-- in which its log failed.
 pub record IsServedPart (o : Origin) (told seen : Seen) (past whole : Trace) : Type 0 where
   pub kept : Seen
   pub is_kept : (kept ≡ told) ⊎ (kept ≡ seen)
@@ -66,8 +67,8 @@ IsLeftCommitting moment g told now _ _ AfterLine = ⊥
 IsLeftCommitting moment g told now _ _ (InRequest request left changes performs) = AsksToCommit g request
 IsLeftCommitting moment g told now _ _ (InAnswer t r name code call left waits performs) = ⊥
 
--- None of these sessions told that it was decided to commit, nor that an xa_commit in one phase of a branch of it waits, nor was left in a
--- request to commit it.
+-- None of these sessions told that it was decided to commit, nor that an xa_commit in one phase of
+-- a branch of it waits, nor was left in a request to commit it.
 abbrev pub WasNeverToldDecided : {L : Type 0} (moment : L → Moment) (name : List ℕ) (g : Gtrid) (last : Option (Server L)) (f : Branch → Standing)
     → AreServed moment name last f → Type 0
 WasNeverToldDecided moment name g _ _ NoneYet = Unit
@@ -76,7 +77,8 @@ WasNeverToldDecided moment name g _ _ (OneMore last from to handed o told seen n
     × WasNeverToldDecided moment name g last from before
 WasNeverToldDecided moment name g _ _ (Between last from to d how before was final) = WasNeverToldDecided moment name g last from before
 
--- Then none of its branches is committed. So it may be told as rolled back, and nobody need be asked.
+-- Then none of its branches is committed. So it may be told as rolled back, and nobody need be
+-- asked.
 abbrev pub NeverToldIsNeverCommitted : {L : Type 0} → (L → Moment) → Type 0
 NeverToldIsNeverCommitted {L} moment =
     (name : List ℕ) (last : Server L) (f : Branch → Standing) (c : Content) (served : AreServed moment name (Some last) f) (b : Branch)
@@ -84,7 +86,8 @@ NeverToldIsNeverCommitted {L} moment =
 
 -- ** decided
 
--- One of these sessions told that the branch's transaction was decided to commit, behind the branch's vote XA_OK.
+-- One of these sessions told that the branch's transaction was decided to commit, after the
+-- branch's vote XA_OK.
 abbrev pub WasToldDecided : {L : Type 0} (moment : L → Moment) (name : List ℕ) (b : Branch) (last : Option (Server L)) (f : Branch → Standing)
     → AreServed moment name last f → Type 0
 WasToldDecided moment name b _ _ NoneYet = ⊥
@@ -92,8 +95,9 @@ WasToldDecided moment name b _ _ (OneMore last from to handed o told seen now le
     IsDecidedBehind b told ⊎ WasToldDecided moment name b last from before
 WasToldDecided moment name b _ _ (Between last from to d how before was final) = WasToldDecided moment name b last from before
 
--- The branch is committed, or stands prepared still, or its database ended it by itself. No branch of its transaction is rolled back or lost;
--- and as long as one stands prepared, the log that is left has the row.
+-- The branch is committed, or stands prepared still, or its database ended it by itself. No branch
+-- of its transaction is rolled back or lost; and as long as one stands prepared, the log that is
+-- left has the row.
 pub record WillCommitInLog (f : Branch → Standing) (log : Content) (b : Branch) : Type 0 where
   pub commits : IsCommitting (f b)
   pub none_undone : (c : Branch) → c.gtrid ≡ b.gtrid → IsUndone (f c) → ⊥
@@ -114,7 +118,7 @@ WasToldEndedAlone moment name b how _ _ (OneMore last from to handed o told seen
     TellsHeuristic b how told ⊎ WasToldEndedAlone moment name b how last from before
 WasToldEndedAlone moment name b how _ _ (Between last from to d by before was final) = WasToldEndedAlone moment name b how last from before
 
--- So it is behind all of them.
+-- So it is after all of them.
 abbrev pub ToldHeuristicEndsStay : {L : Type 0} → (L → Moment) → Type 0
 ToldHeuristicEndsStay {L} moment =
     (name : List ℕ) (last : Server L) (f : Branch → Standing) (c : Content) (served : AreServed moment name (Some last) f) (b : Branch) (how : How)

@@ -172,7 +172,8 @@ module _ {L : Type 0} (moment : L → Moment) where
   AreMade [] old new = new ≡ old
   AreMade (s ∷ ss) old new = (mid : Server L) × IsMade s old mid × AreMade ss mid new
 
-  -- The first session: it begins the transaction, hears both votes, and its log fails in the decision.
+  -- The first session: it begins the transaction, hears both votes, and its log fails in the
+  -- decision.
   pub record LeavesDeciding (old left : Server L) : Type 0 where
     pub begun : Server L
     pub begins : IsReplied (codes "begin 0") old (responses.Begun first_gtrid) begun
@@ -198,8 +199,9 @@ module _ {L : Type 0} (moment : L → Moment) where
 
 -- ** what follows
 
--- Of a transaction of two branches, at two databases, the one is committed and the other prepared still after these two sessions, or its
--- database has ended it by itself since: as they are sessions that a server served, the last of them left so.
+-- Of a transaction of two branches, at two databases, the one is committed and the other prepared
+-- still after these two sessions, or its database has ended it by itself since: as they are
+-- sessions that a server served, the last of them left so.
 pub record AreWorked {L : Type 0} (moment : L → Moment) (last : Server L) : Type 0 where
   pub stand : MayStandApart moment [] first_gtrid last
   pub ended : (how : How) → AreServed moment [] (Some last) (stand_at first_gtrid Committed (Completed how))

@@ -1,4 +1,4 @@
-//! What is so behind all sessions. These functions do nothing: each contract is a theorem.
+//! What is so after all sessions. These functions do nothing: each contract is a theorem.
 
 ghost use Rattle.xa_outcomes.specs.Outcomes.{DecidedWillCommit, HeuristicEndsStay};
 ghost use Rattle.xa_outcomes.specs.Outcomes.{NeverDecidedIsNeverCommitted};
@@ -11,13 +11,13 @@ use xa_session::laws::{sessions_are_explained, starts_find_the_log, waiting_call
 use xa_tm::laws::starts_are_histories;
 
 /// Of sessions one after another there is one right history, and each of them is a part of it, in
-/// their order: behind what was seen in a session comes what wasn't told of it, calls that were done
+/// their order: after what was seen in a session comes what wasn't told of it, calls that were done
 /// and lines that broke, and the step in which its log failed, if it did.
 pub fn sessions_are_parts()
     ensures { SessionsAreParts }
 {}
 
-/// What a session decided, and what none decided, is so behind all sessions, over databases that
+/// What a session decided, and what none decided, is so after all sessions, over databases that
 /// obey the branch state table.
 ///
 /// - `never`: a transaction that none of them decided to commit, nor was left in a decision of, nor
@@ -30,9 +30,9 @@ pub fn decisions_stand()
     ensures decided { DecidedWillCommit }
 {}
 
-/// If the answer to a call on a branch told that its database had ended it by itself, and how, it is
-/// so behind all sessions, whatever was asked and answered since: the database reports that end, or
-/// was told to forget it.
+/// If the answer to a call on a branch told that its database had ended it by itself, and how, it
+/// is so after all sessions, whatever was asked and answered since: the database reports that end,
+/// or was told to forget it.
 pub fn heuristic_ends_stay()
     ensures { HeuristicEndsStay }
 {}

@@ -1,4 +1,4 @@
-//! What a session saw of a transaction's outcome is so, behind all sessions. The functions of
+//! What a session saw of a transaction's outcome is so, after all sessions. The functions of
 //! [`laws`] do nothing: their contracts are theorems. [`worked_sessions`] shows two sessions of
 //! which what is supposed can be met.
 //!

@@ -93,7 +93,11 @@ fn make<L: DecisionLog + Drop>(
         return Err(WorkedFault::Reply);
     }
     let heard = tell(alloc, server, answer)?;
-    if is_heard(&heard) { Ok(()) } else { Err(WorkedFault::Reply) }
+    if is_heard(&heard) {
+        Ok(())
+    } else {
+        Err(WorkedFault::Reply)
+    }
 }
 
 /// Prepares the branch at the one database.
@@ -172,7 +176,11 @@ fn decide_it<L: DecisionLog + Drop>(
     }
     prepare_one(alloc, server)?;
     prepare_two(alloc, server)?;
-    match tell(alloc, server, "decide 00000000000000010000000000000001 commit")? {
+    match tell(
+        alloc,
+        server,
+        "decide 00000000000000010000000000000001 commit",
+    )? {
         Response::Refused(Refusal::LogFault) => Ok(()),
         _ => Err(WorkedFault::Reply),
     }
@@ -224,12 +232,15 @@ fn second_session<L: DecisionLog + Drop>(alloc: Global, log: L) -> Result<Server
 
 /// What is supposed of sessions can be met. Over a new log whose first commit fails with its row
 /// written, a server begins a transaction with a branch at each of two databases, hears both votes,
-/// and is left in its decision; a second one over that log finds the row and has one of the branches
-/// committed. Then that one is committed and the other prepared still, as the branches of such
-/// sessions may stand (`AreServed`), or its database has ended it by itself since.
+/// and is left in its decision; a second one over that log finds the row and has one of the
+/// branches committed. Then that one is committed and the other prepared still, as the branches of
+/// such sessions may stand (`AreServed`), or its database has ended it by itself since.
 ///
 /// It gives the server that is left. Over another log it is `Reply`.
-pub fn worked_sessions<L: DecisionLog + Drop>(alloc: Global, log: L) -> Result<Server<L>, WorkedFault>
+pub fn worked_sessions<L: DecisionLog + Drop>(
+    alloc: Global,
+    log: L,
+) -> Result<Server<L>, WorkedFault>
     ensures worked { IfOk result (λ last.
         Honestly (L.moment log) (L.moment (log_in last.session.manager))
         (IsSomeAnd (L.moment log).content IsEmptyLog → AreWorked L.moment last)) }
