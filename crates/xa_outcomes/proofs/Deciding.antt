@@ -31,9 +31,9 @@ use Rattle.xa_model.specs.Protocol.{AllRight, SoundAnswer, call_code}
 use Rattle.xa_model.specs.Trace.{Answer, Branch, Call, Fault, Fault.InDecide, Fault.InHear, Gtrid, Happening, Happening.CompletedAlone, Happening.Crashed, Happening.Decided, Happening.Failed, Happening.Heard, Happening.Issued, Happening.PutOff, Happening.Restarted, Happening.Took, Happening.Voted, Code, How, Line, Origin, Trace, Trace.From, Trace.Then, Vote}
 use Rattle.xa_monitor.specs.Across.{continued_by}
 use Rattle.xa_monitor.specs.Seen.{Alone, Alone.Ends, Alone.NoMore as AloneNoMore, Alone.PutsOff, Alone.Votes, IsHistory, IsHistory.Does, IsHistory.Hears, IsHistory.Loses, IsHistory.LosesAnswer, IsHistory.Starts, IsManagers, KeepsRules, Seen, Seen.Answered, Seen.Did, Seen.Lost, break_of}
-use Rattle.xa_monitor.specs.Sessions.{AfterSessions, AfterSessions.Between, AfterSessions.NoneYet, AfterSessions.OneMore, IsCommitting, Log, failed_in}
+use Rattle.xa_monitor.specs.Sessions.{AfterSessions, AfterSessions.Between, AfterSessions.NoneYet, AfterSessions.OneMore, IsCommitting, Log, failed_in, nothing_yet}
 use Rattle.xa_outcomes.proofs.Reached.{IsMade, made}
-use Rattle.xa_outcomes.specs.Outcomes.{DecidedWillCommit, HeuristicEndsStay, IsAskedOf, IsDecided, IsDecidedBehind, IsEndedAs, IsHandedOver, IsLeftDeciding, NeverDecidedIsNeverCommitted, SaidYes, TellsHeuristic, WasNeverDecided, WillCommit}
+use Rattle.xa_outcomes.specs.Outcomes.{DecidedWillCommit, FoundWillCommit, HasSaidYes, HeuristicEndsStay, IsAskedOf, IsDecided, IsDecidedBehind, IsEndedAs, IsHandedOver, IsLeftDeciding, IsUndecidedSoFar, NeverDecidedIsNeverCommitted, SaidYes, TellsHeuristic, UndecidedIsUncommitted, WasFoundVoted, WasNeverDecided, WillCommit}
 use Rattle.xa_outcomes.specs.Parts.{GoesOnUntold, GoesOnUntold.Goes, GoesOnUntold.NoMore, IsOfSessions, IsUntold, SessionsAreParts}
 
 -- ** the one history
@@ -228,6 +228,19 @@ saw o _ _ g keeps (Hears seen tr now l c a i alone) r = saw o seen tr g keeps.0 
 saw o _ _ g keeps (Loses seen tr l c i) r = saw o seen tr g keeps.0 i r
 saw o _ _ g keeps (LosesAnswer seen tr now l c a i alone) r = saw o seen tr g keeps.0 i (alone_some tr now g alone r)
 
+-- a row was written, or an xa_commit in one phase issued
+abbrev HadOrHanded : Trace → Gtrid → Type 0
+HadOrHanded tr g = (had_row tr g ≡ true) ⊎ (handed_over tr g ≡ true)
+
+had_or_handed_some : (tr : Trace) (g : Gtrid) → HadOrHanded tr g → some_commit tr g ≡ true
+had_or_handed_some tr g (inl had) = had_some tr g had
+had_or_handed_some tr g (inr handed) = handed_some tr g handed
+
+-- not by a step in which the log failed
+not_failed : (fails : Option Fault) (p now : Trace) (g : Gtrid) → HadOrHanded (continued_by p (failed_in fails now)) g → HadOrHanded (continued_by p now) g
+not_failed None p now g r = r
+not_failed (Some f) p now g r = r
+
 never_some : (g : Gtrid) (log : Log) (f : Branch → Standing) (after : AfterSessions log f) (whole : Trace) → IsOfSessions log f after whole
     → WasNeverDecided g log f after → some_commit whole g ≡ true → ⊥
 never_some g _ _ (NoneYet i) whole is never r = true≢false (sym r ∙ ap (λ t. some_commit t g) is)
@@ -261,6 +274,31 @@ never_committed log f after b never e = by (committed_so log f after m b e)
     by : (had_row m.whole b.gtrid ≡ true) ⊎ (handed_over m.whole b.gtrid ≡ true) → ⊥
     by (inl had) = no (had_some m.whole b.gtrid had)
     by (inr handed) = no (handed_some m.whole b.gtrid handed)
+
+so_far_some : (g : Gtrid) (log : Log) (f : Branch → Standing) (after : AfterSessions log f) (whole : Trace) → IsOfSessions log f after whole
+    → IsUndecidedSoFar g log f after → (had_row whole g ≡ true) ⊎ (handed_over whole g ≡ true) → ⊥
+so_far_some g _ _ (NoneYet i) whole is so_far r = by (had_or_handed_some (nothing_yet i) g (subst (λ t. HadOrHanded t g) is r))
+  where
+    by : some_commit (nothing_yet i) g ≡ true → ⊥
+    by e = true≢false (sym e)
+so_far_some g _ _ (OneMore log from to o seen fails done cut before found session may) whole (past, parts, part) so_far r =
+    by (continued_some (resumed past o) part.now g
+    (had_or_handed_some (continued_by (resumed past o) part.now) g
+    (not_failed fails (resumed past o) part.now g (subst (λ t. HadOrHanded t g) part.joined r))))
+  where
+    was_seen : SawCommit g seen → ⊥
+    was_seen (inl decided) = so_far.0 decided
+    was_seen (inr handed) = so_far.1 handed
+
+    by : (some_commit past g ≡ true) ⊎ (commit_in part.now g ≡ true) → ⊥
+    by (inl before_it) = never_some g log from before past parts so_far.2 before_it
+    by (inr in_it) = was_seen (saw o seen part.told g session.keeps part.is_history (untold_some part.told part.now g part.untold in_it))
+so_far_some g _ _ (Between log from to d how before was final) whole (past, parts, is) so_far r =
+    so_far_some g log from before past parts so_far (subst (λ t. HadOrHanded t g) is r)
+
+pub uncommitted : UndecidedIsUncommitted
+uncommitted log f after b so_far e =
+    let m = made log f after in so_far_some b.gtrid log f after m.whole m.parts so_far (committed_so log f after m b e)
 
 -- ** what each right happening keeps
 
@@ -492,6 +530,40 @@ module _ (Saw : Seen → Type 0) (Q : Trace → Type 0) (step : (tr : Trace) (e 
       let all : AllRight (Then past (CompletedAlone d how)) = subst AllRight is right in
       subst Q (sym is) (step past (CompletedAlone d how) all (some_lasts log from before past parts all.0 decided))
 
+found_lasts : (b : Branch) (log : Log) (f : Branch → Standing) (after : AfterSessions log f) (whole : Trace) → IsOfSessions log f after whole
+    → AllRight whole → WasFoundVoted b log f after → IsToCommit b whole
+found_lasts b _ _ (NoneYet i) whole is right was = absurd was
+found_lasts b _ _ (OneMore log from to o seen fails done cut before found session may) whole (past, parts, part) right was =
+    subst (IsToCommit b) (sym part.joined)
+    (on_continued (IsToCommit b) (commit_step b) (resumed past o) (failed_in fails part.now) all (by (found_lasts b log from before past parts all_past) was))
+  where
+    all : AllRight (continued_by (resumed past o) (failed_in fails part.now))
+    all = subst AllRight part.joined right
+
+    resumes : AllRight (resumed past o)
+    resumes = right_past (resumed past o) (failed_in fails part.now) all
+
+    all_past : AllRight past
+    all_past = resumes.0.0
+
+    by : (WasFoundVoted b log from before → IsToCommit b past) → ((lists_row o.rows b.gtrid ≡ true) × HasSaidYes b log from before) ⊎ WasFoundVoted b log from before
+        → IsToCommit b (resumed past o)
+    by rest (inl (row, said)) =
+        let voted =
+        some_lasts (SaidYes b) (HasVoted b) (voted_step b) (λ p o seen told i right s. said_so p b o seen told i right s) log from before past parts all_past said in
+        record {
+          prepared = prepared_step b (gone past) (Restarted o.incarnation (length o.rows) (length o.heuristic_rows)) resumes
+              (prepared_step b past (Crashed Part.Manager) resumes.0 voted.prepared);
+          had = (always (resumed past o) resumes).row_rowed b.gtrid
+              (sym (same_listed o.rows (rows_of (resumed past o)) part.finds.rows b.gtrid) ∙ row);
+        }
+    by rest (inr earlier) =
+        commit_step b (gone past) (Restarted o.incarnation (length o.rows) (length o.heuristic_rows)) resumes
+        (commit_step b past (Crashed Part.Manager) resumes.0 (rest earlier))
+found_lasts b _ _ (Between log from to d how before was final) whole (past, parts, is) right found =
+    let all : AllRight (Then past (CompletedAlone d how)) = subst AllRight is right in
+    subst (IsToCommit b) (sym is) (commit_step b past (CompletedAlone d how) all (found_lasts b log from before past parts all.0 found))
+
 -- a branch that was prepared, and isn't undone nor only read, commits
 good_commits : (s : Standing) → WasPrepared s → IsGood s → IsCommitting s
 good_commits Prepared w g = tt
@@ -554,6 +626,9 @@ module _ (log : Log) (f : Branch → Standing) (after : AfterSessions log f) (m 
         (rowed_kept (gone m.whole) (Restarted next.incarnation (length next.rows) (length next.heuristic_rows)) b.gtrid here.had)
         (m.there c ∙ ap broken prepared);
   }
+
+pub found_commits : FoundWillCommit
+found_commits log f after b was = let m = made log f after in to_commit log f after m b (found_lasts b log f after m.whole m.parts m.right was)
 
 pub will_commit : DecidedWillCommit
 will_commit log f after b was =

@@ -203,7 +203,11 @@ module _ (log : Log) (from to : Branch → Standing) (before : AfterSessions log
     named = λ b unfit. let n = last_named b unfit in
         (stands_so b ∙ n.0, sym (both.1.held.votes b) ∙ n.1, sym (both.1.held.retries b) ∙ n.2);
     finds = finds_it;
-    parts = (past, r.parts, record { told = x.told; is_history = told_history; now = x.now; untold = y.untold; joined = refl });
+    parts = (
+      past,
+      r.parts,
+      record { finds = found_log; told = x.told; is_history = told_history; now = x.now; untold = y.untold; joined = refl },
+    );
   }
 
 -- ** between two

@@ -1,12 +1,15 @@
 -- Sessions that a server serves are sessions one after another, and what they tell is what is seen
 -- in these.
-use Rattle.std.proofs.Common.{◌≡◌, ◌⊎◌, inl, inr, ℕ, true, List, [], ◌∷◌, ◌++◌, Option, Some, None, refl, subst}
+use Rattle.std.proofs.Common.{◌≡◌, ◌∙◌, ◌⊎◌, inl, inr, ℕ, true, List, [], ◌∷◌, ◌++◌, Option, Some, None, refl, sym, ap, subst}
+use Rattle.std.specs.FinMap.{get}
+use Rattle.std.specs.Prelude.{is_some}
 use Rattle.xa_base.specs.StateTable.{broken}
 use Rattle.xa_base.specs.declared.answer.Answer.TheVariants.{Ret}
 use Rattle.xa_base.specs.declared.branch.Gtrid.{Gtrid}
 use Rattle.xa_base.specs.declared.state.Standing.{Standing}
 use Rattle.xa_log.specs.Content.{Content}
 use Rattle.xa_log.specs.Contract.{Moment}
+use Rattle.xa_model.specs.Facts.{lists_row}
 use Rattle.xa_model.specs.Trace.{Answer, Branch, Call, Fault, Line, Origin, Trace, line}
 use Rattle.xa_monitor.proofs.Chains.{reached, untold}
 use Rattle.xa_monitor.proofs.ReachedStandings.{explained}
@@ -15,18 +18,20 @@ use Rattle.xa_monitor.specs.Seen.{Seen, Seen.Answered}
 use Rattle.xa_monitor.specs.Sessions.{AfterSessions, AfterSessions.Between as Ends_between, AfterSessions.NoneYet as No_session, AfterSessions.OneMore as One_session, Finds, IsSession as Is_session, Log, Log.Empty, Log.LeftBy, MayFail, WasFoundDecided}
 use Rattle.xa_monitor.specs.Standings.{Comes}
 use Rattle.xa_outcomes.proofs.FailedRequests.{fails_as_asked}
-use Rattle.xa_outcomes.specs.Outcomes.{IsDecided, IsHandedOver, IsLeftDeciding, WasNeverDecided}
+use Rattle.xa_outcomes.specs.Outcomes.{IsDecided, IsHandedOver, IsLeftDeciding, IsUndecidedSoFar, WasNeverDecided}
 use Rattle.xa_outcomes.specs.Parts.{IsOfSessions}
-use Rattle.xa_outcomes.specs.Served.{IsLeftCommitting, IsOfServed, WasNeverToldDecided}
+use Rattle.xa_outcomes.specs.Served.{IsLeftCommitting, IsOfServed, IsUntoldSoFar, WasNeverToldDecided}
 use Rattle.xa_server.proofs.Failures.{IsFailedToHear, failed_in_answer}
 use Rattle.xa_server.proofs.LogLemmas.{same_keeps}
 use Rattle.xa_server.proofs.LogStarts.{empty_found}
 use Rattle.xa_server.proofs.SessionChains.{Laws, knows, line_is, old, on_branches, raised, tied}
 use Rattle.xa_server.specs.Sessions.{AreServed, AreServed.Between, AreServed.NoneYet, AreServed.OneMore, HoldsLeft, IsHandedOn, IsSession, IsSessionLeft, IsSessionLeft.AfterLine, IsSessionLeft.InAnswer, IsSessionLeft.InRequest, WasLeft}
+use Rattle.xa_server.specs.Votes.{IsLogged}
 use Rattle.xa_server.specs.declared.server.Server.{Server}
 use Rattle.xa_session.proofs.FailedAnswers.{fit_line}
 use Rattle.xa_session.specs.Logging.{KeepsLog}
 use Rattle.xa_session.specs.Tracking.{IsFailedAnswer, IsRaisedFrom}
+use Rattle.xa_tm.proofs.History.OneMore.{lists_is}
 use Rattle.xa_tm.specs.BookAndLog.{IsTied}
 use Rattle.xa_tm.specs.Calls.{book_in, log_in}
 
@@ -36,13 +41,38 @@ SawIn Saw _ _ (No_session i) = ⊥
 SawIn Saw _ _ (One_session log from to o seen fails done cut before found session may) = Saw seen ⊎ SawIn Saw log from before
 SawIn Saw _ _ (Ends_between log from to d how before was final) = SawIn Saw log from before
 
+-- one of them found a row of the transaction, and one before it saw it
+abbrev pub FoundIn : (Seen → Type 0) → Gtrid → (log : Log) (f : Branch → Standing) → AfterSessions log f → Type 0
+FoundIn Saw g _ _ (No_session i) = ⊥
+FoundIn Saw g _ _ (One_session log from to o seen fails done cut before found session may) =
+    ((lists_row o.rows g ≡ true) × SawIn Saw log from before) ⊎ FoundIn Saw g log from before
+FoundIn Saw g _ _ (Ends_between log from to d how before was final) = FoundIn Saw g log from before
+
+-- the row of a log that was handed on is one of the start
+logged_row : (content : Option Content) (d : Content) (g : Gtrid) → content ≡ Some d → IsLogged content g → is_some (get d.decisions g) ≡ true
+logged_row None d g has row = absurd row
+logged_row (Some c) d g has row = subst (λ e. is_some (get e.decisions g) ≡ true) (let same : c ≡ d = cc in same) row
+
 module _ {L : Type 0} (moment : L → Moment) (name : List ℕ) where
+  listed_row : (was_left : Content) (handed : L) (o : Origin) (g : Gtrid) → HoldsLeft moment was_left handed → IsRaisedFrom was_left o
+      → IsLogged (moment handed).content g → lists_row o.rows g ≡ true
+  listed_row was_left handed o g has_left start row =
+      lists_is o.rows g ∙ ap is_some (start.has.rows g)
+      ∙ ap (λ m. is_some (get m g)) (start.rows ∙ sym has_left.same.decisions)
+      ∙ logged_row (moment handed).content has_left.content g has_left.has row
+
   -- the same of sessions that a server serves
   abbrev pub ToldIn : (Seen → Type 0) → (last : Option (Server L)) (f : Branch → Standing) → AreServed moment name last f → Type 0
   ToldIn Saw _ _ NoneYet = ⊥
   ToldIn Saw _ _ (OneMore last from to handed o told seen now left done cut before handed_on is is_left honest may) =
       Saw told ⊎ ToldIn Saw last from before
   ToldIn Saw _ _ (Between last from to d how before was final) = ToldIn Saw last from before
+
+  abbrev pub FoundToldIn : (Seen → Type 0) → Gtrid → (last : Option (Server L)) (f : Branch → Standing) → AreServed moment name last f → Type 0
+  FoundToldIn Saw g _ _ NoneYet = ⊥
+  FoundToldIn Saw g _ _ (OneMore last from to handed o told seen now left done cut before handed_on is is_left honest may) =
+      (IsLogged (moment handed).content g × ToldIn Saw last from before) ⊎ FoundToldIn Saw g last from before
+  FoundToldIn Saw g _ _ (Between last from to d how before was final) = FoundToldIn Saw g last from before
 
   module _ (laws : Laws L) (Saw : Seen → Type 0) (still : (seen : Seen) (l : Line) (c : Call) (a : Answer) → Saw seen → Saw (Answered seen l c a))
       (g : Gtrid) where
@@ -52,13 +82,16 @@ module _ {L : Type 0} (moment : L → Moment) (name : List ℕ) where
       pub after : AfterSessions log f
       pub finds : Finds log next
       pub some : ToldIn Saw last f served → SawIn Saw log f after
+      pub found : FoundToldIn Saw g last f served → FoundIn Saw g log f after
       pub never : WasNeverToldDecided moment name g last f served → WasNeverDecided g log f after
+      pub so_far : IsUntoldSoFar moment name g last f served → IsUndecidedSoFar g log f after
       pub parts : (whole : Trace) → IsOfSessions log f after whole → IsOfServed moment name last f served whole
 
     module _ (last : Option (Server L)) (from to : Branch → Standing) (handed : L) (o : Origin) (told : Seen) (now : Server L)
         (before : AreServed moment name last from) (handed_on : IsHandedOn moment last handed) (is : IsSession moment name handed o told now) (seen : Seen) (left : Server L)
         (is_left : IsSessionLeft moment told now seen left) (honest : (moment (log_in left.session.manager)).is_honest) (done cut : List Line)
-        (may : MayAllStand o seen (λ b. Comes seen b (broken (from b))) done cut to) (prior : GoesOnFrom last from before o) where
+        (may : MayAllStand o seen (λ b. Comes seen b (broken (from b))) done cut to) (prior : GoesOnFrom last from before o)
+        (lists : IsLogged (moment handed).content g → lists_row o.rows g ≡ true) where
       abbrev all : AreServed moment name (Some left) to
       all = OneMore last from to handed o told seen now left done cut before handed_on is is_left honest may
 
@@ -72,13 +105,20 @@ module _ {L : Type 0} (moment : L → Moment) (name : List ℕ) where
         after = One_session prior.log from to o kept fails done cut prior.after prior.finds session may;
         finds = finds;
         some = some_so;
+        found = found_so;
         never = λ n. (λ d. n.0 (decided d), λ h. n.1 (handed_over h), λ x. n.2 (asked x), prior.never n.3);
+        so_far = λ n. (λ d. n.0 (decided d), λ h. n.1 (handed_over h), prior.never n.2);
         parts = λ whole of. (of.0, prior.parts of.0 of.1, record { kept = kept; is_kept = is_kept; fails = fails; part = of.2 });
       }
         where
           some_so : Saw told ⊎ ToldIn Saw last from before → Saw kept ⊎ SawIn Saw prior.log from prior.after
           some_so (inl s) = inl (saw s)
           some_so (inr e) = inr (prior.some e)
+
+          found_so : (IsLogged (moment handed).content g × ToldIn Saw last from before) ⊎ FoundToldIn Saw g last from before
+              → ((lists_row o.rows g ≡ true) × SawIn Saw prior.log from prior.after) ⊎ FoundIn Saw g prior.log from prior.after
+          found_so (inl x) = inl (lists x.0, prior.some x.1)
+          found_so (inr e) = inr (prior.found e)
 
     module _ (last : Option (Server L)) (from to : Branch → Standing) (handed : L) (o : Origin) (told : Seen) (now : Server L)
         (before : AreServed moment name last from) (handed_on : IsHandedOn moment last handed) (is : IsSession moment name handed o told now)
@@ -91,6 +131,11 @@ module _ {L : Type 0} (moment : L → Moment) (name : List ℕ) where
           → GoesOnFrom last from before o
       before_it left keeps honest =
           prior handed_on.left handed_on.was_left o (raised moment laws name handed o told now is handed_on.left has_left left keeps honest)
+
+      lists_so : (left : Server L) → KeepsLog moment now.session.manager left.session.manager → (moment (log_in left.session.manager)).is_honest
+          → IsLogged (moment handed).content g → lists_row o.rows g ≡ true
+      lists_so left keeps honest row =
+          listed_row handed_on.left handed o g has_left (raised moment laws name handed o told now is handed_on.left has_left left keeps honest) row
 
       tied_so : (left : Server L) → KeepsLog moment now.session.manager left.session.manager → (moment (log_in left.session.manager)).is_honest
           → (c : Content) → WasLeft moment (Some left) c → IsTied true (book_in left.session.manager) (Some c)
@@ -110,13 +155,13 @@ module _ {L : Type 0} (moment : L → Moment) (name : List ℕ) where
           → GoesOnFrom (Some left) to (OneMore last from to handed o told seen now left done cut before handed_on is is_left honest may) next
       one_on _ _ AfterLine honest done cut may c was next from_c =
           let keeps = same_keeps moment now now refl in
-          on last from to handed o told now before handed_on is told now AfterLine honest done cut may (before_it now keeps honest)
+          on last from to handed o told now before handed_on is told now AfterLine honest done cut may (before_it now keeps honest) (lists_so now keeps honest)
           told (inl refl) (λ s. s) (λ d. d) (λ h. h) None (λ x. x) (session_so None tt) done cut may next
           (laws.left o told now.session c next is.tracks (tied_so now keeps honest c was) from_c)
       one_on _ _ (InRequest request left asks performs) honest done cut may c was next from_c =
           let failed = fails_as_asked moment laws.decision laws.settlement laws.done o told now left is.tracks g request asks performs in
           on last from to handed o told now before handed_on is told left (InRequest request left asks performs) honest done cut may
-          (before_it left performs.keeps honest)
+          (before_it left performs.keeps honest) (lists_so left performs.keeps honest)
           told (inl refl) (λ s. s) (λ d. d) (λ h. h) (Some failed.fault) failed.as_asked (session_so (Some failed.fault) failed.fails.step.may_fail) done cut may
           next
           (failed.fails.step.finds c next (subst (λ k. IsTied true k (Some c)) failed.fails.book (tied_so left performs.keeps honest c was)) from_c)
@@ -158,12 +203,12 @@ module _ {L : Type 0} (moment : L → Moment) (name : List ℕ) where
               (InAnswer t r named code call left waits performs) honest may) next
           either (inl finds) =
               on last from to handed o told now before handed_on is (Answered told (line t r) call (Ret code)) left
-              (InAnswer t r named code call left waits performs) honest done cut may prior_so
+              (InAnswer t r named code call left waits performs) honest done cut may prior_so (lists_so left performs.keeps honest)
               (Answered told (line t r) call (Ret code)) (inr refl) (still told (line t r) call (Ret code)) (λ d. d) (λ h. h) None (λ x. x) session done cut may
               next finds
           either (inr finds) =
               on last from to handed o told now before handed_on is (Answered told (line t r) call (Ret code)) left
-              (InAnswer t r named code call left waits performs) honest done cut may prior_so
+              (InAnswer t r named code call left waits performs) honest done cut may prior_so (lists_so left performs.keeps honest)
               told (inl refl) (λ s. s) (λ d. d) (λ h. h) None (λ x. x) (session_so None tt) (done ++ line t r ∷ []) cut may_before next finds
 
     -- ** all of them
@@ -175,7 +220,9 @@ module _ {L : Type 0} (moment : L → Moment) (name : List ℕ) where
       after = No_session 0;
       finds = empty_found c next was from_c;
       some = λ told. told;
+      found = λ told. told;
       never = λ n. n;
+      so_far = λ n. n;
       parts = λ whole of. of;
     }
     all_on _ _ (OneMore last from to handed o told seen now left done cut before handed_on is is_left honest may) c was next from_c =
@@ -187,6 +234,8 @@ module _ {L : Type 0} (moment : L → Moment) (name : List ℕ) where
           after = Ends_between b.log from to d how b.after was_prepared final;
           finds = b.finds;
           some = b.some;
+          found = b.found;
           never = b.never;
+          so_far = b.so_far;
           parts = λ whole of. (of.0, b.parts of.0 of.1, of.2);
         }

@@ -82,6 +82,18 @@ abbrev pub NeverDecidedIsNeverCommitted : Type 0
 NeverDecidedIsNeverCommitted =
     (log : Log) (f : Branch → Standing) (after : AfterSessions log f) (b : Branch) → WasNeverDecided b.gtrid log f after → f b ≡ Committed → ⊥
 
+-- The same, except that the last of them may have been left in such a decision.
+abbrev pub IsUndecidedSoFar : Gtrid → (log : Log) (f : Branch → Standing) → AfterSessions log f → Type 0
+IsUndecidedSoFar g _ _ (NoneYet i) = Unit
+IsUndecidedSoFar g _ _ (OneMore log from to o seen fails done cut before found session may) =
+    (IsDecided g seen → ⊥) × (IsHandedOver g seen → ⊥) × WasNeverDecided g log from before
+IsUndecidedSoFar g _ _ (Between log from to d how before was final) = IsUndecidedSoFar g log from before
+
+-- Then none of its branches is committed yet.
+abbrev pub UndecidedIsUncommitted : Type 0
+UndecidedIsUncommitted =
+    (log : Log) (f : Branch → Standing) (after : AfterSessions log f) (b : Branch) → IsUndecidedSoFar b.gtrid log f after → f b ≡ Committed → ⊥
+
 -- ** decided
 
 -- One of these sessions decided to commit the branch's transaction, after the branch's vote XA_OK.
@@ -101,6 +113,25 @@ pub record WillCommit (log : Log) (f : Branch → Standing) (b : Branch) : Type 
 abbrev pub DecidedWillCommit : Type 0
 DecidedWillCommit =
     (log : Log) (f : Branch → Standing) (after : AfterSessions log f) (b : Branch) → WasDecided b log f after → WillCommit log f b
+
+-- One of these sessions saw the branch's vote XA_OK.
+abbrev pub HasSaidYes : Branch → (log : Log) (f : Branch → Standing) → AfterSessions log f → Type 0
+HasSaidYes b _ _ (NoneYet i) = ⊥
+HasSaidYes b _ _ (OneMore log from to o seen fails done cut before found session may) = SaidYes b seen ⊎ HasSaidYes b log from before
+HasSaidYes b _ _ (Between log from to d how before was final) = HasSaidYes b log from before
+
+-- One of these sessions found the row of the branch's transaction, and one before it had seen the
+-- branch's vote XA_OK.
+abbrev pub WasFoundVoted : Branch → (log : Log) (f : Branch → Standing) → AfterSessions log f → Type 0
+WasFoundVoted b _ _ (NoneYet i) = ⊥
+WasFoundVoted b _ _ (OneMore log from to o seen fails done cut before found session may) =
+    ((lists_row o.rows b.gtrid ≡ true) × HasSaidYes b log from before) ⊎ WasFoundVoted b log from before
+WasFoundVoted b _ _ (Between log from to d how before was final) = WasFoundVoted b log from before
+
+-- So will it be then.
+abbrev pub FoundWillCommit : Type 0
+FoundWillCommit =
+    (log : Log) (f : Branch → Standing) (after : AfterSessions log f) (b : Branch) → WasFoundVoted b log f after → WillCommit log f b
 
 -- ** ended by a database
 

@@ -6,7 +6,7 @@ use Rattle.xa_model.specs.Promises.Processes.{resumed}
 use Rattle.xa_model.specs.Trace.{Branch, Fault, Happening, Happening.CompletedAlone, Happening.Crashed, Happening.PutOff, Happening.Took, Happening.Voted, Origin, Trace, Trace.Then}
 use Rattle.xa_monitor.specs.Across.{continued_by}
 use Rattle.xa_monitor.specs.Seen.{IsHistory, Seen}
-use Rattle.xa_monitor.specs.Sessions.{AfterSessions, AfterSessions.Between, AfterSessions.NoneYet, AfterSessions.OneMore, HaveOneHistory, Log, failed_in, nothing_yet}
+use Rattle.xa_monitor.specs.Sessions.{AfterSessions, AfterSessions.Between, AfterSessions.NoneYet, AfterSessions.OneMore, FindsLog, HaveOneHistory, Log, failed_in, nothing_yet}
 
 -- ** what wasn't told
 
@@ -26,9 +26,11 @@ pub data GoesOnUntold (told : Trace) : Trace → Type 0 where
 
 -- ** the parts
 
--- A session is the last part of the history: after its past, what was seen in it, what wasn't told
--- of it yet, and the step in which its log failed, if it did.
+-- A session is the last part of the history. Its start finds the rows and records of its past; then
+-- comes what was seen in it, what wasn't told of it yet, and the step in which its log failed, if it
+-- did.
 pub record IsPart (o : Origin) (seen : Seen) (fails : Option Fault) (past whole : Trace) : Type 0 where
+  pub finds : FindsLog past o
   pub told : Trace
   pub is_history : IsHistory o seen told
   pub now : Trace

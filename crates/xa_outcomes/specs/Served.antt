@@ -1,26 +1,35 @@
 -- What a server told of the outcome of a transaction is so, after all of its sessions.
-use Rattle.std.specs.Prelude.{◌≡◌, ◌⊎◌, ℕ, true, List, Option, Some, is_some}
+use Rattle.std.specs.Prelude.{◌≡◌, ◌≤◌, ◌⊎◌, ℕ, true, List, map, Option, Some, is_some}
 use Rattle.std.specs.FinMap.{get}
-use Rattle.xa_base.specs.Branch.{gtrid_eq}
+use Rattle.std.specs.Global.{Vec}
+use Rattle.xa_base.specs.Branch.{branch_cmp, gtrid_eq, xid_of_branch}
+use Rattle.xa_base.specs.Xid.{Xid}
 use Rattle.xa_base.specs.declared.branch.Gtrid.{Gtrid}
 use Rattle.xa_base.specs.declared.state.Standing.{Standing}
 use Rattle.xa_base.specs.declared.state.Standing.TheVariants.{Committed, Prepared}
 use Rattle.xa_base.specs.declared.step.Outcome.TheVariants as Outcomes
 use Rattle.xa_log.specs.Content.{Content}
 use Rattle.xa_log.specs.Contract.{Moment}
+use Rattle.xa_log.specs.KeySet.{KeySet, contains, items}
 use Rattle.xa_model.specs.Facts.{has_gtrid}
 use Rattle.xa_model.specs.Promises.Agreement.{IsUndone}
 use Rattle.xa_model.specs.Trace.{Branch, Fault, Happening.CompletedAlone, How, Origin, Trace, Trace.Then}
 use Rattle.xa_monitor.specs.Seen.{Seen}
 use Rattle.xa_monitor.specs.Sessions.{IsCommitting, nothing_yet}
-use Rattle.xa_outcomes.specs.Outcomes.{IsDecided, IsDecidedBehind, IsEndedAs, IsHandedOver, TellsHeuristic}
+use Rattle.xa_outcomes.specs.Outcomes.{IsDecided, IsDecidedBehind, IsEndedAs, IsHandedOver, SaidYes, TellsHeuristic}
 use Rattle.xa_outcomes.specs.Parts.{IsPart}
 use Rattle.xa_requests.specs.declared.request.Request.{Request}
 use Rattle.xa_requests.specs.declared.request.Request.TheVariants as requests
+use Rattle.xa_requests.specs.declared.response.Response.TheVariants as responses
+use Rattle.xa_server.specs.Recoveries.{PerformsOwed}
+use Rattle.xa_server.specs.Rows.{OwesRowsOf}
 use Rattle.xa_server.specs.Sessions.{AreServed, AreServed.Between, AreServed.NoneYet, AreServed.OneMore, HasOneHistory, IsSessionLeft, IsSessionLeft.AfterLine, IsSessionLeft.InAnswer, IsSessionLeft.InRequest, WasLeft}
+use Rattle.xa_server.specs.Transactions.{AreServedFor, HasNoRowOf, WasLeftUndecided}
+use Rattle.xa_server.specs.Votes.{IsLogged}
 use Rattle.xa_server.specs.declared.server.Server.{Server}
 use Rattle.xa_session.specs.Logging.{LeavesContent}
 use Rattle.xa_session.specs.Tracking.{IsRaisedFrom}
+use Rattle.xa_tm.specs.Calls.{book_in}
 
 -- ** the parts of the one history
 
@@ -84,6 +93,72 @@ NeverToldIsNeverCommitted {L} moment =
     (name : List ℕ) (last : Server L) (f : Branch → Standing) (c : Content) (served : AreServed moment name (Some last) f) (b : Branch)
     → LeavesContent moment last.session.manager c → WasNeverToldDecided moment name b.gtrid (Some last) f served → f b ≡ Committed → ⊥
 
+-- ** a decision whose reply never came
+
+-- The branch is committed, or stands prepared still, or its database ended it by itself. No branch
+-- of its transaction is rolled back or lost; and as long as one stands prepared, the log that is
+-- left has the row.
+pub record WillCommitInLog (f : Branch → Standing) (log : Content) (b : Branch) : Type 0 where
+  pub commits : IsCommitting (f b)
+  pub none_undone : (c : Branch) → c.gtrid ≡ b.gtrid → IsUndone (f c) → ⊥
+  pub row_stays : (c : Branch) → c.gtrid ≡ b.gtrid → f c ≡ Prepared → is_some (get log.decisions b.gtrid) ≡ true
+
+-- None of these sessions told so, except that the last of them may have been left in a request to
+-- commit it.
+abbrev pub IsUntoldSoFar : {L : Type 0} (moment : L → Moment) (name : List ℕ) (g : Gtrid) (last : Option (Server L)) (f : Branch → Standing)
+    → AreServed moment name last f → Type 0
+IsUntoldSoFar moment name g _ _ NoneYet = Unit
+IsUntoldSoFar moment name g _ _ (OneMore last from to handed o told seen now left done cut before handed_on is is_left honest may) =
+    (IsDecided g told → ⊥) × (IsHandedOver g told → ⊥) × WasNeverToldDecided moment name g last from before
+IsUntoldSoFar moment name g _ _ (Between last from to d how before was final) = IsUntoldSoFar moment name g last from before
+
+-- Then none of its branches is committed yet; and if the log that is left has no row of it, these are
+-- sessions that left it undecided (`WasLeftUndecided`), so that none ever is.
+pub record IsLeftUndecided {L : Type 0} (moment : L → Moment) (name : List ℕ) (g : Gtrid) (c : Content) (f : Branch → Standing) : Type 0 where
+  pub alone : AreServedFor moment name g c f
+  pub uncommitted : (b : Branch) → b.gtrid ≡ g → f b ≡ Committed → ⊥
+  pub undecided : HasNoRowOf c g → g.incarnation ≤ c.incarnation → WasLeftUndecided moment name g c f alone
+
+abbrev pub UntoldIsLeftUndecided : {L : Type 0} → (L → Moment) → Type 0
+UntoldIsLeftUndecided {L} moment =
+    (name : List ℕ) (last : Server L) (f : Branch → Standing) (c : Content) (served : AreServed moment name (Some last) f) (g : Gtrid)
+    → LeavesContent moment last.session.manager c → IsUntoldSoFar moment name g (Some last) f served → IsLeftUndecided moment name g c f
+
+-- One of these sessions told the branch's vote XA_OK.
+abbrev pub WasToldYes : {L : Type 0} (moment : L → Moment) (name : List ℕ) (b : Branch) (last : Option (Server L)) (f : Branch → Standing)
+    → AreServed moment name last f → Type 0
+WasToldYes moment name b _ _ NoneYet = ⊥
+WasToldYes moment name b _ _ (OneMore last from to handed o told seen now left done cut before handed_on is is_left honest may) =
+    SaidYes b told ⊎ WasToldYes moment name b last from before
+WasToldYes moment name b _ _ (Between last from to d how before was final) = WasToldYes moment name b last from before
+
+-- One of these sessions began over a log with the row of the branch's transaction, and one before it
+-- had told the branch's vote XA_OK.
+abbrev pub HasFoundRow : {L : Type 0} (moment : L → Moment) (name : List ℕ) (b : Branch) (last : Option (Server L)) (f : Branch → Standing)
+    → AreServed moment name last f → Type 0
+HasFoundRow moment name b _ _ NoneYet = ⊥
+HasFoundRow moment name b _ _ (OneMore last from to handed o told seen now left done cut before handed_on is is_left honest may) =
+    (IsLogged (moment handed).content b.gtrid × WasToldYes moment name b last from before) ⊎ HasFoundRow moment name b last from before
+HasFoundRow moment name b _ _ (Between last from to d how before was final) = HasFoundRow moment name b last from before
+
+-- So will it be then, whether or not the reply to its decision ever came.
+abbrev pub FoundRowsWillCommit : {L : Type 0} → (L → Moment) → Type 0
+FoundRowsWillCommit {L} moment =
+    (name : List ℕ) (last : Server L) (f : Branch → Standing) (c : Content) (served : AreServed moment name (Some last) f) (b : Branch)
+    → LeavesContent moment last.session.manager c → HasFoundRow moment name b (Some last) f served → WillCommitInLog f c b
+
+-- What `owed` is replied by at a start: the identifiers of these branches, and the log has the row of
+-- each.
+pub record AreOwedRows (log : Content) (told : List Xid) : Type 0 where
+  pub set : KeySet branch_cmp
+  pub told_are : told ≡ map xid_of_branch (items set)
+  pub rows : (b : Branch) → contains set b ≡ true → is_some (get log.decisions b.gtrid) ≡ true
+
+abbrev pub OwedAreLogged : Type 0 → Type 0
+OwedAreLogged L =
+    (first : Server L) (rm : ℕ) (told : Vec Xid) (c : Content) → OwesRowsOf (book_in first.session.manager) c
+    → PerformsOwed rm first (responses.Owed told) → AreOwedRows c told.items
+
 -- ** decided
 
 -- One of these sessions told that the branch's transaction was decided to commit, after the
@@ -94,14 +169,6 @@ WasToldDecided moment name b _ _ NoneYet = ⊥
 WasToldDecided moment name b _ _ (OneMore last from to handed o told seen now left done cut before handed_on is is_left honest may) =
     IsDecidedBehind b told ⊎ WasToldDecided moment name b last from before
 WasToldDecided moment name b _ _ (Between last from to d how before was final) = WasToldDecided moment name b last from before
-
--- The branch is committed, or stands prepared still, or its database ended it by itself. No branch
--- of its transaction is rolled back or lost; and as long as one stands prepared, the log that is
--- left has the row.
-pub record WillCommitInLog (f : Branch → Standing) (log : Content) (b : Branch) : Type 0 where
-  pub commits : IsCommitting (f b)
-  pub none_undone : (c : Branch) → c.gtrid ≡ b.gtrid → IsUndone (f c) → ⊥
-  pub row_stays : (c : Branch) → c.gtrid ≡ b.gtrid → f c ≡ Prepared → is_some (get log.decisions b.gtrid) ≡ true
 
 abbrev pub ToldDecidedWillCommit : {L : Type 0} → (L → Moment) → Type 0
 ToldDecidedWillCommit {L} moment =

@@ -1,10 +1,11 @@
 //! What is so after all sessions. These functions do nothing: each contract is a theorem.
 
-ghost use Rattle.xa_outcomes.specs.Outcomes.{DecidedWillCommit, HeuristicEndsStay};
-ghost use Rattle.xa_outcomes.specs.Outcomes.{NeverDecidedIsNeverCommitted};
+ghost use Rattle.xa_outcomes.specs.Outcomes.{DecidedWillCommit, FoundWillCommit, HeuristicEndsStay};
+ghost use Rattle.xa_outcomes.specs.Outcomes.{NeverDecidedIsNeverCommitted, UndecidedIsUncommitted};
 ghost use Rattle.xa_outcomes.specs.Parts.{SessionsAreParts};
-ghost use Rattle.xa_outcomes.specs.Served.{NeverToldIsNeverCommitted, ServedSessionsAreParts};
-ghost use Rattle.xa_outcomes.specs.Served.{ToldDecidedWillCommit, ToldHeuristicEndsStay};
+ghost use Rattle.xa_outcomes.specs.Served.{FoundRowsWillCommit, NeverToldIsNeverCommitted, OwedAreLogged};
+ghost use Rattle.xa_outcomes.specs.Served.{ServedSessionsAreParts, ToldDecidedWillCommit};
+ghost use Rattle.xa_outcomes.specs.Served.{ToldHeuristicEndsStay, UntoldIsLeftUndecided};
 
 use xa_log::DecisionLog;
 use xa_session::laws::{sessions_are_explained, starts_find_the_log, waiting_calls_are_tracked};
@@ -24,10 +25,16 @@ pub fn sessions_are_parts()
 ///   asked to commit in one phase, has no branch that is committed;
 /// - `decided`: a branch that voted XA_OK before one of them decided to commit its transaction is
 ///   committed, or stands prepared still, or its database ended it by itself. No branch of the
-///   transaction is ever rolled back or lost, and its row is there as long as one stands prepared.
+///   transaction is ever rolled back or lost, and its row is there as long as one stands prepared;
+/// - `found`: the same of a branch that voted XA_OK in a session before one that found the row of its
+///   transaction;
+/// - `so_far`: if none of them decided a transaction, but the last one was left in a decision of it,
+///   none of its branches is committed yet.
 pub fn decisions_stand()
     ensures never { NeverDecidedIsNeverCommitted }
     ensures decided { DecidedWillCommit }
+    ensures found { FoundWillCommit }
+    ensures so_far { UndecidedIsUncommitted }
 {}
 
 /// If the answer to a call on a branch told that its database had ended it by itself, and how, it
@@ -64,6 +71,28 @@ pub fn told_outcomes_stand<L: DecisionLog + Drop>()
 pub fn served_sessions_are_parts<L: DecisionLog + Drop>()
     ensures { ServedSessionsAreParts L.moment }
 {
+    starts_find_the_log::<L>();
+    sessions_are_explained::<L>();
+    waiting_calls_are_tracked::<L>();
+}
+
+/// What became of a decision whose reply never came, as the next start tells.
+///
+/// - `owed`: the branches that `owed` lists at a start over a log (`owed` of
+///   [`Server::new`](xa_server::Server::new)) have the row of their transactions in it;
+/// - `found`: if a session began over a log with the row of a transaction, each branch of it that had
+///   voted XA_OK in an earlier one is committed, or stands prepared still, or its database ended it
+///   by itself. No branch of it is ever rolled back or lost;
+/// - `undecided`: if no session told that a transaction was decided, whether or not the last one was
+///   left in a request to commit it, none of its branches is committed yet. If the log that is left
+///   has no row of it either, none ever is (`undecided` of
+///   [`served_transactions_agree`](xa_server::laws::served_transactions_agree)).
+pub fn next_starts_tell<L: DecisionLog + Drop>()
+    ensures owed { OwedAreLogged L }
+    ensures found { FoundRowsWillCommit L.moment }
+    ensures undecided { UntoldIsLeftUndecided L.moment }
+{
+    starts_are_histories();
     starts_find_the_log::<L>();
     sessions_are_explained::<L>();
     waiting_calls_are_tracked::<L>();

@@ -1,5 +1,5 @@
-use Rattle.xa_outcomes.proofs.Deciding.{never_committed, will_commit}
+use Rattle.xa_outcomes.proofs.Deciding.{found_commits, never_committed, uncommitted, will_commit}
 use Rattle.xa_outcomes.proofs.laws.decisions_stand.Goals as goal
 
 pub returns : goal.returns
-returns c = record { never = never_committed; decided = will_commit }
+returns c = record { never = never_committed; decided = will_commit; found = found_commits; so_far = uncommitted }
