@@ -43,6 +43,10 @@ _xatm() {
             :
             return
             ;;
+        log:--add-rm | log:--rename-rm)
+            :
+            return
+            ;;
     esac
     case $command in
         '') words='run check explain chart threads serve log help --help --version' ;;
@@ -52,7 +56,7 @@ _xatm() {
         chart) words='--output --help' && compopt -o default ;;
         threads) words='--log --help' && compopt -o default ;;
         serve) words='--name --rm --log --at-least --moves --help' ;;
-        log) words='--explain --json --make --shut --open --help' && compopt -o default ;;
+        log) words='--explain --json --make --shut --open --add-rm --rename-rm --help' && compopt -o default ;;
         help) words='run check explain chart threads serve log help' ;;
     esac
     [[ $command && $command != help && $cur != -* ]] || mapfile -t COMPREPLY < <(compgen -W "$words" -- "$cur")

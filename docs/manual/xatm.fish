@@ -39,6 +39,8 @@ complete -c xatm -n '__fish_seen_subcommand_from log' -l json -d 'Print JSON, fo
 complete -c xatm -n '__fish_seen_subcommand_from log' -l make -d 'Make the log instead, from lines on standard input: its names, `incarnation N`, decisions and `end`'
 complete -c xatm -n '__fish_seen_subcommand_from log' -l shut -d 'Shut the log instead: every start refuses it, with status 8, until it is opened again'
 complete -c xatm -n '__fish_seen_subcommand_from log' -l open -d 'Open a log that is shut again instead, once it is settled that it is the right one'
+complete -c xatm -n '__fish_seen_subcommand_from log' -l add-rm -x -d 'Let the log keep the name of one more resource manager instead, which has the next number'
+complete -c xatm -n '__fish_seen_subcommand_from log' -l rename-rm -x -d 'Let the log keep another name of a resource manager instead, whose number and branches stay'
 complete -c xatm -n '__fish_seen_subcommand_from log' -s h -l help -d 'Print help'
 complete -c xatm -n '__fish_seen_subcommand_from log' -F
 complete -c xatm -n '__fish_seen_subcommand_from help' -a 'run check explain chart threads serve log help'

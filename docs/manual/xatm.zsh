@@ -61,6 +61,8 @@ case $state in
                     '--make[Make the log instead, from lines on standard input\: its names, `incarnation N`, decisions and `end`]' \
                     '--shut[Shut the log instead\: every start refuses it, with status 8, until it is opened again]' \
                     '--open[Open a log that is shut again instead, once it is settled that it is the right one]' \
+                    '--add-rm=[Let the log keep the name of one more resource manager instead, which has the next number]:NAME: ' \
+                    '--rename-rm[Let the log keep another name of a resource manager instead, whose number and branches stay]:OLD: :NEW: ' \
                     '(- *)'{-h,--help}'[Print help]' \
                     ':PATH:_files'
                 ;;

@@ -12,7 +12,7 @@ use Rattle.xa_names.specs.KeptNames.{AgreeInNames, DifferAt, Names, has_rms}
 use Rattle.xa_names.specs.Names.{IsName, is_manager_name, is_manager_name_byte}
 use Rattle.xa_names.specs.declared.kept_names.NameFault.{NameFault}
 use Rattle.xa_names.specs.declared.kept_names.NameFault.TheVariants.{Manager, ResourceManager, Unnamed, Unkept}
-use Rattle.xa_commands.specs.Names.{AgreeAtEach, MayOpen, name_given, names_in, names_rms}
+use Rattle.xa_commands.specs.Names.{AgreeAtEach, MayOpen, name_given, label_names, names_rms}
 use Rattle.xa_commands.specs.declared.failure.Failure.TheVariants.{Name}
 
 -- ** text
@@ -46,18 +46,18 @@ same_length : (names : Names) → length (texts_of names) ≡ length names
 same_length [] = refl
 same_length (x ∷ names) = grind (arith, same_length names)
 
-module _ (kept given : List ℕ) (k g : Names) (is_kept : texts_of k ≡ names_in kept) (is_given : texts_of g ≡ names_in given) where
-  at : (names : Names) (label : List ℕ) → texts_of names ≡ names_in label → (i : ℕ) (a : List ℕ) → slice_get (names_in label) i ≡ Some a
+module _ (kept given : List ℕ) (k g : Names) (is_kept : texts_of k ≡ label_names kept) (is_given : texts_of g ≡ label_names given) where
+  at : (names : Names) (label : List ℕ) → texts_of names ≡ label_names label → (i : ℕ) (a : List ℕ) → slice_get (label_names label) i ≡ Some a
       → (x : Bor (List ℕ)) × (slice_get names i ≡ Some x) × (x.now ≡ a)
   at names label is i a there =
       got (slice_get names i) a (sym (slice_get-map (λ name. name.now) names i) ∙ ap (λ texts. slice_get texts i) is ∙ there)
 
-  of : (names : Names) (label : List ℕ) → texts_of names ≡ names_in label → (i : ℕ) (x : Bor (List ℕ)) → slice_get names i ≡ Some x
-      → slice_get (names_in label) i ≡ Some x.now
+  of : (names : Names) (label : List ℕ) → texts_of names ≡ label_names label → (i : ℕ) (x : Bor (List ℕ)) → slice_get names i ≡ Some x
+      → slice_get (label_names label) i ≡ Some x.now
   of names label is i x there =
       ap (λ texts. slice_get texts i) (sym is) ∙ slice_get-map (λ name. name.now) names i ∙ ap (option_map (λ name. name.now)) there
 
-  rms : (names : Names) (label : List ℕ) → texts_of names ≡ names_in label → names_rms (names_in label) ≡ has_rms names
+  rms : (names : Names) (label : List ℕ) → texts_of names ≡ label_names label → names_rms (label_names label) ≡ has_rms names
   rms names label is = ap (λ texts. nat_lt 1 (length texts)) (sym is) ∙ ap (nat_lt 1) (same_length names)
 
   pub may_open : AgreeInNames k g → has_rms k ≡ has_rms g → MayOpen kept given

@@ -36,8 +36,9 @@ abbrev pub failure_of_start : StartFault → Failure
 failure_of_start starts.Log = Run faults.Log
 failure_of_start starts.Memory = Run faults.Memory
 
--- why a session with a driver ended early
+-- why a session with a driver ended early; of a strange branch the log is to blame, unless somebody has it and shuts it
 abbrev pub failure_of_service : ServeFault → Failure
 failure_of_service services.Input = Input
 failure_of_service services.Output = Run faults.Output
 failure_of_service services.Memory = Run faults.Memory
+failure_of_service services.Strange = Run faults.Log

@@ -1,3 +1,4 @@
 pub mod Failures
+pub mod NameChanges
 pub mod Names
 pub mod Services

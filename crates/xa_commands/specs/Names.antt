@@ -19,8 +19,8 @@ abbrev pub label_of : (name : List ℕ) → (rms : List (List ℕ)) → List ℕ
 label_of name rms = name ++ spaced rms
 
 -- its names
-abbrev pub names_in : List ℕ → List (List ℕ)
-names_in label = slice_split (λ c. c == 32) label
+abbrev pub label_names : List ℕ → List (List ℕ)
+label_names label = slice_split (λ c. c == 32) label
 
 -- where both have a name, it is the same
 abbrev pub AgreeAtEach : (kept given : List (List ℕ)) → Type 0
@@ -31,8 +31,8 @@ names_rms names = nat_lt 1 (length names)
 
 -- a log with the one label may be opened by whoever has the other
 pub record MayOpen (kept given : List ℕ) : Type 0 where
-  pub agree : AgreeAtEach (names_in kept) (names_in given)
-  pub both : names_rms (names_in kept) ≡ names_rms (names_in given)
+  pub agree : AgreeAtEach (label_names kept) (label_names given)
+  pub both : names_rms (label_names kept) ≡ names_rms (label_names given)
 
 -- ** the name of a manager
 

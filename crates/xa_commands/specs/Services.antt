@@ -9,12 +9,15 @@ use Rattle.sqlite_wal.specs.Reads.{AreClean}
 use Rattle.xa_sql_log.specs.ClosedFiles.{HoldsWhole}
 use Rattle.xa_sql_log.specs.HeldContents.{HoldsContent, MakesLabelled}
 use Rattle.xa_sql_log.specs.OpenedDatabase.{HoldsLog}
+use Rattle.xa_sql_log.specs.ShutLogs.{HoldsShut}
 use Rattle.xa_files.specs.Outputs.{AppendsBeginning}
 use Rattle.xa_log.specs.Content.{Content}
 use Rattle.xa_log.specs.declared.log_fault.LogFault.{LogFault}
 use Rattle.xa_commands.specs.Names.{introduction, label_of}
+use Rattle.xa_commands.specs.declared.service.Left.{Left}
+use Rattle.xa_commands.specs.declared.service.Left.TheVariants.{Whole, Strange}
 use Rattle.xa_commands.specs.declared.service.Served.{Served}
-use Rattle.xa_commands.specs.declared.service.Served.TheVariants.{InUse, Closed, Shut, BrokenOff}
+use Rattle.xa_commands.specs.declared.service.Served.TheVariants.{NotYet, Closed, Shut, BrokenOff}
 use Rattle.xa_server.specs.NamedLines.{BreaksSessionUnder, ServesUnder}
 use Rattle.xa_server.specs.Replies.{greeting_of}
 use Rattle.xa_server.specs.declared.server.Server.{Server}
@@ -63,6 +66,16 @@ module _ {L : Type 0} (logs : DecisionLog.Ghosts L) (name : List ℕ) (threads r
   HasServed unread left written all log =
       (first : Server L) × (last : Server L) × (log ≡ log_in last.session.manager) × IsServed logs.moment name threads rms (logs.moment handed) unread left written all first last
 
+  -- one did, until a page was refused that lists a strange branch
+  abbrev pub HasBrokenOff : (unread written all : Option (List ℕ)) → (log : L) → Type 0
+  HasBrokenOff unread written all log =
+      (first : Server L) × (last : Server L) × (log ≡ log_in last.session.manager) × IsBrokenOff logs.moment name threads rms (logs.moment handed) unread written all first last
+
+  -- the one or the other
+  abbrev pub HasEnded : (unread left written all : Option (List ℕ)) → Left L → Type 0
+  HasEnded unread left written all (Whole log) = HasServed unread left written all log
+  HasEnded unread left written all (Strange log) = HasBrokenOff unread written all log
+
   -- none started over it, or its session was broken off
   abbrev pub HasFailed : (unread written all : Option (List ℕ)) → Failure → Type 0
   HasFailed unread written all failure =
@@ -83,18 +96,31 @@ abbrev pub IsClosedInto : {D L : Type 0} → Ghosts D → (L → Moment) → L �
 IsClosedInto disk moment log files =
     (moment log).is_in_order → AreClean disk files.log files.db → (c : Content) → (moment log).content ≡ Some c → HoldsWhole c (image_of disk files)
 
+-- the log was shut: the files hold all of it, and no open takes them, as far as they have been honest
+abbrev pub IsShutInto : {D L : Type 0} → Ghosts D → (L → Moment) → L → Files D → Type 0
+IsShutInto disk moment log files =
+    (moment log).is_in_order → AreClean disk files.log files.db → (c : Content) → (moment log).content ≡ Some c → HoldsShut c (image_of disk files)
+
+-- The log of a session that is over was closed, or shut if a branch was strange; where that could be done, the files hold what the session left.
+abbrev pub IsEndedInto : {D L : Type 0} → Ghosts D → (L → Moment) → Served → Left L → Type 0
+IsEndedInto disk moment NotYet ended = ⊥
+IsEndedInto {D = D} disk moment (Closed closed) (Whole log) = OnOk closed ((files : Files D) × IsClosedInto disk moment log files)
+IsEndedInto disk moment (Closed closed) (Strange log) = ⊥
+IsEndedInto disk moment (Shut shut) (Whole log) = ⊥
+IsEndedInto {D = D} disk moment (Shut shut) (Strange log) = OnOk shut ((files : Files D) × IsShutInto disk moment log files)
+IsEndedInto disk moment (BrokenOff failure) ended = ⊥
+
 module _ {D L : Type 0} (disk : Ghosts D) (logs : DecisionLog.Ghosts L) (name : List ℕ) (threads rms : ℕ) (handed : L) where
-  -- a coordinator served a driver over a log in files; where that could then be closed, the files hold what the session left
-  abbrev pub HasServedFiles : (unread left written all : Option (List ℕ)) → (closed : Result (Unit {0}) LogFault) → Type 0
-  HasServedFiles unread left written all closed =
-      (log : L) × HasServed logs name threads rms handed unread left written all log
-      × OnOk closed ((files : Files D) × IsClosedInto disk logs.moment log files)
+  -- a coordinator served a driver over a log in files, which is closed or shut then
+  abbrev pub HasEndedFiles : (unread left written all : Option (List ℕ)) → Served → Type 0
+  HasEndedFiles unread left written all served =
+      (ended : Left L) × HasEnded logs name threads rms handed unread left written all ended × IsEndedInto disk logs.moment served ended
 
   module _ (rm_names : List (List ℕ)) where
     -- the same, behind the line with its names
-    abbrev pub HasServedNamed : (unread left written all : Option (List ℕ)) → (closed : Result (Unit {0}) LogFault) → Type 0
-    HasServedNamed unread left written all closed =
-        (mid : Option (List ℕ)) × Appends written mid (introduction name rm_names) × HasServedFiles unread left mid all closed
+    abbrev pub HasEndedNamed : (unread left written all : Option (List ℕ)) → Served → Type 0
+    HasEndedNamed unread left written all served =
+        (mid : Option (List ℕ)) × Appends written mid (introduction name rm_names) × HasEndedFiles unread left mid all served
 
     -- the line was written in part, or such a session broke off, or none began
     abbrev pub HasFailedNamed : (unread written all : Option (List ℕ)) → Failure → Type 0
@@ -102,20 +128,15 @@ module _ {D L : Type 0} (disk : Ghosts D) (logs : DecisionLog.Ghosts L) (name : 
         AppendsBeginning written all (introduction name rm_names)
         ⊎ ((mid : Option (List ℕ)) × Appends written mid (introduction name rm_names) × HasFailed logs name threads rms handed unread mid all failure)
 
--- what came of a service, by how it ended
-abbrev pub Ends : Served → (another : Type 0) → (Result (Unit {0}) LogFault → Type 0) → (Failure → Type 0) → Type 0
-Ends InUse another P Q = another
-Ends (Closed closed) another P Q = P closed
-Ends (Shut shut) another P Q = ⊥
-Ends (BrokenOff failure) another P Q = Q failure
-
 module _ {D L : Type 0} (disk : Ghosts D) (logs : DecisionLog.Ghosts L) (image : Image) (name : List ℕ) (rm_names : List (List ℕ)) (threads rms : ℕ) where
-  -- What came of a service over files that held this image: nothing, where another process has them; or a session over the log that they
-  -- held, which went to its end or was broken off.
+  -- a session over the log that the files held: it ended by itself, or was broken off
+  abbrev pub HasWorked : (unread left written all : Option (List ℕ)) → Served → Type 0
+  HasWorked unread left written all served =
+      (handed : L) × OpensAs logs.moment image (label_of name rm_names) handed
+      × (HasEndedNamed disk logs name threads rms handed rm_names unread left written all served
+      ⊎ ((failure : Failure) × (served ≡ BrokenOff failure) × HasFailedNamed disk logs name threads rms handed rm_names unread written all failure))
+
+  -- What came of a service over files that held this image: nothing, where they are to be tried again; or such a session.
   abbrev pub HasServedFrom : (unread left written all : Option (List ℕ)) → Served → Type 0
   HasServedFrom unread left written all served =
-      Ends served (Keeps written all)
-      (λ closed. (handed : L) × OpensAs logs.moment image (label_of name rm_names) handed
-      × HasServedNamed disk logs name threads rms handed rm_names unread left written all closed)
-      (λ failure. (handed : L) × OpensAs logs.moment image (label_of name rm_names) handed
-      × HasFailedNamed disk logs name threads rms handed rm_names unread written all failure)
+      ((served ≡ NotYet) × Keeps written all) ⊎ HasWorked unread left written all served

@@ -4,8 +4,7 @@ use crate::failure::Failure;
 use crate::introduction::introduce;
 use crate::log_names::{check_rm_names, label_of, manager_named};
 use crate::logs::open_claimed;
-use crate::service::{Served, Service, closed_into};
-use crate::stores::shut_in_files;
+use crate::service::{Left, Served, Service, end_in_files};
 use sqlite::{FileStore, Start};
 use sqlite_disk::Disk;
 use std::alloc::Global;
@@ -15,8 +14,7 @@ use xa_names::ManagerName;
 use xa_server::Server;
 use xa_sql_log::SqlLog;
 
-/// Conducts a driver over a log, as the manager of this name, until the session is over, and gives the log back, and whether a
-/// branch was strange.
+/// Conducts a driver over a log, as the manager of this name, until the session is over, and gives the log back.
 fn conduct_over<L: DecisionLog + Drop, R: Read, W: Write>(
     alloc: Global,
     name: &ManagerName,
@@ -25,11 +23,13 @@ fn conduct_over<L: DecisionLog + Drop, R: Read, W: Write>(
     log: L,
     input: &mut BufReader<R>,
     out: &mut W,
-) -> Result<(L, bool), Failure> {
+) -> Result<Left<L>, Failure> {
     let server = Server::new(alloc, threads, rms, log)?;
     let conductor = xa_conduct::serve(server, alloc, name, threads, rms, input, out)?;
-    let is_strange = conductor.is_strange();
-    Ok((conductor.into_server().into_log(), is_strange))
+    if conductor.is_strange() {
+        return Ok(Left::Strange(conductor.into_server().into_log()));
+    }
+    Ok(Left::Whole(conductor.into_server().into_log()))
 }
 
 /// The same over files, behind the line that has the names, where there are some. They are closed then.
@@ -43,8 +43,7 @@ fn conduct_named<D: Disk + Drop, R: Read, W: Write>(
 ) -> Result<Served, Failure> {
     introduce(alloc, name, service.rm_names, out)?;
     match conduct_over(alloc, name, service.threads, service.rms, log, input, out) {
-        Ok((log, true)) => Ok(Served::Shut(shut_in_files(log))),
-        Ok((log, false)) => Ok(Served::Closed(closed_into(log))),
+        Ok(left) => Ok(end_in_files(left)),
         Err(failure) => Err(failure),
     }
 }
@@ -63,7 +62,7 @@ pub(crate) fn conduct_from<S: Start, R: Read, W: Write>(
     let label = label_of(alloc, &name, service.rm_names)?;
     let log = match open_claimed(rt, service.log, start, label.as_str(), service.at_least) {
         Ok(Some(log)) => log,
-        Ok(None) => return Ok(Served::InUse),
+        Ok(None) => return Ok(Served::NotYet),
         Err(failure) => return Err(failure),
     };
     match conduct_named(alloc, &name, service, log, input, out) {

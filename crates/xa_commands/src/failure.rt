@@ -95,7 +95,8 @@ impl Failure {
         match self {
             Failure::Words => eprintln!(rt; "xatm: command line"),
             Failure::LogWords => eprintln!(rt;
-                "xatm: command line: --explain, --json, --make, --shut and --open don't go together"
+                "xatm: command line: --explain, --json, --make, --shut, --open, --add-rm and --rename-rm \
+                don't go together"
             ),
             Failure::Unreadable(text) | Failure::Failed(text) | Failure::InUse(text) => {
                 eprintln!(rt; "xatm: {text}")
@@ -147,6 +148,8 @@ impl From<ServeFault> for Failure {
             ServeFault::Input => Failure::Input,
             ServeFault::Output => Failure::Run(RunFault::Output),
             ServeFault::Memory => Failure::Run(RunFault::Memory),
+            // Whoever has the log shuts it, and tells that instead.
+            ServeFault::Strange => Failure::Run(RunFault::Log),
         }
     }
 }

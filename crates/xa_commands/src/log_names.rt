@@ -4,7 +4,7 @@
 ghost use Rattle.std.specs.Prelude.{◌≡◌, ◌≢◌, ◌<◌, ◌++◌, ℕ, List, [], false, length, map, option_map, IfErr, IfOk, OnOk, Some, slice_get};
 ghost use Rattle.std.specs.Borrow.{Bor};
 ghost use Rattle.std.specs.String.{string_bytes};
-ghost use Rattle.xa_commands.specs.Names.{MayName, MayOpen, label_of, name_given, names_in, spaced};
+ghost use Rattle.xa_commands.specs.Names.{MayName, MayOpen, label_of, name_given, label_names, spaced};
 
 use crate::failure::Failure;
 use crate::log_reasons::opening_failure;
@@ -92,8 +92,8 @@ pub(crate) fn refusal(
     kept: &str,
     given: &str,
 ) -> Result<Failure, Failure> {
-    let kept = names_in(alloc, kept)?;
-    let given = names_in(alloc, given)?;
+    let kept = label_names(alloc, kept)?;
+    let given = label_names(alloc, given)?;
     let text = match fault {
         NameFault::Manager => format!(in alloc;
             "{path}: it is that of {}, not of {}",
@@ -136,8 +136,8 @@ pub(crate) fn make_labelled(rt: &HostRuntime, path: &str, label: &str) -> Result
 }
 
 /// The names in a label.
-fn names_in(alloc: Global, label: &str) -> Result<Vec<&str>, AllocError>
-    ensures { IfOk result (λ names. map (λ name. name.now) names.items ≡ names_in label.now) }
+pub(crate) fn label_names(alloc: Global, label: &str) -> Result<Vec<&str>, AllocError>
+    ensures { IfOk result (λ names. map (λ name. name.now) names.items ≡ label_names label.now) }
 {
     label.split(' ').collect(alloc)
 }
@@ -152,8 +152,8 @@ pub(crate) fn verdict(
     ensures refused { IfOk result (λ verdict.
         IfErr verdict (λ _. MayOpen kept.now given.now → ⊥)) }
 {
-    let kept = names_in(alloc, kept)?;
-    let given = names_in(alloc, given)?;
+    let kept = label_names(alloc, kept)?;
+    let given = label_names(alloc, given)?;
     Ok(check_names(&kept, &given))
 }
 

@@ -14,6 +14,7 @@ use std::alloc::{AllocError, Global};
 use std::fs;
 use std::thread::sleep;
 use std::time::Duration;
+use xa_labels::label_files;
 use xa_log::{DecisionLog, LogFault};
 use xa_names::NameFault;
 use xa_sql_log::{LockFault, LogHead, SqlLog};
@@ -40,6 +41,8 @@ enum ClaimFault {
     Shut,
     /// It has this incarnation, which is lower than was asked for.
     Older(u64),
+    /// It keeps fewer names, and is to keep all of these.
+    FewerNames,
     /// It can't be opened.
     Log(LogFault),
 }
@@ -79,7 +82,8 @@ fn check_claim(rt: &HostRuntime, path: &str, label: &str, at_least: u64) -> Resu
     admit(rt.alloc(), SqlLog::head(rt, path)?, label, at_least)
 }
 
-/// Refuses a log that says this of itself to whoever has another label, or asks for more starts, and one that is shut to all.
+/// Refuses a log that says this of itself to whoever has another label, or asks for more starts, and one that is shut to all. To
+/// whoever has more names it isn't refused for good.
 fn admit(
     alloc: Global,
     head: Option<LogHead>,
@@ -95,7 +99,12 @@ fn admit(
     if head.is_shut {
         return Err(ClaimFault::Shut);
     }
-    check_age(head.incarnation, at_least)
+    check_age(head.incarnation, at_least)?;
+    // The names that both have are the same ones.
+    if head.label.len() < label.len() {
+        return Err(ClaimFault::FewerNames);
+    }
+    Ok(())
 }
 
 /// Refuses a log of too low an incarnation.
@@ -140,6 +149,23 @@ fn claim_log<S: Start>(
     }
 }
 
+/// Lets the log at a path keep a label that has more names than its own, unless another process has it, or it is to be refused.
+fn add_names(rt: &HostRuntime, path: &str, label: &str, at_least: u64) -> Result<(), LogFault> {
+    let files = match SqlLog::lock(rt, path, Unknown) {
+        Ok(files) => files,
+        Err(LockFault::InUse) => return Ok(()),
+        Err(LockFault::Log(fault)) => return Err(fault),
+    };
+    match check_claim(rt, path, label, at_least) {
+        Err(ClaimFault::FewerNames) => {}
+        _ => return Ok(()),
+    }
+    match SqlLog::open_locked(rt, files, "") {
+        Ok(log) => label_files(rt.alloc(), log, label),
+        Err(fault) => Err(fault),
+    }
+}
+
 /// The failure of a log that is shut.
 pub(crate) fn shut(alloc: Global, path: &str) -> Failure {
     let told = format!(in alloc;
@@ -165,7 +191,8 @@ fn older(alloc: Global, path: &str, incarnation: u64, at_least: u64) -> Failure 
     }
 }
 
-/// The failure of a log that isn't opened for whoever has this label, if another process doesn't have it.
+/// The failure of a log that isn't opened for whoever has this label. There is none if another process has it, or if it keeps more names
+/// from now on: then it is to be tried again.
 fn claim_failure(
     rt: &HostRuntime,
     path: &str,
@@ -176,6 +203,10 @@ fn claim_failure(
     let alloc = rt.alloc();
     match fault {
         ClaimFault::InUse => Ok(None),
+        ClaimFault::FewerNames => match add_names(rt, path, label, at_least) {
+            Ok(()) => Ok(None),
+            Err(fault) => Ok(Some(opening_failure(rt, path, fault))),
+        },
         ClaimFault::Half => Ok(Some(half(alloc, path))),
         ClaimFault::Shut => Ok(Some(shut(alloc, path))),
         ClaimFault::Older(incarnation) => Ok(Some(older(alloc, path, incarnation, at_least))),
@@ -190,8 +221,8 @@ fn claim_failure(
     }
 }
 
-/// Opens the log at a path for whoever has this label, or makes it, unless another process has it. One that is another's is refused,
-/// and so is half of a log. Of a path at which no log can be, nothing is made there.
+/// Opens the log at a path for whoever has this label, or makes it. It is to be tried again if another process has it, or if it keeps more
+/// names from now on. One that is another's is refused, and so is half of a log. Of a path at which no log can be, nothing is made there.
 pub(crate) fn open_claimed<S: Start>(
     rt: &HostRuntime,
     path: &str,

@@ -6,7 +6,7 @@ ghost use Rattle.std.specs.Io.Buffered.{reader_remaining};
 ghost use Rattle.sqlite_wal.specs.Files.{image_at};
 ghost use Rattle.xa_commands.specs.Failures.{failure_status};
 ghost use Rattle.xa_commands.specs.Names.{MayName, name_given};
-ghost use Rattle.xa_commands.specs.Services.{HasFailed, HasFailedNamed, HasServed, HasServedFiles, HasServedFrom, HasServedNamed, IsClosedInto};
+ghost use Rattle.xa_commands.specs.Services.{HasEnded, HasEndedFiles, HasEndedNamed, HasFailed, HasFailedNamed, HasServedFrom, IsClosedInto, IsEndedInto};
 
 use crate::conduct::conduct_from;
 use crate::failure::Failure;
@@ -14,6 +14,7 @@ use crate::introduction::introduce;
 use crate::log_names::{check_rm_names, label_of, manager_named};
 use crate::log_reasons::in_use;
 use crate::logs::{MOST_TRIES, broken_off, leave, leave_shut, open_claimed, pause};
+use crate::stores::shut_in_files;
 use sqlite::{FileFrom, FileStore, Start, Unknown};
 use sqlite_disk::Disk;
 use std::alloc::Global;
@@ -21,7 +22,7 @@ use std::io::{self, BufReader, BufWriter, Input, Read, Write};
 use xa_files::RunFault;
 use xa_log::{DecisionLog, LogFault};
 use xa_names::ManagerName;
-use xa_server::Server;
+use xa_server::{ServeFault, Server};
 use xa_sql_log::SqlLog;
 
 /// What a service is asked to be: the coordinator of a driver of so many threads and resource managers, over the log at a path; of a
@@ -40,18 +41,27 @@ pub struct Service<'b, 'a> {
 /// What came of a service whose names are names.
 #[derive(Drop)]
 pub enum Served {
-    /// Another process has the log. Nothing was read or written.
-    InUse,
+    /// The log isn't open yet: another process has it, or it keeps more names from now on. Nothing was read or written.
+    NotYet,
     /// The session went to its end, and this says whether the log could be closed.
     Closed(Result<(), LogFault>),
-    /// The session is over since a branch was strange, and this says whether the log could be shut. Only moves end so.
+    /// The session is over since a branch was strange, and this says whether the log could be shut.
     Shut(Result<(), LogFault>),
     /// The session ended early, for this reason.
     BrokenOff(Failure),
 }
 
-/// Serves a driver of so many threads and resource managers over a log, as the manager of this name, until it quits or its
-/// requests end, and gives the log back.
+/// The log of a session that is over, and why.
+#[derive(Drop)]
+pub enum Left<L: Drop> {
+    /// The session went to its end.
+    Whole(L),
+    /// A resource manager listed a branch that no session over the log began.
+    Strange(L),
+}
+
+/// Serves a driver of so many threads and resource managers over a log, as the manager of this name, until it quits, its requests end,
+/// or a page was refused that lists a strange branch; and gives the log back.
 pub(crate) fn serve_over<L: DecisionLog + Drop, R: Read, W: Write>(
     alloc: Global,
     name: &ManagerName,
@@ -60,8 +70,8 @@ pub(crate) fn serve_over<L: DecisionLog + Drop, R: Read, W: Write>(
     log: L,
     input: &mut BufReader<R>,
     out: &mut W,
-) -> Result<L, Failure>
-    ensures served { IfOk result (HasServed L.DecisionLog name.now threads rms log
+) -> Result<Left<L>, Failure>
+    ensures ended { IfOk result (HasEnded L.DecisionLog name.now threads rms log
         (reader_remaining R.remaining input.old) (reader_remaining R.remaining input.new)
         (W.contents out.old) (W.contents out.new)) }
     ensures broken { IfErr result (HasFailed L.DecisionLog name.now threads rms log
@@ -69,9 +79,11 @@ pub(crate) fn serve_over<L: DecisionLog + Drop, R: Read, W: Write>(
     ensures status { IfErr result (λ failure. failure_status failure ≡ 2) }
 {
     let mut server = Server::new(alloc, threads, rms, log)?;
-    server.serve_under(name, input, out)?;
-    let left = server.into_log();
-    Ok(left)
+    match server.serve_under(name, input, out) {
+        Ok(()) => Ok(Left::Whole(server.into_log())),
+        Err(ServeFault::Strange) => Ok(Left::Strange(server.into_log())),
+        Err(fault) => Err(Failure::from(fault)),
+    }
 }
 
 /// Copies the journal of a log into its file, and closes both.
@@ -85,7 +97,17 @@ pub(crate) fn closed_into<D: Disk + Drop>(log: SqlLog<FileStore<D>>) -> Result<(
     }
 }
 
-/// The same over files, which are closed then. Tells why the session ended early, or whether the log could be closed.
+/// Closes the log of a session that is over, or shuts it if a branch was strange.
+pub(crate) fn end_in_files<D: Disk + Drop>(left: Left<SqlLog<FileStore<D>>>) -> Served
+    ensures { IsEndedInto D.Disk ⟦<SqlLog<FileStore<D>> as DecisionLog>⟧.moment result left }
+{
+    match left {
+        Left::Whole(log) => Served::Closed(closed_into(log)),
+        Left::Strange(log) => Served::Shut(shut_in_files(log)),
+    }
+}
+
+/// The same over files, which are closed then. Tells why the session ended early, or whether the log could be closed, or shut.
 pub fn serve_in_files<D: Disk + Drop, R: Read, W: Write>(
     alloc: Global,
     name: &ManagerName,
@@ -94,8 +116,8 @@ pub fn serve_in_files<D: Disk + Drop, R: Read, W: Write>(
     log: SqlLog<FileStore<D>>,
     input: &mut BufReader<R>,
     out: &mut W,
-) -> Result<Result<(), LogFault>, Failure>
-    ensures served { IfOk result (HasServedFiles D.Disk ⟦<SqlLog<FileStore<D>> as DecisionLog>⟧
+) -> Result<Served, Failure>
+    ensures ended { IfOk result (HasEndedFiles D.Disk ⟦<SqlLog<FileStore<D>> as DecisionLog>⟧
         name.now threads rms log
         (reader_remaining R.remaining input.old) (reader_remaining R.remaining input.new)
         (W.contents out.old) (W.contents out.new)) }
@@ -105,7 +127,7 @@ pub fn serve_in_files<D: Disk + Drop, R: Read, W: Write>(
     ensures status { IfErr result (λ failure. failure_status failure ≡ 2) }
 {
     match serve_over(alloc, name, threads, rms, log, input, out) {
-        Ok(log) => Ok(closed_into(log)),
+        Ok(left) => Ok(end_in_files(left)),
         Err(failure) => Err(failure),
     }
 }
@@ -118,8 +140,8 @@ fn serve_named<D: Disk + Drop, R: Read, W: Write>(
     log: SqlLog<FileStore<D>>,
     input: &mut BufReader<R>,
     out: &mut W,
-) -> Result<Result<(), LogFault>, Failure>
-    ensures served { IfOk result (HasServedNamed D.Disk ⟦<SqlLog<FileStore<D>> as DecisionLog>⟧
+) -> Result<Served, Failure>
+    ensures ended { IfOk result (HasEndedNamed D.Disk ⟦<SqlLog<FileStore<D>> as DecisionLog>⟧
         name.now service.now.threads service.now.rms log
         (map (λ rm. rm.now) service.now.rm_names.now)
         (reader_remaining R.remaining input.old) (reader_remaining R.remaining input.new)
@@ -157,11 +179,11 @@ pub fn serve_from<S: Start, R: Read, W: Write>(
     let label = label_of(alloc, &name, service.rm_names)?;
     let log = match open_claimed(rt, service.log, start, label.as_str(), service.at_least) {
         Ok(Some(log)) => log,
-        Ok(None) => return Ok(Served::InUse),
+        Ok(None) => return Ok(Served::NotYet),
         Err(failure) => return Err(failure),
     };
     match serve_named(alloc, &name, service, log, input, out) {
-        Ok(closed) => Ok(Served::Closed(closed)),
+        Ok(served) => Ok(served),
         Err(failure) => Ok(Served::BrokenOff(failure)),
     }
 }
@@ -220,7 +242,7 @@ pub fn serve<'b, 'a>(
             serve_from(rt, &service, Unknown, &mut input, &mut out)?
         };
         match served {
-            Served::InUse => pause(rt),
+            Served::NotYet => pause(rt),
             Served::Closed(closed) => {
                 let flushed = out.flush();
                 let left = leave(rt, log, closed);

@@ -8,7 +8,7 @@ use sqlite::Unknown;
 use xa_sql_log::{LockFault, SqlLog};
 
 /// The failure of a log that can't be locked.
-fn lock_failure(rt: &HostRuntime, path: &str, fault: LockFault) -> Failure {
+pub(crate) fn lock_failure(rt: &HostRuntime, path: &str, fault: LockFault) -> Failure {
     match fault {
         LockFault::InUse => in_use(rt.alloc(), path),
         LockFault::Log(fault) => opening_failure(rt, path, fault),

@@ -5,7 +5,9 @@
 ghost use Rattle.std.specs.Prelude.{◌≡◌, IfOk, OnOk, Some};
 ghost use Rattle.std.specs.List.{AllByRecursion};
 ghost use Rattle.sqlite.specs.Files.{image_of};
+ghost use Rattle.sqlite_disk.specs.declared.Files.{Files};
 ghost use Rattle.sqlite_wal.specs.Reads.{AreClean};
+ghost use Rattle.xa_commands.specs.Services.{IsShutInto};
 ghost use Rattle.xa_log.specs.Content.{Content};
 ghost use Rattle.xa_log.specs.Contract.{FitsRow, Honestly};
 ghost use Rattle.xa_restore.specs.LogLines.{OwnsBranches};
@@ -106,7 +108,10 @@ pub fn close_in_files<D: Disk + Drop>(log: SqlLog<FileStore<D>>) -> Result<(), L
 }
 
 /// Shuts a log, and closes its files.
-pub(crate) fn shut_in_files<D: Disk + Drop>(log: SqlLog<FileStore<D>>) -> Result<(), LogFault> {
+pub(crate) fn shut_in_files<D: Disk + Drop>(log: SqlLog<FileStore<D>>) -> Result<(), LogFault>
+    ensures { OnOk result ((files : Files D) × IsShutInto D.Disk
+        ⟦<SqlLog<FileStore<D>> as DecisionLog>⟧.moment log files) }
+{
     match log.shut() {
         Ok(_files) => Ok(()),
         Err(fault) => Err(fault),

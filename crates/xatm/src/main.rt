@@ -20,8 +20,8 @@ use std::thread::Threads;
 use std::time::Clock;
 use std::{env, io};
 use xa_commands::{
-    Failure, Source, list, list_as_json, make_log, open_log, output_to, run_threads, serve,
-    shut_log, text_of,
+    Failure, Source, list, list_as_json, make_log, open_log, output_to, rename_rms, run_threads,
+    serve, shut_log, text_of,
 };
 use xa_diagnostics::FileKind;
 use xa_files::RunFault;
@@ -138,6 +138,7 @@ fn perform<T: Threads + Wait + Clock + Sync>(
         Command::MakeLog { path } => make_log(rt, path),
         Command::ShutLog { path } => shut_log(rt, path),
         Command::OpenLog { path } => open_log(rt, path),
+        Command::RenameRms { path, change } => rename_rms(rt, path, change),
         Command::RefusedLog => Err(Failure::LogWords),
     }
 }

@@ -1,4 +1,3 @@
-use Rattle.std.proofs.Common.{◌∙◌}
 use Rattle.xa_log.proofs.Parts.{if_ok}
 use Rattle.xa_commands.proofs.NameLemmas.{names_are_text}
 use Rattle.xa_commands.proofs.log_names.name_text.Goals as goal

@@ -1,4 +1,4 @@
-use Rattle.std.proofs.Common.{◌∙◌, ap, map, Ok, Err, Result, OnOk}
+use Rattle.std.proofs.Common.{◌∙◌, ap, Ok, Err, Result, OnOk}
 use Rattle.xa_commands.proofs.NameLemmas.{may_not, may_open, texts_of}
 use Rattle.xa_commands.proofs.log_names.verdict.Goals as goal
 

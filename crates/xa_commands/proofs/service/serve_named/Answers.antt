@@ -15,11 +15,11 @@ returns-in_err-introduce-clause-broken g c =
     let p = err_from_is_err_and c.from_residual.result c.from_residual.ensures.1 in
     err_is c.from_residual.result p.0 _ p.1 (inl c.in_err-introduce.ensures.begun)
 
-pub returns-clause-served : goal.returns-clause-served
-returns-clause-served g c =
+pub returns-clause-ended : goal.returns-clause-ended
+returns-clause-ended g c =
     if_ok c.serve_in_files.result _ _
-    (λ closed served. (g.W.Write.contents c.introduce.new.out, c.in_ok-introduce.ensures.told, served))
-    c.serve_in_files.ensures.served
+    (λ served ended. (g.W.Write.contents c.introduce.new.out, c.in_ok-introduce.ensures.told, ended))
+    c.serve_in_files.ensures.ended
 
 pub returns-clause-broken : goal.returns-clause-broken
 returns-clause-broken g c =

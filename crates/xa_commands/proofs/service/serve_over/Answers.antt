@@ -7,10 +7,12 @@ use Rattle.xa_tm.specs.StartFaults.{IsOnlyRead, IsToBlame}
 use Rattle.xa_tm.specs.declared.manager.start.StartFault.{StartFault}
 use Rattle.xa_tm.specs.declared.manager.start.StartFault.TheVariants as starts
 use Rattle.xa_files.specs.declared.fault.RunFault.TheVariants as faults
-use Rattle.xa_commands.specs.Failures.{failure_of_start}
+use Rattle.xa_commands.specs.Failures.{failure_of_service, failure_of_start, failure_status}
 use Rattle.xa_commands.specs.Services.{StartsNot}
 use Rattle.xa_commands.specs.declared.failure.Failure.{Failure}
 use Rattle.xa_commands.specs.declared.failure.Failure.TheVariants.{Run}
+use Rattle.xa_server.specs.declared.serving.ServeFault.{ServeFault}
+use Rattle.xa_server.specs.declared.serving.ServeFault.TheVariants as services
 use Rattle.xa_commands.proofs.service.serve_over.Goals as goal
 
 -- why no coordinator starts
@@ -36,27 +38,49 @@ returns-in_err-server-clause-broken g c =
     let e = c.in_err-server.ensures in
     rw p.1 (inl (starts_not g.L.DecisionLog c.args.log (g.W.Write.contents c.args.out.now) _ p.0 e.log_fault e.memory_fault p.2))
 
-pub returns-in_err-serve_under-clause-broken : goal.returns-in_err-serve_under-clause-broken
-returns-in_err-serve_under-clause-broken g c =
-    let p = err_from_is_err_and c.from_residual-in_err-serve_under.result c.from_residual-in_err-serve_under.ensures.1 in
-    let made = c.in_ok-server.ensures in
-    rw p.1 (inr (
-      c.in_ok-server.server,
-      c.serve_under.new.self,
-      record {
-        starts = record { stands = made.stands; old = made.old; started = made.started; over = made.over; holds = made.holds };
-        breaks = c.in_err-serve_under.ensures.broken;
-      },
-    ))
+-- an early end has the status of a failure
+service_status : (fault : ServeFault) → failure_status (failure_of_service fault) ≡ 2
+service_status services.Input = refl
+service_status services.Output = refl
+service_status services.Memory = refl
+service_status services.Strange = refl
 
-pub returns-clause-served : goal.returns-clause-served
-returns-clause-served g c =
+pub returns-in-Ok-clause-ended : goal.returns-in-Ok-clause-ended
+returns-in-Ok-clause-ended g c =
     let made = c.in_ok-server.ensures in (
       c.in_ok-server.server,
       c.serve_under.new.self,
-      c.into_log-left.ensures,
+      c.into_log.ensures,
       record {
         starts = record { stands = made.stands; old = made.old; started = made.started; over = made.over; holds = made.holds };
-        serves = c.in_ok-serve_under.ensures.served;
+        serves = c.in-Ok.ensures.served;
       },
     )
+
+pub returns-in-Err-Strange-clause-ended : goal.returns-in-Err-Strange-clause-ended
+returns-in-Err-Strange-clause-ended g c =
+    let made = c.in_ok-server.ensures in (
+      c.in_ok-server.server,
+      c.serve_under.new.self,
+      c.into_log-in-Err-Strange.ensures,
+      record {
+        starts = record { stands = made.stands; old = made.old; started = made.started; over = made.over; holds = made.holds };
+        breaks = c.in-Err-Strange.ensures.broken;
+      },
+    )
+
+pub returns-in-Err : goal.returns-in-Err
+returns-in-Err g c =
+    let made = c.in_ok-server.ensures in
+    record {
+      ended = tt;
+      broken = inr (
+        c.in_ok-server.server,
+        c.serve_under.new.self,
+        record {
+          starts = record { stands = made.stands; old = made.old; started = made.started; over = made.over; holds = made.holds };
+          breaks = c.in-Err.ensures.broken;
+        },
+      );
+      status = subst (λ f. failure_status f ≡ 2) (sym c.from.ensures) (service_status c.in-Err.fault);
+    }

@@ -1,7 +1,7 @@
 use Rattle.std.proofs.Common.{lit<}
 use Rattle.std.proofs.lemmas.Iterator.Consumers.{map_from_collect}
 use Rattle.std.proofs.lemmas.Iterator.Splits.{YieldsList-from_str_split}
-use Rattle.xa_commands.proofs.log_names.names_in.Goals as goal
+use Rattle.xa_commands.proofs.log_names.label_names.Goals as goal
 
 pub returns : goal.returns
 returns c =

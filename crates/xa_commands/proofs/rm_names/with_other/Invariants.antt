@@ -1,0 +1,7 @@
+use Rattle.std.proofs.Common.{◌≡◌, map, take}
+use Rattle.xa_commands.specs.NameChanges.{other_if}
+use Rattle.xa_commands.proofs.rm_names.with_other.Given as goal
+
+abbrev pub invariant-loop-name : goal.invariant-loop-name
+invariant-loop-name l =
+    map (λ name. name.now) l.all.items ≡ map (other_if l.old l.new) (map (λ name. name.now) (take l.name-index l.names))
