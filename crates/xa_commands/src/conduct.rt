@@ -14,7 +14,8 @@ use xa_names::ManagerName;
 use xa_server::Server;
 use xa_sql_log::SqlLog;
 
-/// Conducts a driver over a log, as the manager of this name, until the session is over, and gives the log back.
+/// Conducts a driver over a log, as the manager of this name, until the session is over, and gives
+/// the log back.
 fn conduct_over<L: DecisionLog + Drop, R: Read, W: Write>(
     alloc: Global,
     name: &ManagerName,

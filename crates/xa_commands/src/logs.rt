@@ -82,8 +82,8 @@ fn check_claim(rt: &HostRuntime, path: &str, label: &str, at_least: u64) -> Resu
     admit(rt.alloc(), SqlLog::head(rt, path)?, label, at_least)
 }
 
-/// Refuses a log that says this of itself to whoever has another label, or asks for more starts, and one that is shut to all. To
-/// whoever has more names it isn't refused for good.
+/// Refuses a log that says this of itself to whoever has another label, or asks for more starts, and
+/// one that is shut to all. To whoever has more names it isn't refused for good.
 fn admit(
     alloc: Global,
     head: Option<LogHead>,
@@ -149,7 +149,8 @@ fn claim_log<S: Start>(
     }
 }
 
-/// Lets the log at a path keep a label that has more names than its own, unless another process has it, or it is to be refused.
+/// Lets the log at a path keep a label that has more names than its own, unless another process has
+/// it, or it is to be refused.
 fn add_names(rt: &HostRuntime, path: &str, label: &str, at_least: u64) -> Result<(), LogFault> {
     let files = match SqlLog::lock(rt, path, Unknown) {
         Ok(files) => files,
@@ -191,8 +192,8 @@ fn older(alloc: Global, path: &str, incarnation: u64, at_least: u64) -> Failure 
     }
 }
 
-/// The failure of a log that isn't opened for whoever has this label. There is none if another process has it, or if it keeps more names
-/// from now on: then it is to be tried again.
+/// The failure of a log that isn't opened for whoever has this label. There is none if another
+/// process has it, or if it keeps more names from now on: then it is to be tried again.
 fn claim_failure(
     rt: &HostRuntime,
     path: &str,
@@ -221,8 +222,9 @@ fn claim_failure(
     }
 }
 
-/// Opens the log at a path for whoever has this label, or makes it. It is to be tried again if another process has it, or if it keeps more
-/// names from now on. One that is another's is refused, and so is half of a log. Of a path at which no log can be, nothing is made there.
+/// Opens the log at a path for whoever has this label, or makes it. It is to be tried again if
+/// another process has it, or if it keeps more names from now on. One that is another's is refused,
+/// and so is half of a log. Of a path at which no log can be, nothing is made there.
 pub(crate) fn open_claimed<S: Start>(
     rt: &HostRuntime,
     path: &str,

@@ -41,7 +41,8 @@ pub struct Service<'b, 'a> {
 /// What came of a service whose names are names.
 #[derive(Drop)]
 pub enum Served {
-    /// The log isn't open yet: another process has it, or it keeps more names from now on. Nothing was read or written.
+    /// The log isn't open yet: another process has it, or it keeps more names from now on. Nothing
+    /// was read or written.
     NotYet,
     /// The session went to its end, and this says whether the log could be closed.
     Closed(Result<(), LogFault>),
@@ -60,8 +61,9 @@ pub enum Left<L: Drop> {
     Strange(L),
 }
 
-/// Serves a driver of so many threads and resource managers over a log, as the manager of this name, until it quits, its requests end,
-/// or a page was refused that lists a strange branch; and gives the log back.
+/// Serves a driver of so many threads and resource managers over a log, as the manager of this name,
+/// until it quits, its requests end, or a page was refused that lists a strange branch; and gives
+/// the log back.
 pub(crate) fn serve_over<L: DecisionLog + Drop, R: Read, W: Write>(
     alloc: Global,
     name: &ManagerName,
@@ -107,7 +109,8 @@ pub(crate) fn end_in_files<D: Disk + Drop>(left: Left<SqlLog<FileStore<D>>>) -> 
     }
 }
 
-/// The same over files, which are closed then. Tells why the session ended early, or whether the log could be closed, or shut.
+/// The same over files, which are closed then. Tells why the session ended early, or whether the log
+/// could be closed, or shut.
 pub fn serve_in_files<D: Disk + Drop, R: Read, W: Write>(
     alloc: Global,
     name: &ManagerName,
