@@ -77,7 +77,7 @@ final class JavaFiles {
                 }
             } catch (Exception | Error error) {
                 failed++;
-                Path kept = folder.resolve("failed-" + failed + "-" + words[3]);
+                Path kept = folder.resolve("failed-" + words[1] + "-" + failed + "-" + words[3]);
                 Files.copy(file, kept, java.nio.file.StandardCopyOption.REPLACE_EXISTING);
                 String text = String.valueOf(error.getMessage());
                 System.out.println("failed: " + kept + ": " + error.getClass().getName() + ": " + text.substring(0, Math.min(200, text.length())));
