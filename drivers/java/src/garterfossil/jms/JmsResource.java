@@ -86,7 +86,7 @@ public final class JmsResource implements Resource {
 
     /** Connections for programs: in a transaction of the manager each session takes part in it. */
     public ConnectionFactory connectionFactory(Manager of) {
-        return new PooledConnectionFactory(of, this, outside);
+        return PooledConnectionFactory.of(of, this, outside);
     }
 
     @Override

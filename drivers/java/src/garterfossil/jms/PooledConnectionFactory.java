@@ -3,6 +3,7 @@ package garterfossil.jms;
 import garterfossil.Fault;
 import garterfossil.GlobalTransaction;
 import garterfossil.Manager;
+import java.lang.reflect.InvocationHandler;
 import java.lang.reflect.InvocationTargetException;
 import java.lang.reflect.Method;
 import java.lang.reflect.Proxy;
@@ -15,33 +16,42 @@ import javax.jms.Session;
 
 /**
  * Connections to a broker. A session that is made in a transaction takes part in it; outside of any it is an ordinary one, of another
- * factory.
+ * factory. No class implements the interface, since that has more methods from JMS 2.0 on, which the jar may run over.
  */
-final class PooledConnectionFactory implements ConnectionFactory {
+final class PooledConnectionFactory {
     private final Manager manager;
     private final JmsResource resource;
     private final ConnectionFactory outside;
 
-    PooledConnectionFactory(Manager manager, JmsResource resource, ConnectionFactory outside) {
+    private PooledConnectionFactory(Manager manager, JmsResource resource, ConnectionFactory outside) {
         this.manager = manager;
         this.resource = resource;
         this.outside = outside;
     }
 
-    @Override
-    public Connection createConnection() {
-        ConnectionHandle handle = new ConnectionHandle();
-        return (Connection) Proxy.newProxyInstance(getClass().getClassLoader(), new Class<?>[] {Connection.class}, handle::invoke);
+    static ConnectionFactory of(Manager manager, JmsResource resource, ConnectionFactory outside) {
+        return proxied(ConnectionFactory.class, new PooledConnectionFactory(manager, resource, outside)::invoke);
     }
 
-    @Override
-    public Connection createConnection(String user, String password) throws JMSException {
-        throw new JMSException("the user is that of the XAConnectionFactory");
+    private static <T> T proxied(Class<T> face, InvocationHandler handler) {
+        return face.cast(Proxy.newProxyInstance(PooledConnectionFactory.class.getClassLoader(), new Class<?>[] {face}, handler));
     }
 
-    @Override
-    public String toString() {
-        return "connections to " + resource.name();
+    private Object invoke(Object proxy, Method method, Object[] words) throws JMSException {
+        switch (method.getName()) {
+            case "equals": return proxy == words[0];
+            case "hashCode": return System.identityHashCode(proxy);
+            case "toString": return "connections to " + resource.name();
+            case "createConnection": return connection(words);
+            default: throw new UnsupportedOperationException(method.getName() + ": connections are made by createConnection");
+        }
+    }
+
+    private Connection connection(Object[] words) throws JMSException {
+        if (words != null) {
+            throw new JMSException("the user is that of the XAConnectionFactory");
+        }
+        return proxied(Connection.class, new ConnectionHandle()::invoke);
     }
 
     /** A connection as a program has it. */
