@@ -1,6 +1,7 @@
-/* What the driver in C reads from files: its settings (with -DSETTINGS), or the file beside the
- * log. Nothing but an answer may come of any bytes; and of the second, what was read is written,
- * and read as the same. (libFuzzer; tests/fuzz builds and runs it.) */
+/* What the driver in C reads: its settings (with -DSETTINGS), identifiers as a database lists them
+ * (-DBRANCHES), or the file beside the log. Nothing but an answer may come of any bytes; what was
+ * read of the second is spelled as it was, and what was read of the third is written, and read as
+ * the same. (libFuzzer; tests/fuzz builds and runs it.) */
 #include <stdbool.h>
 #include <stdint.h>
 #include <stdio.h>
@@ -8,6 +9,26 @@
 #include <string.h>
 #include <unistd.h>
 
+int LLVMFuzzerTestOneInput(const uint8_t *data, size_t size);
+
+#ifdef BRANCHES
+#include "xid_text.h"
+
+int LLVMFuzzerTestOneInput(const uint8_t *data, size_t size)
+{
+    char text[2 * XID_TEXT] = "", again[XID_TEXT];
+    XID xid;
+
+    if (size >= sizeof text)
+        return 0;
+    memcpy(text, data, size);
+    if (xid_from(text, &xid) && strcmp(text_of(&xid, again), text) != 0)
+        abort();
+    if (is_uuid(text) && strlen(text) != 36)
+        abort();
+    return 0;
+}
+#else
 /* What is written needn't outlive the machine here. */
 #define fsync(file) 0
 #ifdef SETTINGS
@@ -15,8 +36,6 @@
 #else
 #include "databases.c"
 #endif
-
-int LLVMFuzzerTestOneInput(const uint8_t *data, size_t size);
 
 static char folder[] = "/tmp/xatm-fuzz-c-XXXXXX", in_folder[600];
 
@@ -70,4 +89,5 @@ int LLVMFuzzerTestOneInput(const uint8_t *data, size_t size)
         abort();
     return 0;
 }
+#endif
 #endif

@@ -1,27 +1,37 @@
 package garterfossil;
 
 import java.io.IOException;
+import java.lang.reflect.Method;
+import java.nio.charset.StandardCharsets;
 import java.nio.file.Files;
 import java.nio.file.Path;
+import java.nio.file.StandardCopyOption;
 import java.util.Arrays;
 import java.util.Map;
 import java.util.Random;
+import java.util.concurrent.Callable;
+import java.util.concurrent.ExecutionException;
+import java.util.concurrent.FutureTask;
+import java.util.concurrent.TimeUnit;
+import java.util.concurrent.TimeoutException;
 import java.util.logging.Level;
 import java.util.logging.Logger;
 
 /**
- * What the driver in Java reads from files: the properties of its command, and the file beside a log, each changed by chance. {@code JavaFiles SECONDS
- * SEED FOLDER settings|beside}. It prints each input that ends in another way than is promised, and how many there were.
+ * What the driver in Java reads, each changed by chance: the properties of its command, the file beside a log, identifiers as a database lists them, and
+ * what a coordinator says. {@code JavaReaders SECONDS SEED FOLDER settings|beside|branches|replies}. It prints each input that ends in another way than
+ * is promised, or not in a minute, and how many there were.
  */
-final class JavaFiles {
+final class JavaReaders {
     private static final String SETTINGS = "log = /nowhere/decisions.db\nprogram = /nowhere/xatm\n"
-        + "resource.bank.class = garterfossil.JavaFiles$Source\nresource.bank.url = jdbc:postgresql:bank\nresource.bank.loginTimeout = 3\n";
+        + "resource.bank.class = garterfossil.JavaReaders$Source\nresource.bank.url = jdbc:postgresql:bank\nresource.bank.loginTimeout = 3\n";
     private static final String BESIDE = "{\"version\": 1, \"manager\": \"shop-1\", \"shut\": \"a \\\"log\\\" \\u00e4\", \"incarnation\": 12,\n"
         + " \"databases\": [{\"number\": 0, \"at\": \"jdbc:postgresql:bank\", \"identity\": \"postgresql 1 2\"},\n"
         + " {\"number\": 1, \"at\": \"jdbc:mariadb:stock\", \"identity\": \"mariadb 5f\"}]}\n";
+    private static final String BRANCH = "7:73686f702d3100000000000000070000000000000001:0000000000000000";
     private static final String[] PIECES = {"\0", "\u00e9", "\n", "\\", "\\u", "\"", "{", "[", "]", "}", ",", ":", "-", "null", "9223372036854775808", "1e9", "=", "."};
 
-    private JavaFiles() {
+    private JavaReaders() {
     }
 
     /** Nothing is changed more than it takes to be wrong. */
@@ -36,7 +46,7 @@ final class JavaFiles {
                 default -> made.replace(at, Math.min(made.length(), at + 1), String.valueOf((char) chance.nextInt(300)));
             }
         }
-        byte[] bytes = made.toString().getBytes(chance.nextInt(9) == 0 ? java.nio.charset.StandardCharsets.ISO_8859_1 : java.nio.charset.StandardCharsets.UTF_8);
+        byte[] bytes = made.toString().getBytes(chance.nextInt(9) == 0 ? StandardCharsets.ISO_8859_1 : StandardCharsets.UTF_8);
         return chance.nextInt(5) == 0 ? Arrays.copyOf(bytes, chance.nextInt(bytes.length + 1)) : bytes;
     }
 
@@ -52,6 +62,21 @@ final class JavaFiles {
         }
     }
 
+    /** An identifier is refused, or it is spelled again as it was. */
+    private static void readsBranches(Path file) throws Exception {
+        String text = Files.readString(file, StandardCharsets.ISO_8859_1);
+        try {
+            if (!BranchXid.parse(text).toString().equalsIgnoreCase(text)) {
+                throw new AssertionError("an identifier is read as another one");
+            }
+        } catch (IllegalArgumentException promised) {
+            // It is refused.
+        }
+        Method parse = Class.forName("garterfossil.jdbc.PreparedNames").getDeclaredMethod("parse", String.class);
+        parse.setAccessible(true);
+        parse.invoke(null, text);
+    }
+
     private static void readsSettings(Path folder) {
         int status = Command.run(new String[] {"status", folder.resolve("settings").toString()});
         if (status != 2) {
@@ -59,31 +84,55 @@ final class JavaFiles {
         }
     }
 
-    public static void main(String[] words) throws IOException {
+    private static void reads(String kind, Path folder, Path file) throws Exception {
+        switch (kind) {
+            case "settings": readsSettings(folder); break;
+            case "beside": readsBeside(folder); break;
+            case "branches": readsBranches(file); break;
+            default: JavaReplies.read(Files.readAllBytes(file), folder);
+        }
+    }
+
+    public static void main(String[] words) throws Exception {
         Logger.getLogger("").setLevel(Level.OFF);
         System.setErr(new java.io.PrintStream(java.io.OutputStream.nullOutputStream()));
         Random chance = new Random(Long.parseLong(words[1]));
         Path folder = Path.of(words[2]);
-        boolean isBeside = words[3].equals("beside");
-        Path file = folder.resolve(isBeside ? "it.db-databases" : "settings");
+        String kind = words[3], base = Map.of("settings", SETTINGS, "beside", BESIDE, "branches", BRANCH, "replies", JavaReplies.SAID).get(kind);
+        Path file = folder.resolve(kind.equals("beside") ? "it.db-databases" : kind);
         long inputs = 0, failed = 0, until = System.nanoTime() + (long) (Double.parseDouble(words[0]) * 1e9);
         for (; System.nanoTime() < until; inputs++) {
-            Files.write(file, mutated(chance, isBeside ? BESIDE : SETTINGS));
-            try {
-                if (isBeside) {
-                    readsBeside(folder);
-                } else {
-                    readsSettings(folder);
-                }
-            } catch (Exception | Error error) {
+            Files.write(file, mutated(chance, base));
+            Throwable error = inTime(() -> {
+                reads(kind, folder, file);
+                return null;
+            });
+            if (error != null) {
                 failed++;
-                Path kept = folder.resolve("failed-" + words[1] + "-" + failed + "-" + words[3]);
-                Files.copy(file, kept, java.nio.file.StandardCopyOption.REPLACE_EXISTING);
+                Path kept = folder.resolve("failed-" + words[1] + "-" + failed + "-" + kind);
+                Files.copy(file, kept, StandardCopyOption.REPLACE_EXISTING);
                 String text = String.valueOf(error.getMessage());
                 System.out.println("failed: " + kept + ": " + error.getClass().getName() + ": " + text.substring(0, Math.min(200, text.length())));
             }
         }
         System.out.println(inputs + " inputs, " + failed + " failed");
+        System.exit(0);
+    }
+
+    /** What an input ends in on a thread of its own, which one that doesn't end keeps; null if it ends well. */
+    private static Throwable inTime(Callable<Void> input) throws InterruptedException {
+        FutureTask<Void> task = new FutureTask<>(input);
+        Thread thread = new Thread(task, "input");
+        thread.setDaemon(true);
+        thread.start();
+        try {
+            task.get(60, TimeUnit.SECONDS);
+            return null;
+        } catch (ExecutionException error) {
+            return error.getCause();
+        } catch (TimeoutException error) {
+            return error;
+        }
     }
 
     /** A source that is reached nowhere. */
