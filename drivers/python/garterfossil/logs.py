@@ -4,6 +4,7 @@ from __future__ import annotations
 
 import contextlib
 import fcntl
+import logging
 import os
 import re
 import secrets
@@ -18,6 +19,8 @@ from typing import IO, Dict, List, Mapping, Optional, Sequence, Tuple
 
 from .errors import LogInUse, SetupError
 from .xid import Xid
+
+log = logging.getLogger("garterfossil")
 
 #: How a file of SQLite begins, and where it is locked: the bytes from here on.
 HEADER, LOCKED, LOCKED_BYTES = b"SQLite format 3\0", 0x40000000, 512
@@ -42,6 +45,11 @@ USED = ("another process runs over it", "in use by another process")
 EXPLAINED = re.compile(r" +([0-9]+:[0-9a-f]+:[0-9a-f]+) at resource manager ")
 #: What stands for the number of a worker in the path of a log, and the most workers.
 WORKER, MOST_WORKERS = "{worker}", 1024
+#: What the system says of its mounts, and kinds of file systems that are no place for a log: of several machines, and those that are gone
+#: after a stop.
+MOUNTS = "/proc/self/mountinfo"
+SHARED = ("nfs", "nfs4", "cifs", "smb3", "fuse.sshfs", "fuse.glusterfs")
+PASSING = ("overlay", "tmpfs", "ramfs")
 
 
 class LookKilled(SetupError):
@@ -217,6 +225,27 @@ def fault_of_log(path: str) -> Optional[str]:
     if begin and begin != HEADER:
         return "it is another kind of file"
     return f"the disk of {folder} is full" if is_disk_full(path) else None
+
+
+def see_place(path: str) -> None:
+    """Warns of a place for a log at which it isn't safe, as far as the system tells."""
+    kind = _kind_of_place(os.path.dirname(os.path.abspath(path)))
+    if kind in SHARED:
+        log.warning("the log %s lies on %s: nothing sees there whether a program of another machine has it too", path, kind)
+    elif kind in PASSING:
+        log.warning("the log %s lies on %s, and is lost with the container or the machine: what is prepared then waits for somebody", path, kind)
+
+
+def _kind_of_place(folder: str) -> Optional[str]:
+    """The kind of a folder's file system."""
+    try:
+        device = os.stat(folder).st_dev
+        with open(MOUNTS, encoding="utf-8", errors="replace") as it:
+            mounts = [line.split() for line in it]
+        of = f"{os.major(device)}:{os.minor(device)}"
+        return next((words[words.index("-") + 1] for words in mounts if words[2] == of), None)
+    except (OSError, ValueError, IndexError):
+        return None
 
 
 def is_disk_full(path: str) -> bool:

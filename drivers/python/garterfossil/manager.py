@@ -39,7 +39,7 @@ from .databases import NAME, Databases
 from .errors import CoordinatorGone, LogInUse, NestedTransaction, NotNow, Overdue, SetupError, TransactionOver, XaError
 from .coordinator import serve_command
 from .hands import PAUSE
-from .logs import Names, free_log, is_new_log, kept_log, names_for
+from .logs import Names, free_log, is_new_log, kept_log, names_for, see_place
 from .metrics import in_prometheus, of_counts
 from .outcomes import Outcome, Outcomes
 from .session import Session, Settings
@@ -109,6 +109,7 @@ class TransactionManager:
         all_databases = Databases(databases)
         # A worker has its log as long as this is open.
         path, self._worker = free_log(os.fspath(log))
+        see_place(path)
 
         def settings() -> Settings:
             if command is not None:
