@@ -8,6 +8,7 @@
 
 #include "../beside/databases.h"
 #include "garterfossil.h"
+#include "place.h"
 
 struct all all = {.lock = PTHREAD_MUTEX_INITIALIZER};
 
@@ -81,6 +82,7 @@ static bool is_keeper_started(void)
 
     if (!read_databases() || thread_of(0) == NULL)
         return false;
+    see_place();
     pthread_once(&once, set_up_clock);
     coordinator.is_traced = settings.is_traced;
     coordinator.patience = settings.patience;

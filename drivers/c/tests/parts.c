@@ -1,7 +1,9 @@
 /* Settings that are wrong, and the text of identifiers. */
+#include <linux/magic.h>
 #include <stdio.h>
 #include <string.h>
 
+#include "../src/place.h"
 #include "../src/thread.h"
 #include "../switches/xid_text.h"
 #include "story.h"
@@ -45,6 +47,13 @@ static void texts_of_identifiers(void)
         see_number(__FILE__, __LINE__, wrong[i], xid_from(wrong[i], &xid), false);
 }
 
+static void places_of_logs(void)
+{
+    SAYS(danger_of(NFS_SUPER_MAGIC), "is shared: nothing sees there whether a program of another machine has it too");
+    SAYS(danger_of(OVERLAYFS_SUPER_MAGIC), "is lost with the container or the machine: what is prepared then waits for somebody");
+    IS(danger_of(EXT4_SUPER_MAGIC) == NULL, true);
+}
+
 /* A number that is none of a resource manager is none, also where its lowest bits are. */
 static void numbers_in_replies(void)
 {
@@ -76,4 +85,5 @@ static void texts_of_uuids(void)
 
 const struct story of_parts[] = {
     {"parts: settings that are wrong", settings_that_are_wrong}, {"parts: texts of identifiers", texts_of_identifiers},
+    {"parts: places of logs", places_of_logs},
     {"parts: texts of UUIDs", texts_of_uuids}, {"parts: numbers in replies", numbers_in_replies}, {NULL, NULL}};

@@ -8,7 +8,7 @@ import subprocess
 import sys
 from unittest import mock
 
-from garterfossil import manager
+from garterfossil import logs, manager
 from garterfossil import LogInUse, SetupError, TransactionManager
 from garterfossil.coordinator import Coordinator, serve_command
 from garterfossil.logs import KeptLog, Names, free_log, kept_log, logs_of_workers, names_at_work, printed_log
@@ -40,6 +40,18 @@ class Kept(Case):
             self.assertEqual(xa.name, name)
         with self.manager(log=self.log + "-2") as xa:
             self.assertNotEqual(xa.name, name)
+
+    def test_a_log_on_a_file_system_that_is_no_place_for_it_is_warned_of(self):
+        device = os.stat(self.folder).st_dev
+        mounts = os.path.join(self.folder, "mounts")
+        for kind, said in (("nfs4", ["another machine"]), ("overlay", ["lost with the container"]), ("ext4", [])):
+            with open(mounts, "w") as it:
+                it.write(f"22 1 0:999999 / /proc rw - proc proc rw\n36 22 {os.major(device)}:{os.minor(device)} / / rw master:1 - {kind} a rw\n")
+            with mock.patch.object(logs, "MOUNTS", mounts), mock.patch.object(logs.log, "warning") as warned:
+                self.manager().close()
+            texts = [it.args[0] % it.args[1:] for it in warned.call_args_list if "lies on" in it.args[0]]
+            self.assertEqual([one in text for one, text in zip(said, texts)], [True] * len(texts))
+            self.assertEqual(len(texts), len(said), kind)
 
     def test_a_new_log_over_old_branches_leaves_them_alone(self):
         with self.manager() as xa:

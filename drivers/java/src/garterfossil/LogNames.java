@@ -1,6 +1,7 @@
 package garterfossil;
 
 import java.io.IOException;
+import java.lang.System.Logger.Level;
 import java.nio.charset.StandardCharsets;
 import java.nio.file.Files;
 import java.nio.file.Path;
@@ -51,6 +52,30 @@ final class LogNames {
             return Files.exists(log) && Files.size(log) > 0;
         } catch (IOException error) {
             throw new Fault.Unavailable("the log can't be looked at", error);
+        }
+    }
+
+    /** Warns of a place of a log at which it isn't safe, as far as the system tells. */
+    static void seePlace(Path log) {
+        try {
+            String kind = Files.getFileStore(log.toAbsolutePath().getParent()).type(), danger = dangerOf(kind);
+            if (!danger.isEmpty()) {
+                Manager.LOG.log(Level.WARNING, () -> "the log " + log + " lies on " + kind + ": " + danger);
+            }
+        } catch (IOException error) {
+            // What is wrong with its folder the program says.
+        }
+    }
+
+    /** What may become of a log on a kind of file system; empty for those of which nothing is known. */
+    static String dangerOf(String kind) {
+        switch (kind) {
+            case "nfs": case "nfs4": case "cifs": case "smb3": case "fuse.sshfs": case "fuse.glusterfs":
+                return "nothing sees there whether a program of another machine has it too";
+            case "overlay": case "tmpfs": case "ramfs":
+                return "it is lost with the container or the machine, and what is prepared then waits for somebody";
+            default:
+                return "";
         }
     }
 

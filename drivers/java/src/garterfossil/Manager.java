@@ -179,6 +179,7 @@ public final class Manager implements AutoCloseable {
     private void begin() throws Fault {
         try {
             synchronized (starting) {
+                LogNames.seePlace(made.log);
                 boolean isNew = !LogNames.isThere(made.log);
                 names = untilFree(() -> LogNames.of(made.log, made.starter, made.program, made.name, made.resources));
                 identities = new Identities(made.log, names.manager, isNew);

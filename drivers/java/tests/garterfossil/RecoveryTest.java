@@ -327,6 +327,13 @@ public class RecoveryTest {
     }
 
     @Test
+    public void placesOfALog() {
+        assertEquals("nothing sees there whether a program of another machine has it too", LogNames.dangerOf("nfs4"));
+        assertEquals("it is lost with the container or the machine, and what is prepared then waits for somebody", LogNames.dangerOf("overlay"));
+        assertEquals("", LogNames.dangerOf("ext4"));
+    }
+
+    @Test
     public void branchesOfOthersStay() throws Exception {
         BranchXid others = BranchXid.of("other", "0000000000000009" + "0000000000000001", 1, 0);
         world.a.branches.put(others, StandInResource.State.PREPARED);
