@@ -13,7 +13,8 @@ TOP = os.path.dirname(os.path.dirname(os.path.dirname(os.path.realpath(__file__)
 #: Seconds of a processor that an input may take, and seconds that may go by meanwhile on a machine
 #: with much to do.
 MOST, MOST_ELAPSED = 20, 600
-STATUSES = (0, 1, 2, 3, 4)
+#: How the program ends, with what README says of each.
+STATUSES = range(9)
 OPENED = [f"issue {thread} {rm} xa_open;answer {thread} {rm} xa_open 0" for thread in range(4) for rm in range(2)]
 RECOVERED = ["recover 0", "page 0", "recover 1", "page 1", "start 1", "start 2", "start 3"]
 
