@@ -1,36 +1,17 @@
-/* Moments, on the clock that nobody sets. */
+/* Moments, in seconds on the clock that nobody sets. */
 #include "clock.h"
 
-#include <errno.h>
-
-enum { NANOSECONDS = 1000000000 };
-
-struct timespec in_seconds(double seconds)
+double now(void)
 {
-    struct timespec at;
-    long whole = (long)seconds;
+    struct timespec it;
 
-    clock_gettime(CLOCK_MONOTONIC, &at);
-    at.tv_sec += whole;
-    at.tv_nsec += (long)((seconds - (double)whole) * NANOSECONDS);
-    if (at.tv_nsec >= NANOSECONDS) {
-        at.tv_sec++;
-        at.tv_nsec -= NANOSECONDS;
-    }
-    return at;
+    clock_gettime(CLOCK_MONOTONIC, &it);
+    return (double)it.tv_sec + (double)it.tv_nsec / 1e9;
 }
 
-bool is_past(const struct timespec *at)
+struct timespec timespec_of(double moment)
 {
-    struct timespec now = in_seconds(0);
+    time_t whole = (time_t)moment;
 
-    return now.tv_sec > at->tv_sec || (now.tv_sec == at->tv_sec && now.tv_nsec >= at->tv_nsec);
-}
-
-void pause_for(double seconds)
-{
-    struct timespec at = in_seconds(seconds);
-
-    while (clock_nanosleep(CLOCK_MONOTONIC, TIMER_ABSTIME, &at, NULL) == EINTR)
-        ;
+    return (struct timespec){.tv_sec = whole, .tv_nsec = (long)((moment - (double)whole) * 1e9)};
 }

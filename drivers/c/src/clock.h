@@ -1,11 +1,8 @@
-/* Moments, on the clock that nobody sets. */
+/* Moments, in seconds on the clock that nobody sets. */
 #ifndef CLOCK_H
 #define CLOCK_H
-#include <stdbool.h>
 #include <time.h>
 
-/* The moment in so many seconds. */
-struct timespec in_seconds(double seconds);
-bool is_past(const struct timespec *);
-void pause_for(double seconds);
+double now(void);
+struct timespec timespec_of(double moment);
 #endif

@@ -6,10 +6,39 @@
 #include <string.h>
 #include <sys/socket.h>
 #include <sys/time.h>
+#include <unistd.h>
 
 #include "clock.h"
+#include "process.h"
 
-enum { MOST_MOVES = 1024, /* of a line */ MOST_UNREAD = 64 };
+enum { LINE = 65536 };
+
+struct coordinator coordinator = {.lock = PTHREAD_MUTEX_INITIALIZER, .changed = PTHREAD_COND_INITIALIZER, .is_gone = true};
+
+/* All of it is under the lock. */
+static struct process process = {.handle = -1, .lines = -1, .errors = -1};
+static struct move *posted, *sent; /* that wait to be sent, and for their replies, the oldest first */
+static unsigned deciding; /* so many of those that are sent */
+static bool is_read, is_written, is_silent; /* by a thread just now; it has said nothing for too long */
+static size_t unread; /* bytes of `in` */
+static char in[LINE], out[LINE];
+
+void lock(void)
+{
+    pthread_mutex_lock(&coordinator.lock);
+}
+
+void unlock(void)
+{
+    pthread_mutex_unlock(&coordinator.lock);
+}
+
+bool is_changed_by(double moment)
+{
+    struct timespec until = timespec_of(moment);
+
+    return pthread_cond_clockwait(&coordinator.changed, &coordinator.lock, CLOCK_MONOTONIC, &until) == 0;
+}
 
 static void append(struct move **list, struct move *move)
 {
@@ -28,76 +57,71 @@ static void arrive(struct move *move)
 
 static void arrive_all(struct move **list)
 {
-    for (struct move *move = *list, *next; move != NULL; move = next) {
-        next = move->next;
+    for (struct move *move = *list; move != NULL; move = move->next)
         arrive(move);
-    }
     *list = NULL;
 }
 
-static void lose(struct coordinator *c)
+static void lose(void)
 {
-    if (c->is_gone)
+    if (coordinator.is_gone)
         return;
-    c->is_gone = true;
-    shutdown(c->process.lines, SHUT_RDWR); /* whoever waits at it wakes */
-    arrive_all(&c->sent);
-    arrive_all(&c->posted);
+    coordinator.is_gone = true;
+    coordinator.is_up = false;
+    shutdown(process.lines, SHUT_RDWR); /* whoever waits at it wakes */
+    arrive_all(&sent);
+    arrive_all(&posted);
+    pthread_cond_broadcast(&coordinator.changed);
 }
 
 /* ** reading */
 
-static void deliver(struct coordinator *c, const char *text, size_t length, bool is_last)
+static void deliver(const char *text, size_t length, bool is_last)
 {
-    struct move *move = c->sent;
+    struct move *move = sent;
 
-    if (c->is_traced)
-        fprintf(stderr, "< %.*s\n", (int)length, text);
     if (move == NULL || length >= REPLY || move->ends_line != is_last) {
-        lose(c); /* it doesn't reply to what it was asked */
+        lose(); /* it doesn't reply to what it was asked */
         return;
     }
-    c->sent = move->next;
-    c->sent_count--;
-    c->deciding -= move->decides;
+    sent = move->next;
+    deciding -= move->decides;
     memcpy(move->reply, text, length);
     move->reply[length] = '\0';
     arrive(move);
 }
 
-static void deliver_all(struct coordinator *c)
+static void deliver_all(void)
 {
     size_t begun = 0;
 
-    for (size_t i = 0; i < c->read; i++)
-        if (c->in[i] == ';' || c->in[i] == '\n') {
-            deliver(c, c->in + begun, i - begun, c->in[i] == '\n');
+    for (size_t i = 0; i < unread; i++)
+        if (in[i] == ';' || in[i] == '\n') {
+            deliver(in + begun, i - begun, in[i] == '\n');
             begun = i + 1;
         }
-    c->read -= begun;
-    memmove(c->in, c->in + begun, c->read);
-    if (c->read >= REPLY)
-        lose(c);
+    unread -= begun;
+    memmove(in, in + begun, unread);
+    if (unread >= REPLY)
+        lose();
 }
 
 /* Reads what has come, or waits for it if no flag is given, and gives the replies out. False if
  * nothing has come: the socket knows the patience. The lock is free meanwhile. */
-static bool is_any_read(struct coordinator *c, int flags)
+static bool is_any_read(int flags)
 {
-    int lines = c->process.lines;
-
-    c->is_read = true;
-    pthread_mutex_unlock(&c->lock);
-    ssize_t count = recv(lines, c->in + c->read, sizeof c->in - c->read, flags);
+    is_read = true;
+    unlock();
+    ssize_t count = recv(process.lines, in + unread, sizeof in - unread, flags);
     bool is_later = count < 0 && (errno == EAGAIN || errno == EINTR);
-    pthread_mutex_lock(&c->lock);
-    c->is_read = false;
+    lock();
+    is_read = false;
     if (is_later)
         return false;
-    c->read += count > 0 ? (size_t)count : 0;
-    deliver_all(c);
+    unread += count > 0 ? (size_t)count : 0;
+    deliver_all();
     if (count <= 0)
-        lose(c);
+        lose();
     return true;
 }
 
@@ -105,41 +129,38 @@ static bool is_any_read(struct coordinator *c, int flags)
 
 /* The next line: how many bytes. A move that decides waits while another is on its way, and goes
  * with those that wait, too: so the log is written once for all of them. */
-static size_t write_line(struct coordinator *c)
+static size_t write_line(void)
 {
-    bool may_decide = c->deciding == 0;
-    struct move **link = &c->posted, *move = NULL;
+    bool may_decide = deciding == 0;
+    struct move *last = NULL;
     size_t length = 0;
 
-    for (int moves = 0; *link != NULL && moves < MOST_MOVES && length + MOVE < LINE;) {
-        if ((*link)->decides && !may_decide) {
-            link = &(*link)->next;
+    for (struct move **link = &posted, *move; (move = *link) != NULL && length + MOVE < LINE;) {
+        if (move->decides && !may_decide) {
+            link = &move->next;
             continue;
         }
-        if (moves > 0 && (move->is_alone || (*link)->is_alone))
+        if (last != NULL && (last->is_alone || move->is_alone))
             break;
-        move = *link;
         *link = move->next;
-        length += (size_t)snprintf(c->out + length, sizeof c->out - length, "%s%s", moves++ > 0 ? ";" : "", move->text);
-        append(&c->sent, move);
-        c->sent_count++;
-        c->deciding += move->decides;
+        length += (size_t)snprintf(out + length, sizeof out - length, "%s%s", last == NULL ? "" : ";", move->text);
+        append(&sent, move);
+        deciding += move->decides;
+        last = move;
     }
-    if (move == NULL)
-        return 0;
-    move->ends_line = true;
-    c->out[length++] = '\n';
-    if (c->is_traced)
-        fprintf(stderr, "> %.*s", (int)length, c->out);
+    if (last != NULL) {
+        last->ends_line = true;
+        out[length++] = '\n';
+    }
     return length;
 }
 
 /* False if the coordinator is gone, or reads nothing within the patience, which the socket
  * knows. */
-static bool is_line_sent(int lines, const char *from, size_t length)
+static bool is_line_sent(const char *from, size_t length)
 {
     while (length > 0) {
-        ssize_t count = send(lines, from, length, MSG_NOSIGNAL);
+        ssize_t count = send(process.lines, from, length, MSG_NOSIGNAL);
         if (count < 0 && errno != EINTR)
             return false;
         from += count > 0 ? count : 0;
@@ -148,28 +169,26 @@ static bool is_line_sent(int lines, const char *from, size_t length)
     return true;
 }
 
-/* Writes what was posted, unless another thread does. Much that is unread is read before: the
+/* Writes what was posted, unless another thread does. What is unread is read before: the
  * coordinator might wait for a reader, and this writer for the coordinator. */
-static void write_all(struct coordinator *c)
+static void write_all(void)
 {
     size_t length;
 
-    if (c->is_written)
+    if (is_written)
         return;
-    c->is_written = true;
-    while (!c->is_gone && (length = write_line(c)) > 0) {
-        if (c->sent_count > MOST_UNREAD && !c->is_read)
-            is_any_read(c, MSG_DONTWAIT);
-        int lines = c->process.lines;
-        pthread_mutex_unlock(&c->lock);
-        bool is_sent = is_line_sent(lines, c->out, length);
-        bool is_silent = !is_sent && errno == EAGAIN;
-        pthread_mutex_lock(&c->lock);
-        c->is_silent = c->is_silent || is_silent;
+    is_written = true;
+    while (!coordinator.is_gone && (length = write_line()) > 0) {
+        if (sent->next != NULL && !is_read)
+            is_any_read(MSG_DONTWAIT);
+        unlock();
+        bool is_sent = is_line_sent(out, length), is_late = !is_sent && errno == EAGAIN;
+        lock();
+        is_silent = is_silent || is_late;
         if (!is_sent)
-            lose(c);
+            lose();
     }
-    c->is_written = false;
+    is_written = false;
 }
 
 static void begin(struct move *move)
@@ -178,16 +197,16 @@ static void begin(struct move *move)
     move->is_here = move->is_waited_for = move->ends_line = false;
 }
 
-void coordinator_post(struct coordinator *c, struct move *move, unsigned session)
+void coordinator_post(struct move *move, unsigned session)
 {
-    pthread_mutex_lock(&c->lock);
+    lock();
     begin(move);
-    if (session == c->session && !c->is_gone)
-        append(&c->posted, move);
+    if (session == coordinator.session && !coordinator.is_gone)
+        append(&posted, move);
     else
         arrive(move);
-    write_all(c);
-    pthread_mutex_unlock(&c->lock);
+    write_all();
+    unlock();
 }
 
 /* ** waiting */
@@ -204,91 +223,99 @@ static bool is_reader_woken(struct move *list)
 
 /* Reads, or waits while another thread does. A process that was stopped for long looks once
  * more. */
-static void wait_for(struct coordinator *c, struct move *move, const struct timespec *until)
+static void wait_for(struct move *move, double until)
 {
-    if (c->is_read) {
+    if (is_read) {
         move->is_waited_for = true;
-        pthread_cond_wait(&move->woken, &c->lock);
+        pthread_cond_wait(&move->woken, &coordinator.lock);
         move->is_waited_for = false;
         return;
     }
-    bool is_late = is_past(until);
-    if (!is_any_read(c, is_late ? MSG_DONTWAIT : 0) && is_late) {
-        c->is_silent = true;
-        lose(c);
+    bool is_late = now() >= until;
+    if (!is_any_read(is_late ? MSG_DONTWAIT : 0) && is_late) {
+        is_silent = true;
+        lose();
     }
-    write_all(c); /* what it brought may let others go out */
+    write_all(); /* what it brought may let others go out */
 }
 
-void coordinator_wait(struct coordinator *c, struct move *move)
+void coordinator_wait(struct move *move)
 {
-    struct timespec until = in_seconds(c->patience);
+    double until = now() + coordinator.patience;
 
-    pthread_mutex_lock(&c->lock);
+    lock();
     while (!move->is_here)
-        wait_for(c, move, &until);
-    if (!c->is_read && !is_reader_woken(c->sent))
-        is_reader_woken(c->posted);
-    pthread_mutex_unlock(&c->lock);
+        wait_for(move, until);
+    if (!is_read && !is_reader_woken(sent))
+        is_reader_woken(posted);
+    unlock();
 }
 
 /* ** its start and its end */
 
-/* The next line, which nothing asks for: the greeting. */
-static void greet(struct coordinator *c, struct move *move)
+/* The next line, which nothing asks for. */
+static void expect(struct move *move)
 {
-    pthread_mutex_lock(&c->lock);
     begin(move);
     move->decides = false;
     move->ends_line = true;
-    append(&c->sent, move);
-    c->sent_count++;
-    if (c->is_gone)
-        arrive_all(&c->sent);
-    pthread_mutex_unlock(&c->lock);
-    coordinator_wait(c, move);
+    append(&sent, move);
 }
 
-bool coordinator_start(struct coordinator *c, char *const words[], struct move *move)
+bool coordinator_start(char *const words[], struct move *move)
 {
+    static struct move version = {.woken = PTHREAD_COND_INITIALIZER}; /* what it says before it greets */
+    struct timeval longest = {.tv_sec = (time_t)coordinator.patience};
     struct process started;
-    struct timeval longest = {.tv_sec = (time_t)c->patience};
 
     if (!process_start(&started, words))
         return false;
-    longest.tv_usec = (suseconds_t)((c->patience - (double)longest.tv_sec) * 1e6);
+    longest.tv_usec = (suseconds_t)((coordinator.patience - (double)longest.tv_sec) * 1e6);
     setsockopt(started.lines, SOL_SOCKET, SO_RCVTIMEO, &longest, sizeof longest);
     setsockopt(started.lines, SOL_SOCKET, SO_SNDTIMEO, &longest, sizeof longest);
-    pthread_mutex_lock(&c->lock);
-    c->process = started;
-    c->posted = c->sent = NULL;
-    c->read = c->deciding = c->sent_count = 0;
-    c->is_gone = c->is_silent = false;
-    c->session++;
-    pthread_mutex_unlock(&c->lock);
-    greet(c, move);
-    if (strncmp(move->reply, "protocol 1 ", 11) == 0)
-        greet(c, move);
+    lock();
+    process = started;
+    posted = sent = NULL;
+    unread = deciding = 0;
+    coordinator.is_gone = is_silent = false;
+    coordinator.session++;
+    expect(&version);
+    expect(move);
+    unlock();
+    coordinator_wait(&version);
+    coordinator_wait(move);
+    if (strncmp(version.reply, "protocol 1 ", 11) != 0)
+        move->reply[0] = '\0';
     return true;
 }
 
-void coordinator_lose(struct coordinator *c, unsigned session)
+void coordinator_lose(unsigned session)
 {
-    pthread_mutex_lock(&c->lock);
-    if (session == c->session)
-        lose(c);
-    pthread_mutex_unlock(&c->lock);
+    lock();
+    if (session == coordinator.session)
+        lose();
+    unlock();
 }
 
-void coordinator_end(struct coordinator *c, char *said, size_t room)
+void coordinator_end(char *said, size_t room)
 {
-    pthread_mutex_lock(&c->lock);
-    lose(c);
-    while (c->is_read || c->is_written) {
-        pthread_mutex_unlock(&c->lock);
-        pause_for(0.001);
-        pthread_mutex_lock(&c->lock);
+    said[0] = '\0';
+    lock();
+    lose();
+    while (is_read || is_written) {
+        unlock();
+        usleep(1000);
+        lock();
     }
-    pthread_mutex_unlock(&c->lock);
-    process_end(&c->process, c->is_silent ? 0 : c->patience, said, room);
+    unlock();
+    if (process.lines >= 0)
+        process_end(&process, is_silent ? 0 : coordinator.patience, said, room);
+    said[strcspn(said, "\n")] = '\0';
+}
+
+void coordinator_forget(void)
+{
+    process_forget(&process);
+    coordinator.is_gone = true;
+    coordinator.is_up = false;
 }

@@ -6,42 +6,35 @@
 #include <sys/stat.h>
 
 #include "../beside/databases.h"
+#include "clock.h"
 #include "garterfossil.h"
 #include "session.h"
 
 enum { SAID = 512 };
 
-static struct timespec tried[MOST_RMS]; /* in vain: not before this moment again */
+static double tried[MOST_RMS]; /* in vain: not before this moment again */
 
 /* ** the coordinator's start */
 
-/* The words of its command line (docs/MOVES.md). */
-struct command {
-    const char *words[16 + 2 * MOST_RMS];
-    char at_least[24], threads[12], rms[12];
-};
-
-static char *const *command_of(struct command *it)
+/* By its command line (docs/MOVES.md). */
+static bool is_process_started(void)
 {
-    const char *before[] = {settings.program, "serve", "--moves", "--at-least", it->at_least, "--log", settings.log};
-    size_t count = sizeof before / sizeof before[0];
+    char at_least[24], threads[12], rms[12];
+    const char *words[16 + 2 * MOST_RMS] = {
+        settings.program, "serve", "--moves", "--at-least", at_least, "--log", settings.log, "--name", settings.name};
+    int count = settings.name[0] == '\0' ? 7 : 9;
 
-    snprintf(it->at_least, sizeof it->at_least, "%ld", last_incarnation());
-    snprintf(it->threads, sizeof it->threads, "%d", settings.threads + 1);
-    snprintf(it->rms, sizeof it->rms, "%d", settings.rms);
-    memcpy(it->words, before, sizeof before);
-    if (settings.name[0] != '\0') {
-        it->words[count++] = "--name";
-        it->words[count++] = settings.name;
-    }
+    snprintf(at_least, sizeof at_least, "%ld", last_incarnation());
+    snprintf(threads, sizeof threads, "%d", settings.threads + 1);
+    snprintf(rms, sizeof rms, "%d", settings.rms);
     for (int rm = 0; rm < settings.rms; rm++) {
-        it->words[count++] = "--rm";
-        it->words[count++] = settings.rm[rm].name;
+        words[count++] = "--rm";
+        words[count++] = settings.rm[rm].name;
     }
-    it->words[count++] = it->threads;
-    it->words[count++] = it->rms;
-    it->words[count] = NULL;
-    return (char *const *)it->words;
+    words[count++] = threads;
+    words[count++] = rms;
+    words[count] = NULL;
+    return coordinator_start((char *const *)words, &me->move);
 }
 
 /* `restarted <incarnation> <decisions> <heuristics>`: the incarnation, 0 if it isn't so. */
@@ -63,31 +56,20 @@ static bool may_start_later(const char *said)
     return said[0] == '\0' || (strncmp(said, "xatm: ", 6) == 0 && strncmp(said, "xatm: log: ", 11) != 0);
 }
 
-static void end_coordinator(char said[SAID])
-{
-    coordinator_end(&coordinator, said, SAID);
-    said[strcspn(said, "\n")] = '\0';
-}
-
 /* False if it doesn't start; for ever, if what it said says so. */
 static bool is_coordinator_started(void)
 {
-    struct command command;
     char said[SAID];
 
-    if (!coordinator_start(&coordinator, command_of(&command), &me->move)) {
-        note_fault(true, "%s can't be started", settings.program);
-        return false;
-    }
-    lock();
+    if (!is_process_started())
+        return note_fault(true, "%s can't be started", settings.program);
     me->session = coordinator.session;
-    unlock();
     long incarnation = incarnation_in(me->move.reply);
     if (incarnation > 0) {
         meet_incarnation(incarnation);
         return true;
     }
-    end_coordinator(said);
+    coordinator_end(said, sizeof said);
     if (said[0] != '\0')
         note_fault(!may_start_later(said), "%s doesn't start, or isn't of this version: %s", settings.program, said);
     return false;
@@ -99,10 +81,8 @@ static bool may_begin(void)
 {
     struct stat it;
 
-    if (shut_because()[0] != '\0') {
-        note_fault(true, "%s. Look at it, and then remove the line \"shut\" from %s-databases", shut_because(), settings.log);
-        return false;
-    }
+    if (shut_because()[0] != '\0')
+        return note_fault(true, "%s. Look at it, and then remove the line \"shut\" from %s-databases", shut_because(), settings.log);
     return (stat(settings.log, &it) == 0 && it.st_size > 0) || last_incarnation() > 0 || may_be_made();
 }
 
@@ -111,22 +91,18 @@ static bool may_begin(void)
 /* What became of the transactions whose decision was under way as the last session ended. */
 static void tell_fates(void)
 {
-    char gtrid[GTRID];
-
     for (int i = 1; i <= settings.threads; i++) {
-        lock();
-        struct thread *it = all.threads[i];
-        bool is_awaited = it != NULL && it->fate == AWAITED;
-        if (is_awaited)
-            memcpy(gtrid, it->gtrid, GTRID);
-        unlock();
-        const char *reply = is_awaited ? ask("fate %s", gtrid) : "";
-        if (reply[0] == '\0')
+        struct thread *it = &all.threads[i];
+        enum fate awaited = AWAITED;
+        if (it->fate != AWAITED)
             continue;
+        move(false, "fate %s", it->gtrid);
+        const char *reply = replied();
+        enum fate fate = is_reply(reply, "committed") ? COMMITTED : is_reply(reply, "rolled-back") ? ROLLED_BACK : UNKNOWN;
         lock();
-        if (it->fate == AWAITED && strcmp(it->gtrid, gtrid) == 0)
-            it->fate = is_reply(reply, "committed") ? COMMITTED : is_reply(reply, "rolled-back") ? ROLLED_BACK : UNKNOWN;
-        pthread_cond_broadcast(&all.changed);
+        if (reply[0] != '\0')
+            atomic_compare_exchange_strong(&it->fate, &awaited, fate);
+        pthread_cond_broadcast(&coordinator.changed);
         unlock();
     }
 }
@@ -136,7 +112,7 @@ static void recover(int rm)
     if (is_recovered(rm))
         return;
     lose_line(rm);
-    tried[rm] = in_seconds(1);
+    tried[rm] = now() + 1;
 }
 
 /* What is due by now: the coordinator names it. That it is asked lets rows leave its log, too. */
@@ -144,12 +120,11 @@ static void recover_due(void)
 {
     int rms[MOST_RMS], count;
 
-    lock();
     all.is_owed = false;
-    unlock();
-    count = named_in(ask("due"), rms);
+    move(false, "due");
+    count = named_in(replied(), rms);
     for (int i = 0; i < count; i++)
-        if (is_past(&tried[rms[i]]))
+        if (now() >= tried[rms[i]])
             recover(rms[i]);
 }
 
@@ -157,34 +132,26 @@ static void recover_due(void)
 static void begin_session(void)
 {
     lose_lines();
-    if (!may_begin() || !is_coordinator_started()) {
-        if (!has_failed())
-            pause_for(0.1);
+    if (!may_begin() || !is_coordinator_started())
         return;
-    }
     if (!save_databases())
         note_fault(true, "%s", gf_error());
     tell_fates();
     for (int rm = 0; rm < settings.rms; rm++)
         recover(rm);
     lock();
-    bool is_up = !coordinator.is_gone && !all.has_failed;
-    all.session = is_up ? coordinator.session : 0;
-    pthread_cond_broadcast(&all.changed);
+    coordinator.is_up = !coordinator.is_gone && !all.has_failed;
+    pthread_cond_broadcast(&coordinator.changed);
     unlock();
-    if (!is_up)
-        pause_for(0.1);
 }
 
 static void end_session(void)
 {
     char said[SAID];
 
-    lock();
-    all.session = 0;
-    unlock();
-    ask("quit");
-    end_coordinator(said);
+    move(false, "quit");
+    replied();
+    coordinator_end(said, sizeof said);
     if (said[0] != '\0')
         warn(said, "");
 }
@@ -192,36 +159,31 @@ static void end_session(void)
 /* Looks after the session that is up, or begins the next. */
 static void keep_up(void)
 {
-    lock();
-    bool is_up = all.session != 0 && !coordinator.is_gone;
-    unlock();
-    if (!is_up && coordinator.process.lines >= 0)
-        end_session();
-    if (is_up)
+    if (coordinator.is_up) {
         recover_due();
-    else if (!has_failed())
+        return;
+    }
+    end_session();
+    if (!all.has_failed)
         begin_session();
 }
 
 void *keep(void *unused)
 {
     (void)unused;
-    me = all.threads[0];
+    me = &all.threads[0];
     lock();
     while (!all.is_ending) {
         unlock();
         keep_up();
-        struct timespec until = in_seconds(1);
         lock();
-        if (!all.is_ending && !all.is_owed && (all.session != 0 || all.has_failed))
-            pthread_cond_timedwait(&all.changed, &all.lock, &until);
+        if (!all.is_ending && !all.is_owed)
+            is_changed_by(now() + (coordinator.is_up || all.has_failed ? 1 : 0.1));
     }
-    bool is_up = all.session != 0;
     unlock();
-    if (is_up)
+    if (coordinator.is_up)
         recover_due();
-    if (coordinator.process.lines >= 0)
-        end_session();
+    end_session();
     close_lines();
     return NULL;
 }

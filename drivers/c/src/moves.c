@@ -7,42 +7,25 @@
 
 #include "thread.h"
 
-struct coordinator coordinator = {.lock = PTHREAD_MUTEX_INITIALIZER, .process = {.handle = -1, .lines = -1, .errors = -1}, .is_gone = true};
 _Thread_local struct thread *me;
-
-static void post(bool decides, bool is_alone, const char *format, va_list words)
-{
-    replied(); /* there is one at a time */
-    vsnprintf(me->move.text, sizeof me->move.text, format, words);
-    me->move.decides = decides;
-    me->move.is_alone = is_alone;
-    me->is_moving = true;
-    coordinator_post(&coordinator, &me->move, me->session);
-}
 
 void move(bool decides, const char *format, ...)
 {
     va_list words;
 
+    replied(); /* there is one at a time */
     va_start(words, format);
-    post(decides, false, format, words);
+    vsnprintf(me->move.text, sizeof me->move.text, format, words);
     va_end(words);
-}
-
-const char *ask(const char *format, ...)
-{
-    va_list words;
-
-    va_start(words, format);
-    post(false, true, format, words);
-    va_end(words);
-    return replied();
+    me->move.decides = decides;
+    me->is_moving = true;
+    coordinator_post(&me->move, me->session);
 }
 
 const char *lose_session(const char *why)
 {
     explain("the coordinator %s", why);
-    coordinator_lose(&coordinator, me->session);
+    coordinator_lose(me->session);
     me->move.reply[0] = '\0';
     return me->move.reply;
 }
@@ -84,11 +67,11 @@ const char *replied(void)
 
     if (!me->is_moving)
         return reply;
-    coordinator_wait(&coordinator, &me->move);
+    coordinator_wait(&me->move);
     me->is_moving = false;
     if (is_reply(reply, "error") || is_reply(reply, "stopped")) {
         explain("the coordinator replied to %s: %s", me->move.text, reply);
-        coordinator_lose(&coordinator, me->session);
+        coordinator_lose(me->session);
         reply[0] = '\0';
     }
     return reply;

@@ -2,16 +2,14 @@
 #include "process.h"
 
 #include <errno.h>
-#include <fcntl.h>
 #include <poll.h>
 #include <signal.h>
 #include <spawn.h>
+#include <sys/mman.h>
 #include <sys/socket.h>
 #include <sys/syscall.h>
 #include <sys/wait.h>
 #include <unistd.h>
-
-#include "clock.h"
 
 enum { BY_HANDLE = 3 }; /* P_PIDFD of waitid, which older headers lack */
 
@@ -46,59 +44,35 @@ static pid_t spawn(char *const words[], int lines, int errors)
     return pid;
 }
 
+/* Its errors go into memory, which holds all of them until somebody looks. */
 bool process_start(struct process *p, char *const words[])
 {
-    int lines[2] = {-1, -1}, errors[2] = {-1, -1};
+    int lines[2] = {-1, -1}, errors = memfd_create("errors", MFD_CLOEXEC);
     pid_t pid = -1;
 
-    if (socketpair(AF_UNIX, SOCK_STREAM | SOCK_CLOEXEC, 0, lines) == 0 && pipe2(errors, O_CLOEXEC | O_NONBLOCK) == 0)
-        pid = spawn(words, lines[1], errors[1]);
+    if (errors >= 0 && socketpair(AF_UNIX, SOCK_STREAM | SOCK_CLOEXEC, 0, lines) == 0)
+        pid = spawn(words, lines[1], errors);
     close(lines[1]);
-    close(errors[1]);
-    *p = (struct process){.handle = -1, .lines = lines[0], .errors = errors[0]};
-    if (pid > 0)
-        p->handle = (int)syscall(SYS_pidfd_open, pid, 0);
-    else
-        process_forget(p);
-    return pid > 0;
-}
-
-/* Reads what it prints of errors until it has ended, which closes them. False if it takes
- * longer. */
-static bool has_ended(const struct process *p, double patience, char *said, size_t room)
-{
-    struct timespec until = in_seconds(patience);
-    struct pollfd it = {.fd = p->errors, .events = POLLIN};
-    size_t length = 0;
-    char more[512];
-    ssize_t count;
-
-    while ((count = read(p->errors, more, sizeof more)) != 0) {
-        for (ssize_t i = 0; i < count && length + 1 < room; i++)
-            said[length++] = more[i];
-        said[length] = '\0';
-        if (count < 0 && is_past(&until))
-            return false;
-        if (count < 0)
-            poll(&it, 1, 10);
-    }
-    return true;
+    *p = (struct process){.handle = pid < 0 ? -1 : (int)syscall(SYS_pidfd_open, pid, 0), .lines = lines[0], .errors = errors};
+    if (p->handle >= 0)
+        return true;
+    process_forget(p);
+    return false;
 }
 
 void process_end(struct process *p, double patience, char *said, size_t room)
 {
+    struct pollfd it = {.fd = p->handle, .events = POLLIN};
     siginfo_t how;
-    char more[2];
 
-    said[0] = '\0';
     close(p->lines); /* its end of input */
     p->lines = -1;
-    if (!has_ended(p, patience, said, room)) {
+    if (poll(&it, 1, (int)(patience * 1000)) != 1)
         syscall(SYS_pidfd_send_signal, p->handle, SIGKILL, NULL, 0);
-        has_ended(p, patience, more, sizeof more);
-    }
     while (waitid((idtype_t)BY_HANDLE, (id_t)p->handle, &how, WEXITED) != 0 && errno == EINTR)
         ;
+    ssize_t length = pread(p->errors, said, room - 1, 0);
+    said[length > 0 ? length : 0] = '\0';
     process_forget(p);
 }
 

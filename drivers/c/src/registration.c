@@ -1,21 +1,13 @@
 /* What a resource manager calls to register a branch dynamically (C193, chapter 4). */
 #include "session.h"
 
-/* A thread that is cancelled is so behind it: it may write what others wait for. */
-static void begin_branch(int rm)
+API int ax_reg(int rmid, XID *xid, long flags)
 {
     int before;
 
-    pthread_setcancelstate(PTHREAD_CANCEL_DISABLE, &before);
-    join_later(rm);
-    pthread_setcancelstate(before, &before);
-}
-
-API int ax_reg(int rmid, XID *xid, long flags)
-{
     if (xid == NULL || flags != TMNOFLAGS || rmid < 0 || rmid >= settings.rms)
         return TMER_INVAL;
-    if (me == NULL || !is_dynamic(rmid) || me->line[rmid].is_local || me->line[rmid].stage != NONE)
+    if (me == NULL || !is_dynamic(rmid) || me->line[rmid].is_local || me->line[rmid].is_active)
         return TMER_PROTO;
     if (!me->is_in_transaction) {
         me->line[rmid].is_local = true;
@@ -25,7 +17,12 @@ API int ax_reg(int rmid, XID *xid, long flags)
     if (is_session_over())
         return TMER_TMERR;
     me->line[rmid].xid = *xid = xid_of(me->gtrid, me->number, rmid);
-    begin_branch(rmid);
+    me->line[rmid].is_active = true;
+    me->branches++;
+    /* A thread that is cancelled is so behind it: it may write what others wait for. */
+    pthread_setcancelstate(PTHREAD_CANCEL_DISABLE, &before);
+    move(false, "join %u %d", me->number, rmid);
+    pthread_setcancelstate(before, &before);
     return TM_OK;
 }
 

@@ -7,27 +7,18 @@
 #include <stdlib.h>
 
 #include "../beside/databases.h"
+#include "clock.h"
 #include "garterfossil.h"
 #include "place.h"
 
-struct all all = {.lock = PTHREAD_MUTEX_INITIALIZER};
-
-void lock(void)
-{
-    pthread_mutex_lock(&all.lock);
-}
-
-void unlock(void)
-{
-    pthread_mutex_unlock(&all.lock);
-}
+struct all all;
 
 void warn(const char *what, const char *more)
 {
     fprintf(stderr, "garterfossil: %s%s\n", what, more);
 }
 
-void note_fault(bool is_final, const char *format, ...)
+bool note_fault(bool is_final, const char *format, ...)
 {
     va_list words;
 
@@ -36,55 +27,40 @@ void note_fault(bool is_final, const char *format, ...)
     vsnprintf(all.fault, sizeof all.fault, format, words);
     va_end(words);
     all.has_failed = is_final;
-    pthread_cond_broadcast(&all.changed);
+    pthread_cond_broadcast(&coordinator.changed);
     unlock();
     if (is_final)
         warn(all.fault, "");
-}
-
-/* Waits until something has changed: false if it takes longer. */
-static bool is_changed(const struct timespec *until)
-{
-    return pthread_cond_timedwait(&all.changed, &all.lock, until) == 0;
+    return false;
 }
 
 /* ** threads come and go */
 
-static void set_up_clock(void)
+/* There is one of each number, for whoever has it, as long as the process lives. */
+static bool are_threads_made(void)
 {
-    pthread_condattr_t monotonic;
-
-    pthread_condattr_init(&monotonic);
-    pthread_condattr_setclock(&monotonic, CLOCK_MONOTONIC);
-    pthread_cond_init(&all.changed, &monotonic);
-    pthread_condattr_destroy(&monotonic);
-}
-
-/* The thread of this number, for whoever has it. NULL if there is no memory. */
-static struct thread *thread_of(unsigned number)
-{
-    struct thread *it = all.threads[number];
-
-    if (it == NULL && (it = calloc(1, sizeof *it)) != NULL) {
-        pthread_cond_init(&it->move.woken, NULL);
-        it->number = number;
-        all.threads[number] = it;
-    }
-    if (it == NULL)
+    if (all.threads != NULL)
+        return true;
+    all.threads = calloc((size_t)settings.threads + 1, sizeof *all.threads);
+    if (all.threads == NULL) {
         explain("no memory");
-    return it;
+        return false;
+    }
+    for (int i = 0; i <= settings.threads; i++) {
+        all.threads[i].number = (unsigned)i;
+        all.threads[i].move.is_alone = i == 0;
+        pthread_cond_init(&all.threads[i].move.woken, NULL);
+    }
+    return true;
 }
 
 static bool is_keeper_started(void)
 {
-    static pthread_once_t once = PTHREAD_ONCE_INIT;
     sigset_t every, before;
 
-    if (!read_databases() || thread_of(0) == NULL)
+    if (!read_databases() || !are_threads_made())
         return false;
     see_place();
-    pthread_once(&once, set_up_clock);
-    coordinator.is_traced = settings.is_traced;
     coordinator.patience = settings.patience;
     all.has_failed = false;
     snprintf(all.fault, sizeof all.fault, "the coordinator doesn't start in time");
@@ -101,19 +77,19 @@ static bool is_keeper_started(void)
 /* A thread of a number that is free. NULL if there is none, or no keeper. */
 static struct thread *taken(void)
 {
-    unsigned number = 1;
+    int number = 1;
 
     while (all.is_ending)
-        pthread_cond_wait(&all.changed, &all.lock);
-    while (number <= (unsigned)settings.threads && all.threads[number] != NULL && all.threads[number]->is_taken)
+        pthread_cond_wait(&coordinator.changed, &coordinator.lock);
+    if (!all.is_kept && !is_keeper_started())
+        return NULL;
+    while (number <= settings.threads && all.threads[number].is_taken)
         number++;
-    if (number > (unsigned)settings.threads) {
+    if (number > settings.threads) {
         explain("all %d threads of the settings are in use", settings.threads);
         return NULL;
     }
-    struct thread *it = thread_of(number);
-    if (it == NULL || (!all.is_kept && !is_keeper_started()))
-        return NULL;
+    struct thread *it = &all.threads[number];
     it->is_taken = true;
     it->info = (TXINFO){.xid = {.formatID = -1}};
     all.open++;
@@ -129,7 +105,7 @@ int session_join(void)
         return TX_ERROR;
     if (is_session_met())
         return TX_OK;
-    int result = has_failed() ? TX_FAIL : TX_ERROR;
+    int result = all.has_failed ? TX_FAIL : TX_ERROR;
     session_leave();
     return result;
 }
@@ -141,12 +117,12 @@ void session_leave(void)
     me = NULL;
     if (--all.open == 0) {
         all.is_ending = true;
-        pthread_cond_broadcast(&all.changed);
+        pthread_cond_broadcast(&coordinator.changed);
         unlock();
         pthread_join(all.keeper, NULL);
         lock();
         all.is_ending = all.is_kept = false;
-        pthread_cond_broadcast(&all.changed);
+        pthread_cond_broadcast(&coordinator.changed);
     }
     unlock();
 }
@@ -155,14 +131,14 @@ void session_leave(void)
 
 bool is_session_met(void)
 {
-    struct timespec until = in_seconds(settings.patience);
+    double until = now() + settings.patience;
 
     lock();
-    while (all.session == 0 && !all.has_failed && is_changed(&until))
+    while (!coordinator.is_up && !all.has_failed && is_changed_by(until))
         ;
-    bool is_up = all.session != 0;
-    if (is_up && me->session != all.session) {
-        me->session = all.session;
+    bool is_up = coordinator.is_up;
+    if (is_up && me->session != coordinator.session) {
+        me->session = coordinator.session;
         me->gtrid[0] = '\0';
     }
     if (!is_up)
@@ -171,61 +147,31 @@ bool is_session_met(void)
     return is_up;
 }
 
-bool has_failed(void)
-{
-    lock();
-    bool is_so = all.has_failed;
-    unlock();
-    return is_so;
-}
-
 bool is_session_over(void)
 {
-    lock();
-    bool is_over = all.session != me->session || coordinator.is_gone;
-    unlock();
-    return is_over;
-}
-
-void note_over(void)
-{
-    lock();
-    if (all.session == me->session)
-        all.session = 0;
-    pthread_cond_broadcast(&all.changed);
-    unlock();
+    return me->session != coordinator.session || coordinator.is_gone;
 }
 
 void note_owed(void)
 {
     lock();
     all.is_owed = true;
-    pthread_cond_broadcast(&all.changed);
-    unlock();
-}
-
-/* ** what became of a transaction */
-
-void set_fate(enum fate fate)
-{
-    lock();
-    me->fate = fate;
+    pthread_cond_broadcast(&coordinator.changed);
     unlock();
 }
 
 enum fate awaited_fate(void)
 {
     static const char *const words[] = {"ended everywhere alike, it isn't known how", "", "committed", "rolled back"};
-    struct timespec until = in_seconds(settings.patience);
+    double until = now() + settings.patience;
 
     lock();
-    while (me->fate == AWAITED && !all.has_failed && is_changed(&until))
+    while (me->fate == AWAITED && !all.has_failed && is_changed_by(until))
         ;
     if (me->fate == AWAITED)
         me->fate = UNKNOWN;
-    enum fate fate = me->fate;
     unlock();
-    explain("the coordinator ended as it was to decide: the transaction is %s", words[fate]);
+    explain("the coordinator ended as it was to decide: the transaction is %s", words[me->fate]);
     warn(gf_error(), "");
-    return fate;
+    return me->fate;
 }

@@ -3,7 +3,6 @@
  * It recovers these, too. */
 #ifndef SESSION_H
 #define SESSION_H
-#include "clock.h"
 #include "thread.h"
 
 /* ** what threads of the program ask: session.c */
@@ -15,13 +14,8 @@ void session_leave(void);
 /* Waits for the session that is up, in which the thread moves from then on. False if there is none
  * in time. */
 bool is_session_met(void);
-/* Whether there will be none any more. */
-bool has_failed(void);
-/* Whether the thread's session is over; that it is, as the thread has seen. */
+/* Whether the thread's session is over. */
 bool is_session_over(void);
-void note_over(void);
-/* What the thread's transaction comes to, if the coordinator ends now. */
-void set_fate(enum fate);
 /* Waits for the next session to say it of one that was AWAITED. */
 enum fate awaited_fate(void);
 /* A branch is left to a recovery: the keeper looks at once. */
@@ -30,23 +24,17 @@ void note_owed(void);
 /* ** what the keeper's parts share, under the lock */
 
 extern struct all {
-    pthread_mutex_t lock;
-    pthread_cond_t changed;
     pthread_t keeper;
-    bool is_ending; /* the last thread has closed */
-    bool is_kept, has_failed, is_owed;
-    unsigned session; /* that is up, or 0 */
+    bool is_kept, is_ending, is_owed; /* it runs; the last thread has closed; it is to look at once */
+    atomic_bool has_failed; /* there will be no session any more, until the last thread has closed */
     int open; /* so many threads have joined */
-    struct thread *threads[MOST_THREADS + 1]; /* by their numbers, also those that nobody has just now; 0 is the keeper's */
+    struct thread *threads; /* by their numbers, also those that nobody has just now; 0 is the keeper's */
     char fault[512]; /* why there is no session, or never will be */
 } all;
 
-void lock(void);
-void unlock(void);
 void warn(const char *what, const char *more);
-/* Why there is no session yet; or why there will be none any more, until the last thread has
- * closed. */
-void note_fault(bool is_final, const char *format, ...) LIKE_PRINTF(2, 3);
+/* Why there is no session yet, or why there will be none any more. False. */
+bool note_fault(bool is_final, const char *format, ...) LIKE_PRINTF(2, 3);
 
 /* The keeper's thread: keeper.c. */
 void *keep(void *unused);

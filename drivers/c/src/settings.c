@@ -14,7 +14,8 @@
 struct settings settings;
 
 static _Thread_local char reason[512];
-static char *path, read_from[512];
+static char path[512]; /* that gf_settings was given */
+static const char *read_from; /* it, or what the environment names */
 static bool are_read;
 static pthread_mutex_t lock = PTHREAD_MUTEX_INITIALIZER;
 
@@ -107,13 +108,14 @@ static bool is_number(const char *text, double *number, double least, double mos
 
 /* The path as it is from any folder: the program may go to another one, and the coordinator is
  * started again there. */
-static bool is_path_kept(char *to, size_t room, const char *name)
+static bool is_log(const char *name)
 {
-    char folder[512];
+    char folder[sizeof settings.log];
 
     if (name[0] == '/')
-        return is_copied(to, room, name);
-    return getcwd(folder, sizeof folder) != NULL && (size_t)snprintf(to, room, "%s/%s", folder, name) < room;
+        return is_copied(settings.log, sizeof settings.log, name);
+    return getcwd(folder, sizeof folder) != NULL
+        && (size_t)snprintf(settings.log, sizeof settings.log, "%s/%s", folder, name) < sizeof settings.log;
 }
 
 /* Whether the word is a setting, and the value is one of it. */
@@ -122,7 +124,7 @@ static bool is_set(const char *word, const char *value)
     double number = 0;
 
     if (strcmp(word, "log") == 0)
-        return is_path_kept(settings.log, sizeof settings.log, value);
+        return is_log(value);
     if (strcmp(word, "program") == 0)
         return is_copied(settings.program, sizeof settings.program, value);
     if (strcmp(word, "name") == 0)
@@ -144,16 +146,12 @@ static bool is_read(char *line)
     line[strcspn(line, "\r\n")] = '\0';
     if (line[strspn(line, " \t")] == '\0' || line[strspn(line, " \t")] == '#')
         return true;
-    if (sscanf(line, "%15s %n", word, &begun) == 1 && begun > 0) {
-        const char *value = line + begun;
-        if (strcmp(word, "rm") == 0 || strcmp(word, "embedded") == 0)
-            return is_rm(value, word[0] == 'e');
-        if (strcmp(word, "close") == 0)
-            return is_close(value);
-        if (is_set(word, value))
-            return true;
-    }
-    return wrong("no such setting: ", line);
+    sscanf(line, "%15s %n", word, &begun);
+    if (strcmp(word, "rm") == 0 || strcmp(word, "embedded") == 0)
+        return is_rm(line + begun, word[0] == 'e');
+    if (strcmp(word, "close") == 0)
+        return is_close(line + begun);
+    return is_set(word, line + begun) || wrong("no such setting: ", line);
 }
 
 static bool is_file_read(void)
@@ -161,14 +159,13 @@ static bool is_file_read(void)
     char line[1024];
     bool is_right = true;
 
-    const char *named = path == NULL ? getenv("GARTERFOSSIL_SETTINGS") : path;
-    FILE *file = named == NULL ? NULL : fopen(named, "re");
+    read_from = path[0] != '\0' ? path : getenv("GARTERFOSSIL_SETTINGS");
+    FILE *file = read_from == NULL ? NULL : fopen(read_from, "re");
     if (file == NULL) {
-        explain("%s: there are no settings to read", named == NULL ? "GARTERFOSSIL_SETTINGS" : named);
+        explain("%s: there are no settings to read", read_from == NULL ? "GARTERFOSSIL_SETTINGS" : read_from);
         return false;
     }
-    snprintf(read_from, sizeof read_from, "%s", named);
-    settings = (struct settings){.program = "xatm", .threads = 8, .patience = 30, .is_traced = getenv("GARTERFOSSIL_TRACE") != NULL};
+    settings = (struct settings){.program = "xatm", .threads = 8, .patience = 30};
     while (is_right && fgets(line, sizeof line, file) != NULL)
         is_right = is_read(line);
     fclose(file);
@@ -186,17 +183,11 @@ bool read_settings(void)
 
 API int gf_settings(const char *file)
 {
-    bool is_kept = true;
-
     pthread_mutex_lock(&lock);
-    if (!are_read) {
-        free(path);
-        path = strdup(file);
-        is_kept = path != NULL;
-    }
+    bool is_kept = are_read || is_copied(path, sizeof path, file);
     pthread_mutex_unlock(&lock);
     if (!is_kept)
-        explain("no memory");
+        explain("%s: the path is too long", file);
     return is_kept && read_settings() ? 0 : -1;
 }
 

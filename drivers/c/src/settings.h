@@ -23,14 +23,12 @@ struct rm {
     int (*identity)(int rmid, const char *kept, char identity[IDENTITY]);
 };
 
-struct settings {
+extern struct settings {
     char program[512], log[512], name[17];
     int threads, rms;
     double patience;
-    bool is_traced;
     struct rm rm[MOST_RMS];
-};
-extern struct settings settings;
+} settings;
 
 /* Reads them, unless they were. False if they can't be read, with the reason in gf_error. */
 bool read_settings(void);

@@ -1,7 +1,6 @@
 /* The calling thread: its moves, its lines to the resource managers, and its transaction. */
 #ifndef THREAD_H
 #define THREAD_H
-#include <time.h>
 #include <tx.h>
 
 #include "coordinator.h"
@@ -11,13 +10,13 @@
 /* The line to a resource manager, and the branch of the transaction there. */
 struct line {
     bool is_open, is_local; /* it registered outside of a transaction */
-    enum stage { NONE, ACTIVE, ENDED, ASKED } stage; /* ASKED to prepare it, or to commit it at once */
+    bool is_active;
     int handle, code;
     int refused; /* by xa_end: what it returned, if it was to be rolled back then */
     XID xid;
 };
 
-/* What became of a transaction whose outcome the coordinator never told. */
+/* What becomes of a transaction whose outcome the coordinator never tells. */
 enum fate { UNKNOWN, AWAITED, COMMITTED, ROLLED_BACK };
 
 struct thread {
@@ -26,17 +25,16 @@ struct thread {
     struct move move;
     bool is_moving; /* its reply is yet to be looked at */
     bool is_in_transaction;
+    int branches; /* so many the coordinator was told of */
     char gtrid[GTRID]; /* that has begun in the session: its transaction, or the next one */
-    enum fate fate;
+    _Atomic enum fate fate;
     TXINFO info;
-    bool has_deadline;
-    struct timespec deadline;
+    double deadline;
     struct line line[MOST_RMS];
 };
 
 /* NULL if it hasn't called tx_open. */
 extern _Thread_local struct thread *me;
-extern struct coordinator coordinator;
 
 /* ** moves: moves.c */
 
@@ -44,8 +42,6 @@ extern struct coordinator coordinator;
 void move(bool decides, const char *format, ...) LIKE_PRINTF(2, 3);
 /* The reply to the last move; "" if the coordinator is gone, or said that it can't be. */
 const char *replied(void);
-/* The reply to one that has a line of its own. */
-const char *ask(const char *format, ...) LIKE_PRINTF(1, 2);
 /* The number that comes next in a reply, behind a space: -1 if there is none of at most so much. */
 long next_number(const char **at, long most);
 /* Whether a reply begins with the word; the resource managers that it names behind that: how
@@ -57,17 +53,16 @@ const char *lose_session(const char *why);
 
 /* ** calls: calls.c */
 
-enum verb { PREPARE, COMMIT_AT_ONCE, COMMIT, ROLLBACK, UNDO, FORGET, NO_VERB };
+enum verb { PREPARE, COMMIT_AT_ONCE, COMMIT, ROLLBACK, UNDO, FORGET, START, NO_VERB };
 enum { LOST = 2000 }; /* in place of a code: nobody knows whether the call was made */
 
+/* The call that a reply tells to make. */
+enum verb verb_of(const char *reply);
 const struct xa_switch_t *xa_of(int rm);
 bool is_dynamic(int rm);
 /* Opens a resource manager, unless it is open. False if it can't be, or is another database than
  * the log's. */
 bool is_rm_open(int rm);
-/* xa_start begins; made_start waits for its code. */
-void begin_start(int rm);
-int made_start(int rm);
 /* The call of a verb begins at the resource manager, behind xa_end where that wasn't made; `made`
  * waits for its code, or LOST. */
 void begin_call(int rm, enum verb);
@@ -84,8 +79,6 @@ void close_lines(void);
 bool are_lines_open(void);
 /* The next one begins, in the session that is up. TX_OK, TX_OUTSIDE or TX_ERROR. */
 int begin_next(void);
-/* A resource manager has registered a branch. */
-void join_later(int rm);
 /* What tx_commit returns. */
 int commit_transaction(void);
 /* What tx_rollback returns, where TX_OK is this. */

@@ -1,10 +1,10 @@
 /* TX (C504): what a program calls to begin and end transactions. */
+#include <limits.h>
+#include <math.h>
 #include <pthread.h>
-#include <string.h>
 
+#include "clock.h"
 #include "session.h"
-
-enum { LONGEST_TIMEOUT = 1000000000 }; /* seconds: more is never */
 
 static bool was_forked;
 static pthread_key_t at_end;
@@ -24,22 +24,22 @@ static int shielded(int (*call)(void))
     return result;
 }
 
-enum place { ANYWHERE, OUTSIDE, WITHIN };
-
-/* TX_OK if the thread has called tx_open, and is outside of a transaction or within one, as it is
- * to be. */
-static int see_place(enum place place)
+/* TX_OK if the thread has called tx_open, and is within a transaction, or isn't, as it is to be. */
+static int see_place(bool is_within)
 {
-    bool is_within = me != NULL && me->is_in_transaction;
-
-    if (me != NULL && (place == ANYWHERE || is_within == (place == WITHIN)))
+    if (me != NULL && me->is_in_transaction == is_within)
         return TX_OK;
-    explain("the thread has %s", me == NULL ? "not called tx_open" : is_within ? "a transaction" : "no transaction");
+    explain("the thread has %s", me == NULL ? "not called tx_open" : is_within ? "no transaction" : "a transaction");
     return TX_PROTOCOL_ERROR;
 }
 
-static int is_invalid(void)
+/* TX_OK if the thread has called tx_open, and there is such a value, which it sets. */
+static int see_value(long value, long most)
 {
+    if (me == NULL)
+        return see_place(false);
+    if (value >= 0 && value <= most)
+        return TX_OK;
     explain("there is no such value");
     return TX_EINVAL;
 }
@@ -62,8 +62,7 @@ static void forked(void)
     was_forked = true;
     me = NULL;
     pthread_setspecific(at_end, NULL);
-    process_forget(&coordinator.process);
-    coordinator.is_gone = true;
+    coordinator_forget();
 }
 
 static void prepare_process(void)
@@ -97,7 +96,7 @@ static int close_thread(void)
 {
     if (me == NULL)
         return TX_OK;
-    if (see_place(OUTSIDE) != TX_OK)
+    if (see_place(false) != TX_OK)
         return TX_PROTOCOL_ERROR;
     pthread_setspecific(at_end, NULL);
     leave_all(me);
@@ -121,17 +120,15 @@ static int begin(void)
     int result = begin_next();
 
     if (result != TX_OK)
-        return result == TX_ERROR && has_failed() ? TX_FAIL : result;
+        return result == TX_ERROR && all.has_failed ? TX_FAIL : result;
     me->is_in_transaction = true;
-    me->has_deadline = me->info.transaction_timeout > 0 && me->info.transaction_timeout < LONGEST_TIMEOUT;
-    if (me->has_deadline)
-        me->deadline = in_seconds((double)me->info.transaction_timeout);
+    me->deadline = me->info.transaction_timeout > 0 ? now() + (double)me->info.transaction_timeout : INFINITY;
     return TX_OK;
 }
 
 static int begin_transaction(void)
 {
-    if (see_place(OUTSIDE) != TX_OK)
+    if (see_place(false) != TX_OK)
         return TX_PROTOCOL_ERROR;
     for (int rm = 0; rm < settings.rms; rm++)
         if (me->line[rm].is_local) {
@@ -150,7 +147,7 @@ API int tx_begin(void)
 
 static bool is_late(void)
 {
-    return me->is_in_transaction && me->has_deadline && is_past(&me->deadline);
+    return now() >= me->deadline;
 }
 
 /* What an end returns, which begins the next transaction if they are chained. */
@@ -164,7 +161,7 @@ static int ended(int result)
 
 static int commit(void)
 {
-    if (see_place(WITHIN) != TX_OK)
+    if (see_place(true) != TX_OK)
         return TX_PROTOCOL_ERROR;
     if (!is_late())
         return ended(commit_transaction());
@@ -174,7 +171,7 @@ static int commit(void)
 
 static int roll_back(void)
 {
-    return see_place(WITHIN) != TX_OK ? TX_PROTOCOL_ERROR : ended(roll_back_transaction(TX_OK));
+    return see_place(true) != TX_OK ? TX_PROTOCOL_ERROR : ended(roll_back_transaction(TX_OK));
 }
 
 API int tx_commit(void)
@@ -191,16 +188,13 @@ API int tx_rollback(void)
 
 API int tx_info(TXINFO *info)
 {
-    if (see_place(ANYWHERE) != TX_OK)
-        return TX_PROTOCOL_ERROR;
+    if (me == NULL)
+        return see_place(false);
     if (info == NULL)
         return me->is_in_transaction;
     *info = me->info;
-    info->xid = (XID){.formatID = -1};
     if (me->is_in_transaction) {
-        info->xid = xid_of(me->gtrid, me->number, 0);
-        info->xid.bqual_length = 0;
-        memset(info->xid.data + info->xid.gtrid_length, 0, (size_t)(XIDDATASIZE - info->xid.gtrid_length));
+        info->xid = xid_of_all(me->gtrid);
         info->transaction_state = is_late() ? TX_TIMEOUT_ROLLBACK_ONLY : is_session_over() ? TX_ROLLBACK_ONLY : TX_ACTIVE;
     }
     return me->is_in_transaction;
@@ -210,29 +204,28 @@ API int tx_info(TXINFO *info)
  * have answered. */
 API int tx_set_commit_return(COMMIT_RETURN when_return)
 {
-    if (see_place(ANYWHERE) != TX_OK)
-        return TX_PROTOCOL_ERROR;
-    if (when_return == TX_COMMIT_DECISION_LOGGED)
-        explain("tx_commit returns once the resource managers have answered");
-    return when_return == TX_COMMIT_COMPLETED ? TX_OK : when_return == TX_COMMIT_DECISION_LOGGED ? TX_NOT_SUPPORTED : is_invalid();
+    int result = see_value(when_return, TX_COMMIT_DECISION_LOGGED);
+
+    if (result != TX_OK || when_return == TX_COMMIT_COMPLETED)
+        return result;
+    explain("tx_commit returns once the resource managers have answered");
+    return TX_NOT_SUPPORTED;
 }
 
 API int tx_set_transaction_control(TRANSACTION_CONTROL control)
 {
-    if (see_place(ANYWHERE) != TX_OK)
-        return TX_PROTOCOL_ERROR;
-    if (control != TX_UNCHAINED && control != TX_CHAINED)
-        return is_invalid();
-    me->info.transaction_control = control;
-    return TX_OK;
+    int result = see_value(control, TX_CHAINED);
+
+    if (result == TX_OK)
+        me->info.transaction_control = control;
+    return result;
 }
 
 API int tx_set_transaction_timeout(TRANSACTION_TIMEOUT timeout)
 {
-    if (see_place(ANYWHERE) != TX_OK)
-        return TX_PROTOCOL_ERROR;
-    if (timeout < 0)
-        return is_invalid();
-    me->info.transaction_timeout = timeout;
-    return TX_OK;
+    int result = see_value(timeout, LONG_MAX);
+
+    if (result == TX_OK)
+        me->info.transaction_timeout = timeout;
+    return result;
 }

@@ -2,38 +2,40 @@
  * (docs/SERVE.md). */
 #include "xid.h"
 
+#include <arpa/inet.h>
 #include <string.h>
 
 #include "settings.h"
 
 enum { FORMAT = 7, OWN = 16, BQUAL = 8 };
 
-XID xid_of(const char *gtrid, unsigned thread, int rm)
+XID xid_of_all(const char *gtrid)
 {
-    XID xid = {.formatID = FORMAT, .bqual_length = BQUAL};
+    XID xid = {.formatID = FORMAT};
     size_t name = strlen(settings.name);
 
     memcpy(xid.data, settings.name, name);
     xid.gtrid_length = (long)name + read_hex(gtrid, GTRID - 1, xid.data + name, OWN);
-    char *bqual = xid.data + xid.gtrid_length;
-    for (int i = 0; i < 4; i++) {
-        bqual[i] = (char)(thread >> (24 - 8 * i));
-        bqual[4 + i] = (char)((unsigned)rm >> (24 - 8 * i));
-    }
+    return xid;
+}
+
+XID xid_of(const char *gtrid, unsigned thread, int rm)
+{
+    XID xid = xid_of_all(gtrid);
+    uint32_t bqual[] = {htonl(thread), htonl((unsigned)rm)};
+
+    memcpy(xid.data + xid.gtrid_length, bqual, BQUAL);
+    xid.bqual_length = BQUAL;
     return xid;
 }
 
 bool is_ours(const XID *xid, int rm)
 {
     size_t name = strlen(settings.name);
-    const unsigned char *data = (const unsigned char *)xid->data, *last;
+    uint32_t number = htonl((unsigned)rm);
 
-    if (xid->formatID != FORMAT || xid->gtrid_length != (long)name + OWN || xid->bqual_length != BQUAL)
-        return false;
-    if (memcmp(data, settings.name, name) != 0)
-        return false;
-    last = data + xid->gtrid_length + BQUAL - 4;
-    return ((unsigned)last[0] << 24 | (unsigned)last[1] << 16 | (unsigned)last[2] << 8 | last[3]) == (unsigned)rm;
+    return xid->formatID == FORMAT && xid->gtrid_length == (long)name + OWN && xid->bqual_length == BQUAL
+        && memcmp(xid->data, settings.name, name) == 0 && memcmp(xid->data + name + OWN + BQUAL - 4, &number, 4) == 0;
 }
 
 bool is_gtrid(const char *text)

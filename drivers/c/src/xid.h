@@ -5,7 +5,8 @@
 
 enum { GTRID = 33 }; /* bytes of a transaction's name, with its end */
 
-/* The branch of a transaction of this manager at a resource manager. */
+/* The identifier of a transaction of this manager; and of its branch at a resource manager. */
+XID xid_of_all(const char *gtrid);
 XID xid_of(const char *gtrid, unsigned thread, int rm);
 /* Whether it is one of this manager at the resource manager. */
 bool is_ours(const XID *, int rm);

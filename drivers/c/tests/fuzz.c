@@ -16,24 +16,24 @@
 #include "stand_in_switch.h"
 
 /* In place of clock.c: what is waited for comes fifty times as soon. */
-#define in_seconds in_whole_seconds
-#define pause_for pause_for_whole
+#define now slow_now
+#define timespec_of slow_timespec_of
 #include "../src/clock.c"
-#undef in_seconds
-#undef pause_for
+#undef now
+#undef timespec_of
 
 enum { AS_SOON = 50 };
-struct timespec in_seconds(double seconds);
-void pause_for(double seconds);
+double now(void);
+struct timespec timespec_of(double moment);
 
-struct timespec in_seconds(double seconds)
+double now(void)
 {
-    return in_whole_seconds(seconds / AS_SOON);
+    return slow_now() * AS_SOON;
 }
 
-void pause_for(double seconds)
+struct timespec timespec_of(double moment)
 {
-    pause_for_whole(seconds / AS_SOON);
+    return slow_timespec_of(moment / AS_SOON);
 }
 
 int LLVMFuzzerInitialize(int *count, char ***words);
@@ -62,10 +62,10 @@ static bool is_line_said(void)
     return stop != NULL && sent == length;
 }
 
-/* It greets, and then says a line for each that it reads. */
+/* It says its version, greets, and then says a line for each that it reads. */
 static void *live(void *unused)
 {
-    bool is_up = (life.at == life.end || *life.at != 'p' || is_line_said()) && is_line_said();
+    bool is_up = is_line_said() && is_line_said();
     char byte;
 
     (void)unused;

@@ -209,22 +209,29 @@ static void remove_shut(void)
     IS(system(command), 0);
 }
 
-/* An older one, with what stood beside it: a branch is listed of which it knows nothing. */
+/* An older one, with what stood beside it: a branch is listed of which it knows nothing. The
+ * coordinator has shut it then, and the right one is taken at once. */
 static void an_older_folder(void)
 {
     write_file("log", "{\"incarnation\": 1, \"rows\": {}}");
     stand_in_lists(1, "7:6300000000000000040000000000000001:0000000100000001");
-    for (int i = 0; i < 6; i++)
-        IS(start("7:6300000000000000040000000000000001:0000000100000001"), 2);
+    IS(start("7:6300000000000000040000000000000001:0000000100000001"), 2);
+    for (int i = 0; i < 5; i++)
+        IS(start("it is shut"), 2);
     IS(count_told("end 1"), 0);
     IS(stand_in_prepared(1), 1);
-    /* Also the right one, until somebody says so. */
     write_file("log", "{\"incarnation\": 4, \"rows\": {}}");
-    IS(start("of which this log knows nothing"), 2);
-    remove_shut();
     IS(start(""), 0);
-    /* As the other drivers write it. */
-    write_file("log-databases", "{\n \"version\": 1,\n \"manager\": \"c\",\n \"databases\": [],\n}\n");
+}
+
+/* As the other drivers say it in the file beside it: until somebody has removed that line. */
+static void one_that_is_shut(void)
+{
+    write_file("log-databases", "{\n \"version\": 1,\n \"manager\": \"c\",\n \"shut\": \"b is strange\",\n \"databases\": [],\n}\n");
+    for (int i = 0; i < 3; i++)
+        IS(start("b is strange"), 2);
+    IS(is_file("log"), false);
+    remove_shut();
     IS(start(""), 0);
 }
 
@@ -271,5 +278,5 @@ const struct story of_logs[] = {{"logs: the file beside one", the_file}, {"logs:
     {"logs: another database", another_database},
     {"logs: two that changed places", two_that_changed_places}, {"logs: a new one", a_new_log},
     {"logs: branches of others", others_branches}, {"logs: a lost one", a_lost_log}, {"logs: an older one", an_older_log},
-    {"logs: an older folder", an_older_folder}, {"logs: another folder", another_folder}, {"logs: earlier branches", earlier_branches},
+    {"logs: an older folder", an_older_folder}, {"logs: one that is shut", one_that_is_shut}, {"logs: another folder", another_folder}, {"logs: earlier branches", earlier_branches},
     {NULL, NULL}};

@@ -20,7 +20,6 @@ void *__real_calloc(size_t count, size_t size);
 void *__real_realloc(void *it, size_t size);
 void *__wrap_calloc(size_t count, size_t size);
 void *__wrap_realloc(void *it, size_t size);
-char *__wrap_strdup(const char *text);
 
 static bool is_refused(void)
 {
@@ -43,13 +42,6 @@ void *__wrap_calloc(size_t count, size_t size)
 void *__wrap_realloc(void *it, size_t size)
 {
     return is_refused() ? NULL : __real_realloc(it, size);
-}
-
-char *__wrap_strdup(const char *text)
-{
-    char *copy = is_refused() ? NULL : __real_calloc(1, strlen(text) + 1);
-
-    return copy == NULL ? NULL : strcpy(copy, text);
 }
 
 /* ** three transfers */
