@@ -93,8 +93,7 @@ void lose_line(int rm)
 void lose_lines(void)
 {
     for (int rm = 0; rm < settings.rms; rm++)
-        if (me->line[rm].is_open)
-            lose_line(rm);
+        lose_line(rm);
 }
 
 /* ** calls that may be under way at several of them */

@@ -1,7 +1,7 @@
-/* Lines of moves to the coordinator, and its replies. */
-#include "coordinator.h"
-
+/* Lines of moves to the coordinator, and its replies. Any thread may move and wait: whichever waits
+ * reads what has come. */
 #include <errno.h>
+#include <stdarg.h>
 #include <stdio.h>
 #include <string.h>
 #include <sys/socket.h>
@@ -10,13 +10,15 @@
 
 #include "clock.h"
 #include "process.h"
+#include "thread.h"
 
 enum { LINE = 65536 };
 
+_Thread_local struct thread *me;
 struct coordinator coordinator = {.lock = PTHREAD_MUTEX_INITIALIZER, .changed = PTHREAD_COND_INITIALIZER, .is_gone = true};
 
 /* All of it is under the lock. */
-static struct process process = {.handle = -1, .lines = -1, .errors = -1};
+static int lines = -1; /* the socket */
 static struct move *posted, *sent; /* that wait to be sent, and for their replies, the oldest first */
 static unsigned deciding; /* so many of those that are sent */
 static bool is_read, is_written, is_silent; /* by a thread just now; it has said nothing for too long */
@@ -68,7 +70,7 @@ static void lose(void)
         return;
     coordinator.is_gone = true;
     coordinator.is_up = false;
-    shutdown(process.lines, SHUT_RDWR); /* whoever waits at it wakes */
+    shutdown(lines, SHUT_RDWR); /* whoever waits at it wakes */
     arrive_all(&sent);
     arrive_all(&posted);
     pthread_cond_broadcast(&coordinator.changed);
@@ -76,30 +78,26 @@ static void lose(void)
 
 /* ** reading */
 
-static void deliver(const char *text, size_t length, bool is_last)
-{
-    struct move *move = sent;
-
-    if (move == NULL || length >= REPLY || move->ends_line != is_last) {
-        lose(); /* it doesn't reply to what it was asked */
-        return;
-    }
-    sent = move->next;
-    deciding -= move->decides;
-    memcpy(move->reply, text, length);
-    move->reply[length] = '\0';
-    arrive(move);
-}
-
-static void deliver_all(void)
+/* Gives out the replies that are whole. */
+static void deliver(void)
 {
     size_t begun = 0;
 
-    for (size_t i = 0; i < unread; i++)
-        if (in[i] == ';' || in[i] == '\n') {
-            deliver(in + begun, i - begun, in[i] == '\n');
-            begun = i + 1;
+    for (size_t i = 0; i < unread; i++) {
+        if (in[i] != ';' && in[i] != '\n')
+            continue;
+        struct move *move = sent;
+        if (move == NULL || i - begun >= REPLY || move->ends_line != (in[i] == '\n')) {
+            lose(); /* it doesn't reply to what it was asked */
+            return;
         }
+        sent = move->next;
+        deciding -= move->decides;
+        memcpy(move->reply, in + begun, i - begun);
+        move->reply[i - begun] = '\0';
+        arrive(move);
+        begun = i + 1;
+    }
     unread -= begun;
     memmove(in, in + begun, unread);
     if (unread >= REPLY)
@@ -112,14 +110,14 @@ static bool is_any_read(int flags)
 {
     is_read = true;
     unlock();
-    ssize_t count = recv(process.lines, in + unread, sizeof in - unread, flags);
+    ssize_t count = recv(lines, in + unread, sizeof in - unread, flags);
     bool is_later = count < 0 && (errno == EAGAIN || errno == EINTR);
     lock();
     is_read = false;
     if (is_later)
         return false;
     unread += count > 0 ? (size_t)count : 0;
-    deliver_all();
+    deliver();
     if (count <= 0)
         lose();
     return true;
@@ -160,7 +158,7 @@ static size_t write_line(void)
 static bool is_line_sent(const char *from, size_t length)
 {
     while (length > 0) {
-        ssize_t count = send(process.lines, from, length, MSG_NOSIGNAL);
+        ssize_t count = send(lines, from, length, MSG_NOSIGNAL);
         if (count < 0 && errno != EINTR)
             return false;
         from += count > 0 ? count : 0;
@@ -189,24 +187,6 @@ static void write_all(void)
             lose();
     }
     is_written = false;
-}
-
-static void begin(struct move *move)
-{
-    move->reply[0] = '\0';
-    move->is_here = move->is_waited_for = move->ends_line = false;
-}
-
-void coordinator_post(struct move *move, unsigned session)
-{
-    lock();
-    begin(move);
-    if (session == coordinator.session && !coordinator.is_gone)
-        append(&posted, move);
-    else
-        arrive(move);
-    write_all();
-    unlock();
 }
 
 /* ** waiting */
@@ -239,9 +219,9 @@ static void wait_for(struct move *move, double until)
     write_all(); /* what it brought may let others go out */
 }
 
-void coordinator_wait(struct move *move)
+static void wait_until_here(struct move *move)
 {
-    double until = now() + coordinator.patience;
+    double until = now() + settings.patience;
 
     lock();
     while (!move->is_here)
@@ -251,55 +231,106 @@ void coordinator_wait(struct move *move)
     unlock();
 }
 
+/* ** of the calling thread */
+
+static void begin(struct move *move, bool decides)
+{
+    move->reply[0] = '\0';
+    move->decides = decides;
+    move->is_asked = true;
+    move->is_here = move->ends_line = false;
+}
+
+void move(bool decides, const char *format, ...)
+{
+    struct move *it = &me->move;
+    va_list words;
+
+    replied(); /* there is one at a time */
+    va_start(words, format);
+    vsnprintf(it->text, sizeof it->text, format, words);
+    va_end(words);
+    lock();
+    begin(it, decides);
+    if (is_session_over())
+        arrive(it);
+    else
+        append(&posted, it);
+    write_all();
+    unlock();
+}
+
+const char *replied(void)
+{
+    struct move *it = &me->move;
+
+    if (!it->is_asked)
+        return it->reply;
+    wait_until_here(it);
+    it->is_asked = false;
+    if (is_reply(it->reply, "error") || is_reply(it->reply, "stopped")) {
+        char why[512];
+        snprintf(why, sizeof why, "replied to %.200s: %.200s", it->text, it->reply);
+        lose_session(why);
+    }
+    return it->reply;
+}
+
+bool is_session_over(void)
+{
+    return me->session != coordinator.session || coordinator.is_gone;
+}
+
+const char *lose_session(const char *why)
+{
+    explain("the coordinator %s", why);
+    lock();
+    if (me->session == coordinator.session)
+        lose();
+    unlock();
+    me->move.is_asked = false;
+    me->move.reply[0] = '\0';
+    return me->move.reply;
+}
+
 /* ** its start and its end */
 
 /* The next line, which nothing asks for. */
 static void expect(struct move *move)
 {
-    begin(move);
-    move->decides = false;
+    begin(move, false);
     move->ends_line = true;
     append(&sent, move);
 }
 
-bool coordinator_start(char *const words[], struct move *move)
+bool coordinator_start(char *const words[])
 {
     static struct move version = {.woken = PTHREAD_COND_INITIALIZER}; /* what it says before it greets */
-    struct timeval longest = {.tv_sec = (time_t)coordinator.patience};
-    struct process started;
+    struct timespec patience = timespec_of(settings.patience);
+    struct timeval longest = {.tv_sec = patience.tv_sec, .tv_usec = patience.tv_nsec / 1000};
+    int started = process_start(words);
 
-    if (!process_start(&started, words))
+    if (started < 0)
         return false;
-    longest.tv_usec = (suseconds_t)((coordinator.patience - (double)longest.tv_sec) * 1e6);
-    setsockopt(started.lines, SOL_SOCKET, SO_RCVTIMEO, &longest, sizeof longest);
-    setsockopt(started.lines, SOL_SOCKET, SO_SNDTIMEO, &longest, sizeof longest);
+    setsockopt(started, SOL_SOCKET, SO_RCVTIMEO, &longest, sizeof longest);
+    setsockopt(started, SOL_SOCKET, SO_SNDTIMEO, &longest, sizeof longest);
     lock();
-    process = started;
+    lines = started;
     posted = sent = NULL;
     unread = deciding = 0;
     coordinator.is_gone = is_silent = false;
-    coordinator.session++;
+    me->session = ++coordinator.session;
     expect(&version);
-    expect(move);
+    expect(&me->move);
     unlock();
-    coordinator_wait(&version);
-    coordinator_wait(move);
+    wait_until_here(&version);
     if (strncmp(version.reply, "protocol 1 ", 11) != 0)
-        move->reply[0] = '\0';
+        lose_session("doesn't say its version");
     return true;
-}
-
-void coordinator_lose(unsigned session)
-{
-    lock();
-    if (session == coordinator.session)
-        lose();
-    unlock();
 }
 
 void coordinator_end(char *said, size_t room)
 {
-    said[0] = '\0';
     lock();
     lose();
     while (is_read || is_written) {
@@ -308,14 +339,6 @@ void coordinator_end(char *said, size_t room)
         lock();
     }
     unlock();
-    if (process.lines >= 0)
-        process_end(&process, is_silent ? 0 : coordinator.patience, said, room);
+    process_end(is_silent ? 0 : settings.patience, said, room);
     said[strcspn(said, "\n")] = '\0';
-}
-
-void coordinator_forget(void)
-{
-    process_forget(&process);
-    coordinator.is_gone = true;
-    coordinator.is_up = false;
 }

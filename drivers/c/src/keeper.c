@@ -12,8 +12,6 @@
 
 enum { SAID = 512 };
 
-static double tried[MOST_RMS]; /* in vain: not before this moment again */
-
 /* ** the coordinator's start */
 
 /* By its command line (docs/MOVES.md). */
@@ -34,19 +32,16 @@ static bool is_process_started(void)
     words[count++] = threads;
     words[count++] = rms;
     words[count] = NULL;
-    return coordinator_start((char *const *)words, &me->move);
+    return coordinator_start((char *const *)words);
 }
 
-/* `restarted <incarnation> <decisions> <heuristics>`: the incarnation, 0 if it isn't so. */
+/* `restarted <incarnation> <decisions> <heuristics>`: the incarnation, none if it isn't so. */
 static long incarnation_in(const char *greeting)
 {
-    const char *at = strchr(greeting, ' ');
+    const char *at = greeting + strcspn(greeting, " ");
+    long incarnation = next_number(&at, LONG_MAX), decisions = next_number(&at, LONG_MAX), heuristics = next_number(&at, LONG_MAX);
 
-    if (at == NULL || !is_reply(greeting, "restarted"))
-        return 0;
-    long incarnation = next_number(&at, LONG_MAX);
-    bool is_right = next_number(&at, LONG_MAX) >= 0 && next_number(&at, LONG_MAX) >= 0 && *at == '\0';
-    return is_right && incarnation > 0 ? incarnation : 0;
+    return is_reply(greeting, "restarted") && decisions >= 0 && heuristics >= 0 && *at == '\0' ? incarnation : 0;
 }
 
 /* One that was killed says nothing, and while another process has the log, it may be free in a
@@ -63,8 +58,7 @@ static bool is_coordinator_started(void)
 
     if (!is_process_started())
         return note_fault(true, "%s can't be started", settings.program);
-    me->session = coordinator.session;
-    long incarnation = incarnation_in(me->move.reply);
+    long incarnation = incarnation_in(replied());
     if (incarnation > 0) {
         meet_incarnation(incarnation);
         return true;
@@ -94,9 +88,10 @@ static void tell_fates(void)
     for (int i = 1; i <= settings.threads; i++) {
         struct thread *it = &all.threads[i];
         enum fate awaited = AWAITED;
+        char gtrid[2 * OWN + 1];
         if (it->fate != AWAITED)
             continue;
-        move(false, "fate %s", it->gtrid);
+        move(false, "fate %s", text_of_own(&it->xid, gtrid));
         const char *reply = replied();
         enum fate fate = is_reply(reply, "committed") ? COMMITTED : is_reply(reply, "rolled-back") ? ROLLED_BACK : UNKNOWN;
         lock();
@@ -107,15 +102,8 @@ static void tell_fates(void)
     }
 }
 
-static void recover(int rm)
-{
-    if (is_recovered(rm))
-        return;
-    lose_line(rm);
-    tried[rm] = now() + 1;
-}
-
-/* What is due by now: the coordinator names it. That it is asked lets rows leave its log, too. */
+/* What is due by now, at first all: the coordinator names it. That it is asked lets rows leave its
+ * log, too. */
 static void recover_due(void)
 {
     int rms[MOST_RMS], count;
@@ -124,11 +112,10 @@ static void recover_due(void)
     move(false, "due");
     count = named_in(replied(), rms);
     for (int i = 0; i < count; i++)
-        if (now() >= tried[rms[i]])
-            recover(rms[i]);
+        if (!is_recovered(rms[i]))
+            lose_line(rms[i]);
 }
 
-/* Each resource manager is recovered that can be reached. */
 static void begin_session(void)
 {
     lose_lines();
@@ -137,8 +124,7 @@ static void begin_session(void)
     if (!save_databases())
         note_fault(true, "%s", gf_error());
     tell_fates();
-    for (int rm = 0; rm < settings.rms; rm++)
-        recover(rm);
+    recover_due();
     lock();
     coordinator.is_up = !coordinator.is_gone && !all.has_failed;
     pthread_cond_broadcast(&coordinator.changed);
@@ -153,29 +139,26 @@ static void end_session(void)
     replied();
     coordinator_end(said, sizeof said);
     if (said[0] != '\0')
-        warn(said, "");
+        fprintf(stderr, "garterfossil: %s\n", said);
 }
 
 /* Looks after the session that is up, or begins the next. */
-static void keep_up(void)
-{
-    if (coordinator.is_up) {
-        recover_due();
-        return;
-    }
-    end_session();
-    if (!all.has_failed)
-        begin_session();
-}
-
 void *keep(void *unused)
 {
     (void)unused;
     me = &all.threads[0];
+    me->move.is_alone = true;
+    pthread_cond_init(&me->move.woken, NULL);
     lock();
     while (!all.is_ending) {
         unlock();
-        keep_up();
+        if (coordinator.is_up) {
+            recover_due();
+        } else {
+            end_session();
+            if (!all.has_failed)
+                begin_session();
+        }
         lock();
         if (!all.is_ending && !all.is_owed)
             is_changed_by(now() + (coordinator.is_up || all.has_failed ? 1 : 0.1));
@@ -185,5 +168,6 @@ void *keep(void *unused)
         recover_due();
     end_session();
     close_lines();
+    pthread_cond_destroy(&me->move.woken);
     return NULL;
 }

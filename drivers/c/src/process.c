@@ -15,8 +15,12 @@ enum { BY_HANDLE = 3 }; /* P_PIDFD of waitid, which older headers lack */
 
 extern char **environ;
 
+/* The handle is the system's own of this process. So no other is meant, even if the program waits
+ * for all its children itself and their numbers are given out again. */
+static int handle = -1, lines = -1, errors = -1;
+
 /* In a process group of its own, so that Ctrl-C in a terminal ends the program before it. */
-static pid_t spawn(char *const words[], int lines, int errors)
+static pid_t spawn(char *const words[], int its_lines)
 {
     posix_spawn_file_actions_t files;
     posix_spawnattr_t how;
@@ -25,8 +29,8 @@ static pid_t spawn(char *const words[], int lines, int errors)
 
     sigemptyset(&none);
     posix_spawn_file_actions_init(&files);
-    posix_spawn_file_actions_adddup2(&files, lines, STDIN_FILENO);
-    posix_spawn_file_actions_adddup2(&files, lines, STDOUT_FILENO);
+    posix_spawn_file_actions_adddup2(&files, its_lines, STDIN_FILENO);
+    posix_spawn_file_actions_adddup2(&files, its_lines, STDOUT_FILENO);
     posix_spawn_file_actions_adddup2(&files, errors, STDERR_FILENO);
 #if __GLIBC_PREREQ(2, 34)
     /* What the program has open is no affair of the coordinator's, as a socket that it listens
@@ -35,7 +39,6 @@ static pid_t spawn(char *const words[], int lines, int errors)
 #endif
     posix_spawnattr_init(&how);
     posix_spawnattr_setflags(&how, POSIX_SPAWN_SETPGROUP | POSIX_SPAWN_SETSIGMASK);
-    posix_spawnattr_setpgroup(&how, 0);
     posix_spawnattr_setsigmask(&how, &none);
     if (posix_spawnp(&pid, words[0], &files, &how, words, environ) != 0)
         pid = -1;
@@ -45,41 +48,45 @@ static pid_t spawn(char *const words[], int lines, int errors)
 }
 
 /* Its errors go into memory, which holds all of them until somebody looks. */
-bool process_start(struct process *p, char *const words[])
+int process_start(char *const words[])
 {
-    int lines[2] = {-1, -1}, errors = memfd_create("errors", MFD_CLOEXEC);
+    int pair[2] = {-1, -1};
     pid_t pid = -1;
 
-    if (errors >= 0 && socketpair(AF_UNIX, SOCK_STREAM | SOCK_CLOEXEC, 0, lines) == 0)
-        pid = spawn(words, lines[1], errors);
-    close(lines[1]);
-    *p = (struct process){.handle = pid < 0 ? -1 : (int)syscall(SYS_pidfd_open, pid, 0), .lines = lines[0], .errors = errors};
-    if (p->handle >= 0)
-        return true;
-    process_forget(p);
-    return false;
+    errors = memfd_create("errors", MFD_CLOEXEC);
+    if (errors >= 0 && socketpair(AF_UNIX, SOCK_STREAM | SOCK_CLOEXEC, 0, pair) == 0)
+        pid = spawn(words, pair[1]);
+    close(pair[1]);
+    lines = pair[0];
+    handle = pid < 0 ? -1 : (int)syscall(SYS_pidfd_open, pid, 0);
+    if (handle < 0)
+        process_forget();
+    return lines;
 }
 
-void process_end(struct process *p, double patience, char *said, size_t room)
+void process_end(double patience, char *said, size_t room)
 {
-    struct pollfd it = {.fd = p->handle, .events = POLLIN};
+    struct pollfd it = {.fd = handle, .events = POLLIN};
     siginfo_t how;
 
-    close(p->lines); /* its end of input */
-    p->lines = -1;
+    said[0] = '\0';
+    if (handle < 0)
+        return;
+    close(lines); /* its end of input */
+    lines = -1;
     if (poll(&it, 1, (int)(patience * 1000)) != 1)
-        syscall(SYS_pidfd_send_signal, p->handle, SIGKILL, NULL, 0);
-    while (waitid((idtype_t)BY_HANDLE, (id_t)p->handle, &how, WEXITED) != 0 && errno == EINTR)
+        syscall(SYS_pidfd_send_signal, handle, SIGKILL, NULL, 0);
+    while (waitid((idtype_t)BY_HANDLE, (id_t)handle, &how, WEXITED) != 0 && errno == EINTR)
         ;
-    ssize_t length = pread(p->errors, said, room - 1, 0);
+    ssize_t length = pread(errors, said, room - 1, 0);
     said[length > 0 ? length : 0] = '\0';
-    process_forget(p);
+    process_forget();
 }
 
-void process_forget(struct process *p)
+void process_forget(void)
 {
-    close(p->lines);
-    close(p->errors);
-    close(p->handle);
-    *p = (struct process){.handle = -1, .lines = -1, .errors = -1};
+    close(lines);
+    close(errors);
+    close(handle);
+    lines = errors = handle = -1;
 }

@@ -38,28 +38,20 @@ static bool is_list_read(int rm, struct list *to)
 
 /* ** before the first session */
 
-static bool lists_nothing(int rm)
-{
-    struct list list = {.count = 0};
-    char text[XID_TEXT];
-    bool is_right = is_list_read(rm, &list);
-
-    if (is_right && list.count > 0)
-        is_right = note_fault(true, "the log %s is new, and %s lists the branch %s of an earlier one: put that back", settings.log,
-            settings.rm[rm].name, text_of(&list.xids[0], text));
-    free(list.xids);
-    return is_right;
-}
-
 bool may_be_made(void)
 {
-    for (int rm = 0; rm < settings.rms; rm++) {
-        if (!is_rm_open(rm))
-            return note_fault(false, "%s", gf_error());
-        if (!lists_nothing(rm))
-            return false;
+    bool is_right = true;
+
+    for (int rm = 0; rm < settings.rms && is_right; rm++) {
+        struct list list = {.count = 0};
+        char text[XID_TEXT];
+        is_right = is_rm_open(rm) ? is_list_read(rm, &list) : note_fault(false, "%s", gf_error());
+        if (list.count > 0)
+            is_right = note_fault(true, "the log %s is new, and %s lists the branch %s of an earlier one: put that back", settings.log,
+                settings.rm[rm].name, text_of(&list.xids[0], text));
+        free(list.xids);
     }
-    return true;
+    return is_right;
 }
 
 /* ** what the coordinator tells */
@@ -88,7 +80,7 @@ static void make_call(int rm, const char *reply)
         return;
     }
     if (verb == FORGET)
-        warn("a resource manager has ended a branch by itself: ", name + 1);
+        fprintf(stderr, "garterfossil: %s has ended a branch by itself: %s\n", settings.rm[rm].name, name + 1);
     begin_call(rm, verb);
     int code = made(rm, verb);
     if (code == LOST)

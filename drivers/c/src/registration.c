@@ -16,7 +16,7 @@ API int ax_reg(int rmid, XID *xid, long flags)
     }
     if (is_session_over())
         return TMER_TMERR;
-    me->line[rmid].xid = *xid = xid_of(me->gtrid, me->number, rmid);
+    me->line[rmid].xid = *xid = branch_of(&me->xid, me->number, rmid);
     me->line[rmid].is_active = true;
     me->branches++;
     /* A thread that is cancelled is so behind it: it may write what others wait for. */

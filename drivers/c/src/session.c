@@ -13,11 +13,6 @@
 
 struct all all;
 
-void warn(const char *what, const char *more)
-{
-    fprintf(stderr, "garterfossil: %s%s\n", what, more);
-}
-
 bool note_fault(bool is_final, const char *format, ...)
 {
     va_list words;
@@ -30,48 +25,33 @@ bool note_fault(bool is_final, const char *format, ...)
     pthread_cond_broadcast(&coordinator.changed);
     unlock();
     if (is_final)
-        warn(all.fault, "");
+        fprintf(stderr, "garterfossil: %s\n", all.fault);
     return false;
 }
 
 /* ** threads come and go */
 
-/* There is one of each number, for whoever has it, as long as the process lives. */
-static bool are_threads_made(void)
-{
-    if (all.threads != NULL)
-        return true;
-    all.threads = calloc((size_t)settings.threads + 1, sizeof *all.threads);
-    if (all.threads == NULL) {
-        explain("no memory");
-        return false;
-    }
-    for (int i = 0; i <= settings.threads; i++) {
-        all.threads[i].number = (unsigned)i;
-        all.threads[i].move.is_alone = i == 0;
-        pthread_cond_init(&all.threads[i].move.woken, NULL);
-    }
-    return true;
-}
-
 static bool is_keeper_started(void)
 {
     sigset_t every, before;
 
-    if (!read_databases() || !are_threads_made())
+    if (!read_databases())
         return false;
+    if (all.threads == NULL && (all.threads = calloc((size_t)settings.threads + 1, sizeof *all.threads)) == NULL) {
+        explain("no memory");
+        return false;
+    }
     see_place();
-    coordinator.patience = settings.patience;
     all.has_failed = false;
     snprintf(all.fault, sizeof all.fault, "the coordinator doesn't start in time");
     /* Signals are the program's affair. */
     sigfillset(&every);
     pthread_sigmask(SIG_BLOCK, &every, &before);
-    all.is_kept = pthread_create(&all.keeper, NULL, keep, NULL) == 0;
+    bool is_started = pthread_create(&all.keeper, NULL, keep, NULL) == 0;
     pthread_sigmask(SIG_SETMASK, &before, NULL);
-    if (!all.is_kept)
+    if (!is_started)
         explain("no thread for the keeper");
-    return all.is_kept;
+    return is_started;
 }
 
 /* A thread of a number that is free. NULL if there is none, or no keeper. */
@@ -81,7 +61,7 @@ static struct thread *taken(void)
 
     while (all.is_ending)
         pthread_cond_wait(&coordinator.changed, &coordinator.lock);
-    if (!all.is_kept && !is_keeper_started())
+    if (all.open == 0 && !is_keeper_started())
         return NULL;
     while (number <= settings.threads && all.threads[number].is_taken)
         number++;
@@ -90,29 +70,26 @@ static struct thread *taken(void)
         return NULL;
     }
     struct thread *it = &all.threads[number];
+    it->number = (unsigned)number;
     it->is_taken = true;
+    pthread_cond_init(&it->move.woken, NULL);
     it->info = (TXINFO){.xid = {.formatID = -1}};
     all.open++;
     return it;
 }
 
-int session_join(void)
+bool session_join(void)
 {
     lock();
     me = taken();
     unlock();
-    if (me == NULL)
-        return TX_ERROR;
-    if (is_session_met())
-        return TX_OK;
-    int result = all.has_failed ? TX_FAIL : TX_ERROR;
-    session_leave();
-    return result;
+    return me != NULL;
 }
 
 void session_leave(void)
 {
     lock();
+    pthread_cond_destroy(&me->move.woken);
     me->is_taken = false;
     me = NULL;
     if (--all.open == 0) {
@@ -121,7 +98,7 @@ void session_leave(void)
         unlock();
         pthread_join(all.keeper, NULL);
         lock();
-        all.is_ending = all.is_kept = false;
+        all.is_ending = false;
         pthread_cond_broadcast(&coordinator.changed);
     }
     unlock();
@@ -139,17 +116,12 @@ bool is_session_met(void)
     bool is_up = coordinator.is_up;
     if (is_up && me->session != coordinator.session) {
         me->session = coordinator.session;
-        me->gtrid[0] = '\0';
+        me->move.reply[0] = '\0';
     }
     if (!is_up)
         explain("%s", all.fault);
     unlock();
     return is_up;
-}
-
-bool is_session_over(void)
-{
-    return me->session != coordinator.session || coordinator.is_gone;
 }
 
 void note_owed(void)
@@ -172,6 +144,6 @@ enum fate awaited_fate(void)
         me->fate = UNKNOWN;
     unlock();
     explain("the coordinator ended as it was to decide: the transaction is %s", words[me->fate]);
-    warn(gf_error(), "");
+    fprintf(stderr, "garterfossil: %s\n", gf_error());
     return me->fate;
 }

@@ -7,15 +7,13 @@
 
 /* ** what threads of the program ask: session.c */
 
-/* The calling thread comes, or goes: the first starts the keeper, and the last ends it. TX_OK, or
- * else TX_ERROR or TX_FAIL. */
-int session_join(void);
+/* The calling thread comes, or goes: the first starts the keeper, and the last ends it. False if it
+ * can't. */
+bool session_join(void);
 void session_leave(void);
 /* Waits for the session that is up, in which the thread moves from then on. False if there is none
  * in time. */
 bool is_session_met(void);
-/* Whether the thread's session is over. */
-bool is_session_over(void);
 /* Waits for the next session to say it of one that was AWAITED. */
 enum fate awaited_fate(void);
 /* A branch is left to a recovery: the keeper looks at once. */
@@ -25,14 +23,14 @@ void note_owed(void);
 
 extern struct all {
     pthread_t keeper;
-    bool is_kept, is_ending, is_owed; /* it runs; the last thread has closed; it is to look at once */
+    bool is_ending; /* the last thread has closed */
+    atomic_bool is_owed; /* it is to look at once */
     atomic_bool has_failed; /* there will be no session any more, until the last thread has closed */
-    int open; /* so many threads have joined */
+    int open; /* so many threads have joined: if there are any, the keeper runs */
     struct thread *threads; /* by their numbers, also those that nobody has just now; 0 is the keeper's */
     char fault[512]; /* why there is no session, or never will be */
 } all;
 
-void warn(const char *what, const char *more);
 /* Why there is no session yet, or why there will be none any more. False. */
 bool note_fault(bool is_final, const char *format, ...) LIKE_PRINTF(2, 3);
 

@@ -45,12 +45,13 @@ static bool is_copied(char *to, size_t room, const char *text)
     return (size_t)snprintf(to, room, "%s", text) < room;
 }
 
-static struct rm *rm_of(const char *name)
+static int rm_of(const char *name)
 {
-    for (int rm = 0; rm < settings.rms; rm++)
-        if (strcmp(settings.rm[rm].name, name) == 0)
-            return &settings.rm[rm];
-    return NULL;
+    int rm = settings.rms - 1;
+
+    while (rm >= 0 && strcmp(settings.rm[rm].name, name) != 0)
+        rm--;
+    return rm;
 }
 
 /* The switch, and beside it, where there is one, a function of its name and `_identity`. */
@@ -77,7 +78,7 @@ static bool is_rm(const char *line, bool is_embedded)
 
     if (settings.rms == MOST_RMS || sscanf(line, "%64s %255s %127s %n", rm->name, library, symbol, &info) != 3 || info == 0)
         return wrong("rm", ": it takes a name, a library, a symbol, and what xa_open takes");
-    if (rm_of(rm->name) != NULL)
+    if (rm_of(rm->name) >= 0)
         return wrong(rm->name, ": there are two of this name");
     if (!is_copied(rm->open, sizeof rm->open, line + info))
         return wrong(rm->name, ": what xa_open takes has at most 255 bytes");
@@ -93,9 +94,9 @@ static bool is_close(const char *line)
 {
     char name[65];
     int info = 0;
-    bool is_right = sscanf(line, "%64s %n", name, &info) == 1 && info > 0 && rm_of(name) != NULL;
+    bool is_right = sscanf(line, "%64s %n", name, &info) == 1 && info > 0 && rm_of(name) >= 0;
 
-    return (is_right && is_copied(rm_of(name)->close, MAXINFOSIZE, line + info))
+    return (is_right && is_copied(settings.rm[rm_of(name)].close, MAXINFOSIZE, line + info))
         || wrong("close", ": it takes the name of an rm that stands before it, and what xa_close takes");
 }
 
@@ -193,7 +194,5 @@ API int gf_settings(const char *file)
 
 API int gf_rmid(const char *name)
 {
-    struct rm *found = read_settings() ? rm_of(name) : NULL;
-
-    return found == NULL ? -1 : (int)(found - settings.rm);
+    return read_settings() ? rm_of(name) : -1;
 }

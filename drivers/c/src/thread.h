@@ -4,7 +4,6 @@
 #include <tx.h>
 
 #include "coordinator.h"
-#include "settings.h"
 #include "xid.h"
 
 /* The line to a resource manager, and the branch of the transaction there. */
@@ -23,10 +22,9 @@ struct thread {
     unsigned number, session; /* its number at the coordinator; the session in which it moves */
     bool is_taken; /* somebody has it */
     struct move move;
-    bool is_moving; /* its reply is yet to be looked at */
     bool is_in_transaction;
     int branches; /* so many the coordinator was told of */
-    char gtrid[GTRID]; /* that has begun in the session: its transaction, or the next one */
+    XID xid; /* that has begun in the session: its transaction, or the next one, or all zeroes */
     _Atomic enum fate fate;
     TXINFO info;
     double deadline;
@@ -35,21 +33,6 @@ struct thread {
 
 /* NULL if it hasn't called tx_open. */
 extern _Thread_local struct thread *me;
-
-/* ** moves: moves.c */
-
-/* Makes the next move, and doesn't wait for the reply. */
-void move(bool decides, const char *format, ...) LIKE_PRINTF(2, 3);
-/* The reply to the last move; "" if the coordinator is gone, or said that it can't be. */
-const char *replied(void);
-/* The number that comes next in a reply, behind a space: -1 if there is none of at most so much. */
-long next_number(const char **at, long most);
-/* Whether a reply begins with the word; the resource managers that it names behind that: how
- * many. */
-bool is_reply(const char *reply, const char *word);
-int named_in(const char *reply, int rms[MOST_RMS]);
-/* The coordinator is out of step: its session is over. Gives "". */
-const char *lose_session(const char *why);
 
 /* ** calls: calls.c */
 
@@ -83,6 +66,6 @@ int begin_next(void);
 int commit_transaction(void);
 /* What tx_rollback returns, where TX_OK is this. */
 int roll_back_transaction(int result);
-/* The last reply is looked at, if there is one yet: it names the next transaction. */
+/* Keeps the name of the next transaction, which the reply to the last move has. */
 void settle(void);
 #endif

@@ -8,26 +8,6 @@
 
 enum { ANSWERS = 6 * MOST_RMS };
 
-/* ** what the coordinator replies */
-
-/* Keeps the name of the transaction that has begun: it stands last. */
-static void keep_next(const char *reply)
-{
-    const char *next = strstr(reply, " next ");
-
-    me->gtrid[0] = '\0';
-    if (next != NULL && is_gtrid(next + 6))
-        memcpy(me->gtrid, next + 6, GTRID);
-    else if (reply[0] != '\0')
-        lose_session("told no next transaction");
-}
-
-void settle(void)
-{
-    if (me->is_moving)
-        keep_next(replied());
-}
-
 /* ** what the program is told of the outcome */
 
 /* If a resource manager has ended its branch otherwise, that. */
@@ -65,9 +45,8 @@ static int result_of(const char *reply, int rolled_back)
  * connection. */
 static void leave_session(void)
 {
-    coordinator_lose(me->session);
+    lose_session("has ended");
     lose_lines();
-    replied();
 }
 
 /* The coordinator has ended before it told it. */
@@ -76,7 +55,6 @@ static int result_of_loss(int rolled_back)
     bool is_awaited = me->fate == AWAITED;
 
     leave_session();
-    explain("the coordinator has ended");
     enum fate fate = is_awaited ? awaited_fate() : me->fate;
     return fate == COMMITTED ? TX_OK : fate == ROLLED_BACK ? rolled_back : is_awaited ? TX_FAIL : TX_HAZARD;
 }
@@ -131,7 +109,7 @@ static int conducted(const char *reply, int rolled_back)
         return result_of_loss(rolled_back);
     me->fate = UNKNOWN; /* nobody waits for it any more */
     int result = result_of(reply, rolled_back);
-    keep_next(reply);
+    settle();
     return result;
 }
 
@@ -162,11 +140,20 @@ bool are_lines_open(void)
     return are_open;
 }
 
+/* It stands last in the reply to an outcome, and to `start`. */
+void settle(void)
+{
+    const char *reply = replied(), *next = strstr(reply, " next ");
+
+    me->xid = transaction_of(next == NULL ? "" : next + 6);
+    if (me->xid.gtrid_length == 0 && reply[0] != '\0')
+        lose_session("told no next transaction");
+}
+
 /* A transaction has begun at the coordinator, which is tried once more if the session was over. */
 static bool is_named(void)
 {
     for (int tries = 0; tries < 2; tries++) {
-        settle();
         if (is_session_over()) {
             leave_session();
             if (!is_session_met())
@@ -174,10 +161,12 @@ static bool is_named(void)
         }
         if (!are_lines_open())
             return false;
-        if (me->gtrid[0] == '\0')
-            move(false, "start %u", me->number);
         settle();
-        if (me->gtrid[0] != '\0')
+        if (me->xid.gtrid_length == 0) {
+            move(false, "start %u", me->number);
+            settle();
+        }
+        if (me->xid.gtrid_length > 0)
             return true;
     }
     return false;
@@ -192,7 +181,7 @@ static int start_branches(void)
 
     for (int rm = 0; rm < settings.rms; rm++)
         if (!is_dynamic(rm)) {
-            me->line[rm].xid = xid_of(me->gtrid, me->number, rm);
+            me->line[rm].xid = branch_of(&me->xid, me->number, rm);
             rms[count++] = rm;
         }
     are_made(START, rms, count, XA_OK, text);

@@ -4,6 +4,7 @@
 #include <pthread.h>
 
 #include "clock.h"
+#include "process.h"
 #include "session.h"
 
 static bool was_forked;
@@ -62,7 +63,7 @@ static void forked(void)
     was_forked = true;
     me = NULL;
     pthread_setspecific(at_end, NULL);
-    coordinator_forget();
+    process_forget();
 }
 
 static void prepare_process(void)
@@ -82,14 +83,13 @@ static int open_thread(void)
         explain("the process was forked after tx_open was called in it");
     if (was_forked || !read_settings())
         return TX_FAIL;
-    int result = session_join();
-    if (result != TX_OK)
-        return result;
-    if (!are_lines_open() || pthread_setspecific(at_end, me) != 0) {
-        leave_all(me);
+    if (!session_join())
         return TX_ERROR;
-    }
-    return TX_OK;
+    if (is_session_met() && are_lines_open() && pthread_setspecific(at_end, me) == 0)
+        return TX_OK;
+    int result = all.has_failed ? TX_FAIL : TX_ERROR;
+    leave_all(me);
+    return result;
 }
 
 static int close_thread(void)
@@ -194,7 +194,7 @@ API int tx_info(TXINFO *info)
         return me->is_in_transaction;
     *info = me->info;
     if (me->is_in_transaction) {
-        info->xid = xid_of_all(me->gtrid);
+        info->xid = me->xid;
         info->transaction_state = is_late() ? TX_TIMEOUT_ROLLBACK_ONLY : is_session_over() ? TX_ROLLBACK_ONLY : TX_ACTIVE;
     }
     return me->is_in_transaction;

@@ -7,21 +7,27 @@
 
 #include "settings.h"
 
-enum { FORMAT = 7, OWN = 16, BQUAL = 8 };
+enum { FORMAT = 7, BQUAL = 8 };
 
-XID xid_of_all(const char *gtrid)
+XID transaction_of(const char *text)
 {
     XID xid = {.formatID = FORMAT};
     size_t name = strlen(settings.name);
 
     memcpy(xid.data, settings.name, name);
-    xid.gtrid_length = (long)name + read_hex(gtrid, GTRID - 1, xid.data + name, OWN);
-    return xid;
+    xid.gtrid_length = (long)name + OWN;
+    return read_hex(text, strlen(text), xid.data + name, OWN) == OWN ? xid : (XID){.formatID = 0};
 }
 
-XID xid_of(const char *gtrid, unsigned thread, int rm)
+const char *text_of_own(const XID *xid, char text[2 * OWN + 1])
 {
-    XID xid = xid_of_all(gtrid);
+    write_hex(text, xid->data + strlen(settings.name), OWN);
+    return text;
+}
+
+XID branch_of(const XID *transaction, unsigned thread, int rm)
+{
+    XID xid = *transaction;
     uint32_t bqual[] = {htonl(thread), htonl((unsigned)rm)};
 
     memcpy(xid.data + xid.gtrid_length, bqual, BQUAL);
@@ -36,11 +42,4 @@ bool is_ours(const XID *xid, int rm)
 
     return xid->formatID == FORMAT && xid->gtrid_length == (long)name + OWN && xid->bqual_length == BQUAL
         && memcmp(xid->data, settings.name, name) == 0 && memcmp(xid->data + name + OWN + BQUAL - 4, &number, 4) == 0;
-}
-
-bool is_gtrid(const char *text)
-{
-    char bytes[OWN];
-
-    return read_hex(text, strlen(text), bytes, OWN) == OWN;
 }

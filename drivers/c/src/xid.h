@@ -3,13 +3,15 @@
 #define XID_H
 #include "../switches/xid_text.h"
 
-enum { GTRID = 33 }; /* bytes of a transaction's name, with its end */
+enum { OWN = 16 }; /* bytes of a transaction's own, behind the manager's name */
 
-/* The identifier of a transaction of this manager; and of its branch at a resource manager. */
-XID xid_of_all(const char *gtrid);
-XID xid_of(const char *gtrid, unsigned thread, int rm);
+/* The identifier of a transaction, without a branch, whose own bytes are these in hexadecimal; all
+ * zeroes if the text isn't so many. */
+XID transaction_of(const char *text);
+/* Its own bytes, which the text has room for. */
+const char *text_of_own(const XID *, char text[2 * OWN + 1]);
+/* Its branch at a resource manager. */
+XID branch_of(const XID *, unsigned thread, int rm);
 /* Whether it is one of this manager at the resource manager. */
 bool is_ours(const XID *, int rm);
-/* Whether the text is the name of a transaction. */
-bool is_gtrid(const char *text);
 #endif

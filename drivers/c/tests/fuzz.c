@@ -50,6 +50,8 @@ static struct life {
     int lines;
     const uint8_t *at, *end;
 } life;
+static int lines;
+static bool is_alive;
 
 /* Says the next line. False if nothing ends it: then it is the last. */
 static bool is_line_said(void)
@@ -75,40 +77,40 @@ static void *live(void *unused)
     return NULL;
 }
 
-bool process_start(struct process *p, char *const words[])
+int process_start(char *const words[])
 {
-    int lines[2], errors[2];
+    int pair[2];
     const uint8_t *end = left_size == 0 ? NULL : memchr(left, 0, left_size);
     size_t length = end == NULL ? left_size : (size_t)(end - left);
 
     (void)words;
-    if (socketpair(AF_UNIX, SOCK_STREAM, 0, lines) != 0 || pipe(errors) != 0)
+    if (socketpair(AF_UNIX, SOCK_STREAM, 0, pair) != 0)
         abort();
-    close(errors[1]);
-    life = (struct life){.lines = lines[1], .at = left, .end = left + length};
+    life = (struct life){.lines = pair[1], .at = left, .end = left + length};
     left += length + (end != NULL);
     left_size -= length + (end != NULL);
     if (pthread_create(&life.thread, NULL, live, NULL) != 0)
         abort();
-    *p = (struct process){.handle = -1, .lines = lines[0], .errors = errors[0]};
-    return true;
+    is_alive = true;
+    return lines = pair[0];
 }
 
-void process_end(struct process *p, double patience, char *said, size_t room)
+void process_end(double patience, char *said, size_t room)
 {
     (void)patience;
-    close(p->lines);
-    close(p->errors);
+    said[0] = '\0';
+    if (!is_alive)
+        return;
+    close(lines);
     pthread_join(life.thread, NULL);
     close(life.lines);
-    *p = (struct process){.handle = -1, .lines = -1, .errors = -1};
+    is_alive = false;
     /* Once there is no more input, it is an error that doesn't go away. */
     snprintf(said, room, "%s", left_size == 0 ? "xatm: log: over" : "");
 }
 
-void process_forget(struct process *p)
+void process_forget(void)
 {
-    (void)p;
 }
 
 /* ** one program over it */

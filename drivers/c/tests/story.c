@@ -153,7 +153,7 @@ static struct telling *ended(bool *is_right)
 
     for (int i = 0; i < AT_ONCE; i++)
         if (tellings[i].pid == pid && pid > 0) {
-            char command[160]; /* (the coordinator may still write there.) */
+            char command[192]; /* (the coordinator may still write there.) */
             snprintf(command, sizeof command, "rm -rf %s 2>/dev/null || { sleep 1; rm -rf %s; }", tellings[i].folder, tellings[i].folder);
             (void)!system(command);
             *is_right = status == 0;
