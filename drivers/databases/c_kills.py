@@ -88,8 +88,18 @@ def run_one(world, folder, is_dynamic, count, seed):
     return wrong + it.failed + (found["sum"] != SUM) + (found["transfers in both"] == 0)
 
 
+def run_store(world, folder, count, seed):
+    """Money between two environments of Berkeley DB, while the coordinator is killed. Prints the figures. How much was wrong."""
+    if not os.path.exists("/usr/include/db.h"):
+        print("C: left out: Berkeley DB (Debian's package libdb5.3-dev)")
+        return 0
+    c_programs.built(folder, "store")
+    words = [f"{c_programs.DRIVER}/tests/berkeley", f"{folder}/store", str(count), str(seed)]
+    return subprocess.run(words, env={**os.environ, "XATM": world.coordinator}, check=False).returncode
+
+
 def run(world, count, seed, sanitizers=""):
-    """Half of the kills over each kind of switch. How much was wrong."""
+    """Half of the kills over each kind of switch, and a fifth as many more with Berkeley DB. How much was wrong."""
     if not c_programs.is_over(world):
         print("C: left out: its switches are for PostgreSQL and MariaDB")
         return 0
@@ -97,7 +107,8 @@ def run(world, count, seed, sanitizers=""):
         with tempfile.TemporaryDirectory(dir=world.home) as folder:
             os.chmod(folder, 0o755)
             c_programs.built(folder, "bank", sanitizers=sanitizers)
-            return sum(run_one(world, folder, is_dynamic, count // 2, seed + is_dynamic) for is_dynamic in (False, True))
+            wrong = sum(run_one(world, folder, is_dynamic, count // 2, seed + is_dynamic) for is_dynamic in (False, True))
+            return wrong + run_store(world, folder, count // 5, seed)
     except Missing as missing:
         print(f"C: left out: {missing}")
         return 0

@@ -176,7 +176,7 @@ static bool is_named(void)
  * of those that did. TX_OK, TX_OUTSIDE or TX_ERROR. */
 static int start_branches(void)
 {
-    int rms[MOST_RMS], count = 0, result = TX_OK;
+    int rms[MOST_RMS] = {0}, count = 0, result = TX_OK;
     char text[ANSWERS], *to = text;
 
     for (int rm = 0; rm < settings.rms; rm++)

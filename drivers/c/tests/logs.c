@@ -273,10 +273,9 @@ static void earlier_branches(void)
 }
 
 const struct story of_logs[] = {{"logs: the file beside one", the_file}, {"logs: the file of another driver", the_file_of_another},
-    {"logs: a broken file", a_broken_file},
-    {"logs: a file that is nested deeply", a_file_that_is_nested_deeply}, {"logs: a file that goes on", a_file_that_goes_on},
-    {"logs: another database", another_database},
+    {"logs: a broken file", a_broken_file}, {"logs: a file that is nested deeply", a_file_that_is_nested_deeply},
+    {"logs: a file that goes on", a_file_that_goes_on}, {"logs: another database", another_database},
     {"logs: two that changed places", two_that_changed_places}, {"logs: a new one", a_new_log},
     {"logs: branches of others", others_branches}, {"logs: a lost one", a_lost_log}, {"logs: an older one", an_older_log},
-    {"logs: an older folder", an_older_folder}, {"logs: one that is shut", one_that_is_shut}, {"logs: another folder", another_folder}, {"logs: earlier branches", earlier_branches},
-    {NULL, NULL}};
+    {"logs: an older folder", an_older_folder}, {"logs: one that is shut", one_that_is_shut}, {"logs: another folder", another_folder},
+    {"logs: earlier branches", earlier_branches}, {NULL, NULL}};
