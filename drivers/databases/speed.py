@@ -92,3 +92,10 @@ def run(world, seconds):
     c_speed.run(world, seconds, ROUNDS, THREADS)
     jdbc.run(world, seconds, ROUNDS)
     return 0
+
+
+def run_c(world, seconds):
+    """The same of C alone."""
+    world.prepare()
+    c_speed.run(world, seconds, ROUNDS, THREADS)
+    return 0
