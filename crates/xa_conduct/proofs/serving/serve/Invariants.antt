@@ -12,6 +12,6 @@ invariant-loop g l = record {
   ready : IsReady l.conductor.server.session;
   acts : GoesOn g.L.DecisionLog.moment l.fn.server l.conductor.server;
   rests :
-      (done : List Request) → (first : Server g.L) → Acts g.L.DecisionLog.moment done first l.fn.server
+      (done : List Request) → (first : Server g.row.L.Denot) → Acts g.L.DecisionLog.moment done first l.fn.server
       → Conducts g.L.DecisionLog.moment first l.conductor;
 }
