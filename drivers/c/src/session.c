@@ -7,9 +7,9 @@
 #include <stdlib.h>
 
 #include "../beside/databases.h"
+#include "../beside/place.h"
 #include "clock.h"
 #include "garterfossil.h"
-#include "place.h"
 
 struct all all;
 

@@ -4,7 +4,7 @@
 #include <stdio.h>
 #include <string.h>
 
-#include "../src/place.h"
+#include "../beside/place.h"
 #include "../src/thread.h"
 #include "../switches/xid_text.h"
 #include "story.h"

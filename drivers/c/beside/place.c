@@ -6,8 +6,7 @@
 #include <string.h>
 #include <sys/vfs.h>
 
-#include "session.h"
-#include "settings.h"
+#include "../src/settings.h"
 
 const char *danger_of(unsigned kind)
 {
@@ -27,7 +26,7 @@ const char *danger_of(unsigned kind)
 
 void see_place(void)
 {
-    char folder[sizeof settings.log], text[sizeof settings.log + 160];
+    char folder[sizeof settings.log];
     struct statfs it;
 
     snprintf(folder, sizeof folder, "%s", settings.log);
@@ -35,8 +34,6 @@ void see_place(void)
     if (slash != NULL)
         slash[1] = '\0';
     const char *danger = statfs(slash == NULL ? "." : folder, &it) == 0 ? danger_of((unsigned)it.f_type) : NULL;
-    if (danger == NULL)
-        return;
-    snprintf(text, sizeof text, "the log %s lies where it %s", settings.log, danger);
-    warn(text, "");
+    if (danger != NULL)
+        fprintf(stderr, "garterfossil: the log %s lies where it %s\n", settings.log, danger);
 }
