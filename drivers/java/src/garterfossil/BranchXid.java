@@ -4,27 +4,26 @@ import java.nio.ByteBuffer;
 import java.nio.charset.StandardCharsets;
 import java.util.Arrays;
 import java.util.HexFormat;
-import java.util.Optional;
 import javax.transaction.xa.Xid;
 
-/** The identifier of a branch: format 7, the manager's name and 16 bytes of the transaction, 4 bytes of the thread and 4 of the resource manager. */
-final class BranchXid implements Xid {
+/**
+ * The identifier of a branch. That of a manager has format 7, the manager's name and 16 bytes of the transaction, 4 bytes of the thread and 4
+ * of the resource manager.
+ */
+public final class BranchXid implements Xid {
     static final int FORMAT = 7;
     private static final int TRANSACTION = 16, QUALIFIER = 8;
     private static final HexFormat HEX = HexFormat.of();
 
+    private final int format;
     private final byte[] gtrid;
     private final byte[] bqual;
-    private final String transaction;
 
-    private BranchXid(byte[] gtrid, byte[] bqual, String transaction) {
-        this.gtrid = gtrid;
-        this.bqual = bqual;
-        this.transaction = transaction;
-    }
-
-    private static BranchXid of(byte[] gtrid, byte[] bqual) {
-        return new BranchXid(gtrid, bqual, HEX.formatHex(gtrid, gtrid.length - TRANSACTION, gtrid.length));
+    /** The one of these parts. */
+    public BranchXid(int format, byte[] gtrid, byte[] bqual) {
+        this.format = format;
+        this.gtrid = gtrid.clone();
+        this.bqual = bqual.clone();
     }
 
     /** The branch of a transaction, by its 32 digits, on the line of a thread to a resource manager. */
@@ -32,44 +31,46 @@ final class BranchXid implements Xid {
         byte[] bytes = name.getBytes(StandardCharsets.US_ASCII);
         byte[] gtrid = Arrays.copyOf(bytes, bytes.length + TRANSACTION);
         System.arraycopy(HEX.parseHex(transaction), 0, gtrid, bytes.length, TRANSACTION);
-        return new BranchXid(gtrid, ByteBuffer.allocate(QUALIFIER).putInt(thread).putInt(rm).array(), transaction);
+        return new BranchXid(FORMAT, gtrid, ByteBuffer.allocate(QUALIFIER).putInt(thread).putInt(rm).array());
     }
 
-    /** The branch that the coordinator's text names, as in {@code 7:<digits>:<digits>}. IllegalArgumentException if it names none. */
-    static BranchXid parse(String text) {
+    /** The one that the coordinator's text names, as in {@code 7:<digits>:<digits>}. Throws IllegalArgumentException if it names none. */
+    public static BranchXid parse(String text) {
         String[] parts = text.split(":", -1);
-        boolean isOne = parts.length == 3 && parts[0].equals(Integer.toString(FORMAT)) && parts[1].length() >= 2 * TRANSACTION
-            && parts[2].length() == 2 * QUALIFIER;
-        if (!isOne) {
+        if (parts.length != 3) {
             throw new IllegalArgumentException("no branch: " + text);
         }
-        return of(HEX.parseHex(parts[1]), HEX.parseHex(parts[2]));
+        return new BranchXid(Integer.parseInt(parts[0]), HEX.parseHex(parts[1]), HEX.parseHex(parts[2]));
     }
 
-    /** An identifier as a resource lists it, of any format; equal to this class' if it is one of these. */
-    static Object copyOf(Xid xid) {
-        return xid.getFormatId() == FORMAT ? new BranchXid(xid.getGlobalTransactionId(), xid.getBranchQualifier(), "") : xid;
+    /** An identifier as a resource lists it. */
+    public static BranchXid copyOf(Xid xid) {
+        return new BranchXid(xid.getFormatId(), xid.getGlobalTransactionId(), xid.getBranchQualifier());
     }
 
-    /** The same identifier, if it is one of the manager of this name at this resource manager. */
-    static Optional<BranchXid> ownOf(Xid xid, String name, int rm) {
-        byte[] gtrid = xid.getGlobalTransactionId(), bqual = xid.getBranchQualifier();
-        byte[] bytes = name.getBytes(StandardCharsets.US_ASCII);
-        boolean isOwn = xid.getFormatId() == FORMAT && gtrid.length == bytes.length + TRANSACTION && bqual.length == QUALIFIER
-            && Arrays.equals(bytes, Arrays.copyOf(gtrid, bytes.length)) && ByteBuffer.wrap(bqual).getInt(4) == rm;
-        return isOwn ? Optional.of(of(gtrid.clone(), bqual.clone())) : Optional.empty();
+    /** Whether it is one of a manager, of whatever name. */
+    boolean isOfAManager() {
+        return format == FORMAT && gtrid.length >= TRANSACTION && bqual.length == QUALIFIER;
     }
 
-    /** The name of the manager that the identifier is of, if it is that of a coordinator's branch; it may be empty. */
-    static Optional<String> managerOf(Xid xid) {
-        byte[] gtrid = xid.getGlobalTransactionId();
-        boolean isOne = xid.getFormatId() == FORMAT && gtrid.length >= TRANSACTION && xid.getBranchQualifier().length == QUALIFIER;
-        return isOne ? Optional.of(new String(gtrid, 0, gtrid.length - TRANSACTION, StandardCharsets.US_ASCII)) : Optional.empty();
+    /** Whether it is one of the manager of this name at this resource manager. */
+    boolean isOf(String name, int rm) {
+        return isOfAManager() && manager().equals(name) && rm() == rm;
     }
 
-    /** The transaction's 32 digits, as requests name it. */
+    /** The name of its manager, which may be empty. */
+    String manager() {
+        return new String(gtrid, 0, gtrid.length - TRANSACTION, StandardCharsets.ISO_8859_1);
+    }
+
+    /** The number of its resource manager. */
+    int rm() {
+        return ByteBuffer.wrap(bqual).getInt(4);
+    }
+
+    /** The transaction's 32 digits, as moves name it. */
     String transaction() {
-        return transaction;
+        return HEX.formatHex(gtrid, gtrid.length - TRANSACTION, gtrid.length);
     }
 
     /** The incarnation of the coordinator in which the transaction began. */
@@ -77,14 +78,9 @@ final class BranchXid implements Xid {
         return ByteBuffer.wrap(gtrid, gtrid.length - TRANSACTION, 8).getLong();
     }
 
-    /** How many transactions had begun in its incarnation with it. */
-    long sequence() {
-        return ByteBuffer.wrap(gtrid, gtrid.length - 8, 8).getLong();
-    }
-
     @Override
     public int getFormatId() {
-        return FORMAT;
+        return format;
     }
 
     @Override
@@ -100,7 +96,8 @@ final class BranchXid implements Xid {
     // Resources compare identifiers, and an array is equal to itself alone.
     @Override
     public boolean equals(Object other) {
-        return other instanceof BranchXid && Arrays.equals(gtrid, ((BranchXid) other).gtrid) && Arrays.equals(bqual, ((BranchXid) other).bqual);
+        return other instanceof BranchXid && format == ((BranchXid) other).format && Arrays.equals(gtrid, ((BranchXid) other).gtrid)
+            && Arrays.equals(bqual, ((BranchXid) other).bqual);
     }
 
     @Override
@@ -110,6 +107,6 @@ final class BranchXid implements Xid {
 
     @Override
     public String toString() {
-        return FORMAT + ":" + HEX.formatHex(gtrid) + ":" + HEX.formatHex(bqual);
+        return format + ":" + HEX.formatHex(gtrid) + ":" + HEX.formatHex(bqual);
     }
 }

@@ -1,5 +1,10 @@
 package garterfossil;
 
+import java.util.ArrayList;
+import java.util.Arrays;
+import java.util.LinkedHashSet;
+import java.util.List;
+import java.util.Set;
 import javax.transaction.xa.XAException;
 import javax.transaction.xa.XAResource;
 import javax.transaction.xa.Xid;
@@ -69,15 +74,28 @@ final class Calls {
 
     /** Some say that there is no such branch of one whose old connection is still there. */
     private static void seeUnlisted(XAResource resource, Xid xid, XAException error) throws Fault.Lost {
-        try {
-            for (Xid listed : resource.recover(XAResource.TMSTARTRSCAN | XAResource.TMENDRSCAN)) {
-                if (xid.equals(BranchXid.copyOf(listed))) {
-                    throw new Fault.Lost("XAER_NOTA of a branch that is listed", error);
-                }
-            }
-        } catch (XAException | RuntimeException second) {
-            throw new Fault.Lost("xa_recover", second);
+        if (listed(resource).contains(BranchXid.copyOf(xid))) {
+            throw new Fault.Lost("XAER_NOTA of a branch that is listed", error);
         }
+    }
+
+    /** The branches of managers, of whatever names, that a resource lists: in several parts, if it does so. */
+    static List<BranchXid> listed(XAResource resource) throws Fault.Lost {
+        Set<BranchXid> found = new LinkedHashSet<>();
+        try {
+            Xid[] part = resource.recover(XAResource.TMSTARTRSCAN);
+            // Some list all of them again without a flag.
+            while (part != null && Arrays.stream(part).map(BranchXid::copyOf).filter(found::add).count() > 0) {
+                part = resource.recover(XAResource.TMNOFLAGS);
+            }
+            resource.recover(XAResource.TMENDRSCAN);
+        } catch (XAException error) {
+            throw unanswered("xa_recover", error);
+        } catch (RuntimeException error) {
+            throw new Fault.Lost("xa_recover", error);
+        }
+        found.removeIf(it -> !it.isOfAManager());
+        return new ArrayList<>(found);
     }
 
     /** A code that is no answer. */

@@ -14,6 +14,8 @@ import java.util.concurrent.TimeoutException;
  */
 final class Fates {
     private final Map<String, CompletableFuture<Outcome>> expected = new ConcurrentHashMap<>();
+    // What was found, and isn't told yet.
+    private final Map<String, Outcome> found = new ConcurrentHashMap<>();
 
     /** Its votes are about to be told. */
     void expect(String gtrid) {
@@ -27,13 +29,25 @@ final class Fates {
 
     /** The next session begins, and is asked. */
     void find(Coordinator coordinator) throws Fault {
-        for (Map.Entry<String, CompletableFuture<Outcome>> it : expected.entrySet()) {
-            Outcome found = coordinator.told(coordinator.post("fate " + it.getKey())).outcome();
-            if (found == null) {
-                throw new Fault.Refused("the coordinator doesn't say what became of " + it.getKey());
+        for (String gtrid : expected.keySet()) {
+            Outcome fate = coordinator.told(coordinator.post("fate " + gtrid)).outcome();
+            if (fate == null) {
+                throw new Fault.Refused("the coordinator doesn't say what became of " + gtrid);
             }
-            it.getValue().complete(found);
+            // Later ones don't know it any more.
+            found.putIfAbsent(gtrid, fate);
         }
+    }
+
+    /** Whatever is to have the decisions first has them: the threads that wait are told. */
+    void tell() {
+        found.forEach((gtrid, fate) -> {
+            CompletableFuture<Outcome> waiting = expected.get(gtrid);
+            if (waiting != null) {
+                waiting.complete(fate);
+            }
+        });
+        found.clear();
     }
 
     /** What became of it; unknown, if no session can tell in time. */

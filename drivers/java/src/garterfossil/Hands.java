@@ -84,9 +84,13 @@ final class Hands {
             session.recovery(at(rm).rm).owe();
         }
         if (rows > 0) {
-            session.noteRow();
+            session.noteOver(transaction.gtrid(), xidsOf(told.owed));
         }
         return told;
+    }
+
+    private List<BranchXid> xidsOf(List<Integer> rms) {
+        return rms.stream().map(rm -> at(rm).xid).collect(Collectors.toList());
     }
 
     /** The branches of which calls are told. */
@@ -169,6 +173,9 @@ final class Hands {
         // Behind a reply that says nothing of a decision the next session knows what was decided.
         Outcome to = told.outcome() != null ? told.outcome() : told.stage();
         seeExpected(told, to == Outcome.COMMITTED || to == Outcome.COMMITTING || to == Outcome.ROLLED_BACK || to == Outcome.ROLLING_BACK);
+        if (told.verb.equals("commit")) {
+            session.noteDecision(transaction.gtrid(), xidsOf(seen(told).rms));
+        }
         manager.fates.forget(transaction.gtrid());
         sure = told.verb.equals("commit") || told.outcome() == Outcome.COMMITTED ? Outcome.COMMITTED : Outcome.ROLLED_BACK;
         return told;

@@ -13,7 +13,9 @@ import java.util.ArrayList;
 import java.util.LinkedHashMap;
 import java.util.List;
 import java.util.Map;
+import java.util.Set;
 import java.util.TreeMap;
+import java.util.concurrent.ConcurrentHashMap;
 
 /**
  * Which databases a log belongs to. Each calls itself by something that no other one has, and the file PATH-databases beside the log keeps that
@@ -42,6 +44,8 @@ final class Identities {
     private final String manager;
     private final Map<Integer, Entry> known = new TreeMap<>();
     private final Map<Integer, String> wrong = new TreeMap<>();
+    // Those that call themselves by nothing, of which that was said.
+    private final Set<Integer> unknown = ConcurrentHashMap.newKeySet();
     private long incarnation;
     private String shut;
 
@@ -128,6 +132,9 @@ final class Identities {
             public void see(String identity, String at) throws Fault.Lost {
                 if (identity != null) {
                     Identities.this.see(number, name, identity, at);
+                } else if (unknown.add(number)) {
+                    Manager.LOG.log(Level.WARNING, () -> name + ", at " + at + ", has nothing by which it could be known again: if another one is put in"
+                        + " its place, nobody notices");
                 }
             }
         };
@@ -153,7 +160,7 @@ final class Identities {
     }
 
     private String other(int number, String name, Entry before, String identity, String at) {
-        StringBuilder text = new StringBuilder(name + " isn't the database that the log " + log + " belongs to: at " + at + " is " + identity
+        StringBuilder text = new StringBuilder(name + " isn't the one that the log " + log + " belongs to: at " + at + " is " + identity
             + ", and it was " + before.identity + ", reached at " + before.at + ".");
         known.forEach((place, entry) -> {
             if (place != number && entry.identity.equals(identity)) {

@@ -12,6 +12,8 @@ import java.util.concurrent.FutureTask;
 import java.util.concurrent.RejectedExecutionException;
 import java.util.concurrent.ScheduledThreadPoolExecutor;
 import java.util.concurrent.TimeUnit;
+import java.util.stream.Collectors;
+import javax.sql.DataSource;
 import javax.transaction.xa.XAResource;
 
 /**
@@ -38,6 +40,7 @@ public final class Manager implements AutoCloseable {
         private int threads = 32, helpers = -1;
         private Duration timeout = Duration.ofSeconds(60), patience = Duration.ofSeconds(20), grace = Duration.ofSeconds(10);
         private Coordinator.Starter starter = Coordinator::start;
+        private DataSource mirror;
 
         private Builder(Path log) {
             this.log = log;
@@ -48,7 +51,7 @@ public final class Manager implements AutoCloseable {
          * new log. It stays as long as the log does.
          */
         public Builder name(String given) {
-            if (!given.matches("[A-Za-z0-9_-]{1," + LogNames.LONGEST + "}")) {
+            if (!given.matches("[A-Za-z0-9_-]{1," + KeptLog.LONGEST + "}")) {
                 throw new IllegalArgumentException("the name of a manager has letters, digits, _ and -, and so not: " + given);
             }
             name = given;
@@ -118,9 +121,66 @@ public final class Manager implements AutoCloseable {
             return this;
         }
 
+        /**
+         * A database that has each decision before any of the resources hears of it, so that a new log can be made of it where this machine is
+         * lost: one that is replicated already. While it can't be reached, nothing is committed.
+         */
+        public Builder mirror(DataSource database) {
+            mirror = database;
+            return this;
+        }
+
+        /** Makes the log anew of the mirror, where the machine that had it is lost: what it says of that. */
+        public String failOver() throws Fault {
+            if (mirror == null) {
+                throw new Fault.Unavailable("there is no mirror to make the log of");
+            }
+            return Mirror.failOver(mirror, log, starter, program, name, patience);
+        }
+
         /** What is in doubt at the resources of the log. It only looks, also beside a manager that has the log. */
         public Doubt status() throws Fault {
-            return Doubt.of(log, starter, program, resources);
+            KeptLog kept = kept();
+            looksAt(kept);
+            return new Doubt(log.toString(), kept, this::listings, Doubt.YOUNG);
+        }
+
+        private KeptLog kept() throws Fault {
+            if (!KeptLog.isThere(log)) {
+                throw new Fault.Unavailable("there is no log " + log);
+            }
+            return KeptLog.of(log, starter, program, "", resources);
+        }
+
+        /** The resources are those of a log. A connection is none of its manager's, which the next session ends. */
+        private void looksAt(KeptLog kept) throws Fault.Unavailable {
+            Identities identities = new Identities(log, kept.manager, false);
+            for (Resource resource : resources) {
+                resource.belongTo(kept.manager + "-status");
+                resource.knownBy(identities.onlySeen(kept.numberOf(resource.name(), log), resource.name()));
+            }
+        }
+
+        private List<Listing> listings() {
+            return resources.stream().map(Listing::of).collect(Collectors.toList());
+        }
+
+        /** A branch that is to be ended by hand, as the log says. It has the log meanwhile. */
+        ByHand byHand(String branch) throws Fault {
+            KeptLog kept = kept();
+            looksAt(kept);
+            return ByHand.of(log, kept, starter, program, listings(), branch);
+        }
+
+        /** A branch that is to be ended by hand, of a manager that is gone for good, and its log with it. */
+        ByHand byHandLeftBy(String manager, String outcome, String branch) throws Fault {
+            KeptLog kept = KeptLog.isThere(log) ? kept() : null;
+            if (kept == null) {
+                resources.forEach(resource -> resource.belongTo("status"));
+            } else {
+                looksAt(kept);
+            }
+            return ByHand.leftBy(manager, outcome, kept == null ? null : kept.manager, listings(), branch);
         }
 
         /** Ends what is in doubt, and nothing else: how many branches and recoveries still wait for a resource after so long. */
@@ -154,7 +214,7 @@ public final class Manager implements AutoCloseable {
     private final ThreadLocal<GlobalTransaction> current = new ThreadLocal<>();
     private final Object starting = new Object();
     // As the log keeps them, and as the file beside it does.
-    private LogNames names;
+    private KeptLog names;
     private Identities identities;
     private volatile Session session;
     private volatile boolean isClosed;
@@ -179,9 +239,9 @@ public final class Manager implements AutoCloseable {
     private void begin() throws Fault {
         try {
             synchronized (starting) {
-                LogNames.seePlace(made.log);
-                boolean isNew = !LogNames.isThere(made.log);
-                names = untilFree(() -> LogNames.of(made.log, made.starter, made.program, made.name, made.resources));
+                KeptLog.seePlace(made.log);
+                boolean isNew = !KeptLog.isThere(made.log);
+                names = untilFree(() -> KeptLog.of(made.log, made.starter, made.program, made.name, made.resources));
                 identities = new Identities(made.log, names.manager, isNew);
                 identities.seeOpen();
                 for (Resource resource : made.resources) {
@@ -191,7 +251,7 @@ public final class Manager implements AutoCloseable {
                     rms.add(new ResourceManager(number, resource));
                 }
                 seconds.scheduleWithFixedDelay(this::watch, 1, 1, TimeUnit.SECONDS);
-                start(coordinator());
+                start();
             }
             seconds.scheduleWithFixedDelay(this::tick, 1, 1, TimeUnit.SECONDS);
             bean.register();
@@ -220,17 +280,54 @@ public final class Manager implements AutoCloseable {
                     LOG.log(Level.WARNING, () -> old.coordinator.lost().getMessage() + ". It is started again");
                     old.abandon();
                 }
-                start(coordinator());
+                KeptLog.seeThere(made.log);
+                start();
             }
             return session;
         }
     }
 
-    private void start(Coordinator coordinator) throws Fault {
-        Session next = new Session(coordinator, names.manager, List.copyOf(rms), made.threads, identities, counts);
+    private void start() throws Fault {
+        Mirror mirror = mirror();
+        boolean isUp = false;
+        try {
+            start(coordinator(), mirror);
+            isUp = true;
+        } finally {
+            if (!isUp && mirror != null) {
+                mirror.close();
+            }
+        }
+    }
+
+    /** The mirror, which is looked at before the coordinator starts; null without one. */
+    private Mirror mirror() throws Fault {
+        if (made.mirror == null) {
+            return null;
+        }
+        Mirror found = new Mirror(made.mirror, made.log, KeptLog.isThere(made.log) ? untilFree(this::keptLog) : names, made.patience);
+        found.look(made.name, number -> rms.stream().filter(rm -> rm.number == number).map(rm -> Listing.of(rm.resource))
+            .filter(it -> it.fault == null).map(it -> it.all).findFirst().orElse(null));
+        return found;
+    }
+
+    private KeptLog keptLog() throws Fault {
+        KeptLog found = KeptLog.readWithBranches(made.log, made.starter, made.program);
+        if (found.isInUse) {
+            throw new Fault.Gone("the log is in use by another process");
+        }
+        return found;
+    }
+
+    private void start(Coordinator coordinator, Mirror mirror) throws Fault {
+        Session next = new Session(coordinator, names.manager, List.copyOf(rms), made.threads, identities, counts, mirror);
         try {
             identities.begin(next.incarnation);
             fates.find(coordinator);
+            if (mirror != null) {
+                mirror.begin(next.incarnation);
+            }
+            fates.tell();
             Duration longest = session == null || made.patience.compareTo(AGAIN) < 0 ? made.patience : AGAIN;
             session = next;
             next.recover(longest);
@@ -247,12 +344,7 @@ public final class Manager implements AutoCloseable {
     }
 
     private Coordinator coordinator() throws Fault {
-        if (session != null) {
-            LogNames.seeThere(made.log);
-        }
-        List<String> words = new ArrayList<>(List.of(made.program, "serve", "--moves"));
-        words.addAll(names.options());
-        words.addAll(List.of("--log", made.log.toString(), Integer.toString(Session.slots(made.threads) + 1), Integer.toString(names.resources.size())));
+        List<String> words = names.served(made.log, made.program, Session.slots(made.threads) + 1);
         return untilFree(() -> new Coordinator(made.starter, words));
     }
 

@@ -3,18 +3,14 @@ package garterfossil;
 import java.lang.System.Logger.Level;
 import java.util.ArrayList;
 import java.util.HashSet;
-import java.util.LinkedHashSet;
 import java.util.List;
-import java.util.Optional;
 import java.util.Set;
 import java.util.TreeSet;
 import java.util.concurrent.CompletableFuture;
 import java.util.concurrent.ExecutionException;
 import java.util.concurrent.TimeUnit;
 import java.util.concurrent.TimeoutException;
-import javax.transaction.xa.XAException;
 import javax.transaction.xa.XAResource;
-import javax.transaction.xa.Xid;
 
 /**
  * Recovers a resource as the coordinator says, in a thread of its own: at the start of a session, and
@@ -240,10 +236,14 @@ final class Recovery {
 
     private BranchXid named(String[] words) throws Fault.Gone {
         try {
-            return BranchXid.parse(words.length > 1 ? words[1] : "");
-        } catch (IllegalArgumentException error) {
-            throw refused(words);
+            BranchXid found = BranchXid.parse(words[1]);
+            if (found.isOfAManager()) {
+                return found;
+            }
+        } catch (IllegalArgumentException | IndexOutOfBoundsException error) {
+            // It names none.
         }
+        throw refused(words);
     }
 
     /** How many branches can't be ended yet. */
@@ -268,6 +268,7 @@ final class Recovery {
             told = 0;
             try {
                 listed = listed();
+                session.seeKnown(rm, listed);
             } catch (Fault.Lost error) {
                 putOff(error.getMessage());
                 return asked("end", "lost");
@@ -307,6 +308,9 @@ final class Recovery {
         if (asked.equals("xa_rollback")) {
             session.noteUndone(of);
         }
+        if (answer != Code.RETRY) {
+            session.noteEnded(of);
+        }
         ended.add(of);
         call = asked;
         xid = of;
@@ -335,30 +339,16 @@ final class Recovery {
     }
 
     private List<BranchXid> listed() throws Fault.Lost {
-        Set<BranchXid> found = new LinkedHashSet<>();
+        List<BranchXid> found = Calls.listed(resource);
         Set<String> others = new TreeSet<>();
-        try {
-            Xid[] xids = resource.recover(XAResource.TMSTARTRSCAN);
-            while (xids != null && xids.length > 0) {
-                boolean isNew = false;
-                for (Xid it : xids) {
-                    Optional<BranchXid> own = BranchXid.ownOf(it, session.name, rm.number);
-                    isNew |= own.isPresent() && found.add(own.get());
-                    if (own.isEmpty()) {
-                        BranchXid.managerOf(it).ifPresent(others::add);
-                    }
-                }
-                // Some list all of them again without a flag.
-                xids = isNew ? resource.recover(XAResource.TMNOFLAGS) : null;
-            }
-            resource.recover(XAResource.TMENDRSCAN);
-        } catch (XAException error) {
-            throw Calls.unanswered("xa_recover", error);
-        } catch (RuntimeException error) {
-            throw new Fault.Lost("xa_recover", error);
-        }
+        found.stream().filter(it -> !isOwn(it)).forEach(it -> others.add(it.manager()));
         noteOthers(others);
-        return new ArrayList<>(found);
+        found.removeIf(it -> !isOwn(it));
+        return found;
+    }
+
+    private boolean isOwn(BranchXid it) {
+        return it.isOf(session.name, rm.number);
     }
 
     /** What others have in doubt stays: those of managers that run, and of logs that are lost. A new log says so, once. */

@@ -24,6 +24,11 @@ public interface Resource {
      */
     void endOthers(Set<Long> kept) throws Fault.Lost;
 
+    /** The statement by which somebody makes a call of XA on a prepared branch by hand. */
+    default String byHand(String call, BranchXid xid) {
+        return "make the call " + call + " of " + xid;
+    }
+
     /** How many connections it may have at a time. */
     int maxConnections();
 

@@ -126,6 +126,7 @@ final class Session {
     private final int threads;
     private final Identities identities;
     final Counts counts;
+    private final Mirror mirror;
     private final Load load = new Load();
     private final Set<GlobalTransaction> live = ConcurrentHashMap.newKeySet();
     // Prepared branches that this session rolled back: a resource may forget that in a crash of its own.
@@ -136,13 +137,15 @@ final class Session {
     private Object oldest;
     private long oldestSince;
 
-    Session(Coordinator coordinator, String name, List<ResourceManager> rms, int threads, Identities identities, Counts counts) {
+    /** A session that has begun. Without a mirror that is null. */
+    Session(Coordinator coordinator, String name, List<ResourceManager> rms, int threads, Identities identities, Counts counts, Mirror mirror) {
         this.coordinator = coordinator;
         this.name = name;
         this.rms = rms;
         this.threads = threads;
         this.identities = identities;
         this.counts = counts;
+        this.mirror = mirror;
         incarnation = Long.parseLong(coordinator.greeting.split(" ")[1]);
         places = new Semaphore(threads, true);
         for (int thread = 1; thread <= slots(threads); thread++) {
@@ -208,14 +211,37 @@ final class Session {
         return recoveries.get(rms.indexOf(rm));
     }
 
+    /** It is decided that a transaction commits, and no resource has heard of it. */
+    void noteDecision(String gtrid, List<BranchXid> xids) throws Fault.Gone {
+        if (mirror != null) {
+            try {
+                mirror.add(gtrid, xids);
+            } catch (Fault.Lost error) {
+                // The next session tells it what the log has.
+                coordinator.kill(error.getMessage());
+                throw coordinator.lost();
+            }
+        }
+    }
+
+    /** A transaction that had a row in the log is over, except for these branches. */
+    void noteOver(String gtrid, List<BranchXid> owed) {
+        hasRows = true;
+        if (mirror != null) {
+            mirror.owe(gtrid, owed);
+        }
+    }
+
+    /** A branch that was in doubt is ended. */
+    void noteEnded(BranchXid xid) {
+        if (mirror != null) {
+            mirror.ended(xid);
+        }
+    }
+
     /** A prepared branch was rolled back. */
     void noteUndone(BranchXid xid) {
         undone.add(xid);
-    }
-
-    /** A transaction is over that had a row in the log. */
-    void noteRow() {
-        hasRows = true;
     }
 
     // ** what must not be
@@ -224,6 +250,16 @@ final class Session {
     void strange(ResourceManager rm, String xid) throws Fault.Gone {
         shut("the log isn't that of " + rm + ", which lists " + xid + " of a later session than any that the log knows. Was its file"
             + " lost, or another one put in its place? Start with the right one: this one would roll back what is decided");
+    }
+
+    /** Sees that the log knows of what is decided and listed. */
+    void seeKnown(ResourceManager rm, List<BranchXid> listed) throws Fault.Gone {
+        for (BranchXid xid : listed) {
+            if (mirror != null && mirror.isUnknownToLog(xid.transaction())) {
+                shut(rm + " lists " + xid + ", which the mirror has decided to commit, and of which this log knows nothing: it is older than the mirror."
+                    + " Put the right one back, or make it of the mirror (garterfossil.Command failover)");
+            }
+        }
     }
 
     /** A resource lists branches of this session that were over. Only a rollback may have been forgotten. */
@@ -278,6 +314,9 @@ final class Session {
             coordinator.flush();
         } catch (Fault.Gone error) {
             // The next look begins the next session.
+        }
+        if (mirror != null) {
+            mirror.finish();
         }
     }
 
@@ -337,6 +376,9 @@ final class Session {
     void quit() {
         recoveries.forEach(Recovery::stop);
         coordinator.quit();
+        if (mirror != null) {
+            mirror.finish();
+        }
     }
 
     /** The coordinator is gone: what is open is given up, before the next session looks at the resources. */
@@ -345,5 +387,8 @@ final class Session {
         long until = System.nanoTime() + TO_END.toNanos();
         live.forEach(transaction -> transaction.abandon(until));
         rms.forEach(ResourceManager::startAnew);
+        if (mirror != null) {
+            mirror.close();
+        }
     }
 }

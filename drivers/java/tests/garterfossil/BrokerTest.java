@@ -10,14 +10,21 @@ import java.lang.reflect.Proxy;
 import java.nio.file.Files;
 import java.time.Duration;
 import java.util.ArrayList;
+import java.util.Collections;
 import java.util.List;
 import java.util.Map;
 import javax.jms.Connection;
 import javax.jms.ConnectionFactory;
+import javax.jms.ConnectionMetaData;
 import javax.jms.IllegalStateException;
+import javax.jms.JMSException;
+import javax.jms.JMSSecurityException;
 import javax.jms.MessageConsumer;
 import javax.jms.MessageProducer;
+import javax.jms.Queue;
+import javax.jms.QueueBrowser;
 import javax.jms.Session;
+import javax.jms.TextMessage;
 import javax.jms.XAConnection;
 import javax.jms.XAConnectionFactory;
 import javax.jms.XASession;
@@ -33,7 +40,11 @@ public class BrokerTest {
     private final StandInResource inner = new StandInResource("inner");
     /** What was sent and received, and by which kind of session. */
     private final List<String> done = new ArrayList<>();
-    private final List<Long> made = java.util.Collections.synchronizedList(new ArrayList<>());
+    private final List<Long> made = Collections.synchronizedList(new ArrayList<>());
+    /** What lies in the queue by which the broker is known, and whether nobody may have that. */
+    private final List<String> identities = new ArrayList<>();
+    private final Queue queue = of(Queue.class, Map.of());
+    private boolean isForbidden;
     private Manager manager;
     private JmsResource resource;
     private ConnectionFactory factory;
@@ -64,11 +75,35 @@ public class BrokerTest {
         Map<String, InvocationHandler> methods = new java.util.HashMap<>(working("in a transaction"));
         methods.put("getXAResource", (proxy, method, words) -> link.xaResource());
         methods.put("getSession", (proxy, method, words) -> proxy);
+        methods.put("createQueue", (proxy, method, words) -> words[0].equals("garterfossil.identity") ? queue : null);
+        methods.put("createBrowser", (proxy, method, words) -> browser());
+        methods.put("createTextMessage", (proxy, method, words) -> message((String) words[0]));
+        InvocationHandler plain = methods.get("createProducer");
+        methods.put("createProducer", (proxy, method, words) -> words[0] == queue ? identifying() : plain.invoke(proxy, method, words));
         XASession session = of(XASession.class, methods);
-        return of(XAConnection.class, Map.of("createXASession", (proxy, method, words) -> session, "close", (proxy, method, words) -> {
-            link.close();
-            return null;
-        }));
+        ConnectionMetaData data = of(ConnectionMetaData.class, Map.of("getJMSProviderName", (proxy, method, words) -> "Stand-in"));
+        return of(XAConnection.class, Map.of("createXASession", (proxy, method, words) -> session, "getMetaData", (proxy, method, words) -> data,
+            "close", (proxy, method, words) -> {
+                link.close();
+                return null;
+            }));
+    }
+
+    private static TextMessage message(String text) {
+        return of(TextMessage.class, Map.of("getText", (proxy, method, words) -> text));
+    }
+
+    private QueueBrowser browser() throws JMSException {
+        if (isForbidden) {
+            throw new JMSSecurityException("the user may not");
+        }
+        List<TextMessage> messages = new ArrayList<>();
+        identities.forEach(it -> messages.add(message(it)));
+        return of(QueueBrowser.class, Map.of("getEnumeration", (proxy, method, words) -> Collections.enumeration(messages)));
+    }
+
+    private MessageProducer identifying() {
+        return of(MessageProducer.class, Map.of("send", (proxy, method, words) -> identities.add(((TextMessage) words[0]).getText())));
     }
 
     private Map<String, InvocationHandler> working(String kind) {
@@ -149,6 +184,49 @@ public class BrokerTest {
         producer.send(null);
         outer.commit();
         assertEquals(List.of("in a transaction sends"), done);
-        assertEquals(1, inner.committed.size());
+        assertEquals(1, inner.committed.stream().filter(BranchXid::isOfAManager).count());
+    }
+
+    private String refusedText() {
+        inner.calls.clear();
+        String text = assertThrows(Fault.Unavailable.class, () -> manager = world.builder().resource(resource).start()).getMessage();
+        assertTrue(text, text.contains("broker isn't the one that the log " + world.folder.resolve("log") + " belongs to: "));
+        assertEquals(List.of(), inner.calls);
+        return text;
+    }
+
+    @Test
+    public void anotherBrokerInItsPlace() throws Exception {
+        assertEquals(1, identities.size());
+        String first = identities.get(0);
+        manager.close();
+        identities.set(0, "another");
+        String text = refusedText();
+        assertTrue(text, text.contains(" is the broker another of Stand-in, and it was the broker " + first + " of Stand-in, reached at "));
+        identities.clear();
+        text = refusedText();
+        assertTrue(text, text.contains(" is a broker of Stand-in whose queue garterfossil.identity is empty, and it was the broker " + first));
+        // Nothing is put where another one's may be missing.
+        assertEquals(List.of(), identities);
+        identities.addAll(List.of(first, "a later one"));
+        manager = world.builder().resource(resource).start();
+    }
+
+    @Test
+    public void aBrokerOfWhichNothingIsKnown() throws Exception {
+        manager.close();
+        for (String name : List.of("log", "log-databases")) {
+            Files.delete(world.folder.resolve(name));
+        }
+        isForbidden = true;
+        try (Logged logged = new Logged()) {
+            manager = world.builder().resource(resource).start();
+            assertEquals(1, logged.said.stream().filter(it -> it.startsWith("broker, at ") && it.contains("has nothing by which it could be known")).count());
+        }
+        factory = resource.connectionFactory(manager);
+        begin();
+        session().createProducer(null).send(null);
+        transaction.commit();
+        assertEquals(List.of("in a transaction sends"), done);
     }
 }

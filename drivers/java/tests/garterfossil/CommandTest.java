@@ -86,7 +86,16 @@ public class CommandTest {
 
     @Test
     public void whatItRefuses() throws Exception {
-        says(3, "usage: ", "end", "it.properties");
+        for (String words : List.of("end it.properties", "status", "status it.properties more", "status it.properties --yes", "recover it.properties --name a",
+            "failover it.properties --name", "look it.properties", "--yes it.properties", "end it.properties 7:00:00 --outcome")) {
+            says(3, "usage: ", words.split(" "));
+        }
+        says(2, "there is no mirror", "failover", file("log = l"));
+        says(2, "there is no mirror.class", "failover", file("log = l\nmirror.url = u"));
+        says(2, "java.lang.Object is no DataSource", "failover", file("log = l\nmirror.class = java.lang.Object"));
+        says(2, "--left-by needs --outcome commit or --outcome rollback", "end", file("log = l"), "7:00:00", "--left-by", "shop-1");
+        says(2, "7:00:00 is no identifier of a branch", "end", file("log = l"), "7:00:00", "--left-by", "shop-1", "--outcome", "commit");
+        says(2, "there is no log l", "end", file("log = l"), "7:00:00");
         says(2, "there is no log", "status", file("program = xatm"));
         says(2, "no.such.Class", "status", file("log = l\nresource.bank.class = no.such.Class"));
         says(2, "there is no resource.bank.class", "status", file("log = l\nresource.bank.url = u"));

@@ -328,9 +328,9 @@ public class RecoveryTest {
 
     @Test
     public void placesOfALog() {
-        assertEquals("nothing sees there whether a program of another machine has it too", LogNames.dangerOf("nfs4"));
-        assertEquals("it is lost with the container or the machine, and what is prepared then waits for somebody", LogNames.dangerOf("overlay"));
-        assertEquals("", LogNames.dangerOf("ext4"));
+        assertEquals("nothing sees there whether a program of another machine has it too", KeptLog.dangerOf("nfs4"));
+        assertEquals("it is lost with the container or the machine, and what is prepared then waits for somebody", KeptLog.dangerOf("overlay"));
+        assertEquals("", KeptLog.dangerOf("ext4"));
     }
 
     @Test
@@ -720,7 +720,7 @@ public class RecoveryTest {
         assertTrue(doubt.toString(), doubt.toString().contains("resource 0, a: 1 in doubt\n  " + world.own(1, 9) + ": waits for xa_rollback"));
         assertTrue(doubt.toString(), doubt.toString().contains("resource 1, b: 1 in doubt\n  " + decided + ": waits for xa_commit"));
         // It only looks.
-        assertEquals(List.of("recover"), world.a.calls);
+        assertEquals(Set.of("recover"), Set.copyOf(world.a.calls));
         assertEquals(0, world.builder().recover(Duration.ofSeconds(10)));
         assertEquals(List.of(decided), world.b.committed);
         assertEquals(Set.of(others), world.a.branches.keySet());
@@ -728,6 +728,74 @@ public class RecoveryTest {
         world.b.isDown = true;
         assertEquals(1, world.builder().status().unreachable());
         assertEquals(1, world.builder().recover(Duration.ofMillis(300)));
+    }
+
+    @Test
+    public void whatAProgramAtWorkIsAboutToEndIsNotInDoubt() throws Exception {
+        world.manager.close();
+        BranchXid stays = world.own(1, 9);
+        world.a.branches.put(stays, StandInResource.State.PREPARED);
+        world.a.branches.put(world.own(1, 8), StandInResource.State.PREPARED);
+        world.put("in-use", "");
+        KeptLog kept = KeptLog.read(world.folder.resolve("log"), words -> StandInCoordinator.of(world.folder, words), "xatm");
+        // What is there at the second look alone is younger.
+        world.a.beforeConnect = () -> {
+            if (world.a.calls.contains("recover")) {
+                world.a.branches.keySet().removeIf(xid -> !xid.equals(stays));
+                world.a.branches.put(world.own(1, 10), StandInResource.State.PREPARED);
+            }
+        };
+        world.a.calls.clear();
+        Doubt doubt = new Doubt("log", kept, () -> List.of(Listing.of(world.a), Listing.of(world.b)), 1);
+        assertEquals(1, doubt.branches());
+        assertTrue(doubt.toString(), doubt.toString().contains("a program has it: it ends its branches by itself"));
+        assertTrue(doubt.toString(), doubt.toString().contains("  " + stays + ": the program that has the log is to end it; listed for 1 seconds"));
+        String text = assertThrows(Fault.Unavailable.class, () -> world.builder().byHand(stays.toString())).getMessage();
+        assertTrue(text, text.endsWith("can't be read, so nothing is ended: a program has it"));
+    }
+
+    private String notByHand(BranchXid xid) {
+        return assertThrows(Fault.Unavailable.class, () -> world.builder().byHand(xid.toString())).getMessage();
+    }
+
+    @Test
+    public void aBranchIsEndedByHandAsTheLogSays() throws Exception {
+        world.manager.close();
+        BranchXid decided = BranchXid.of(world.manager.name(), "0000000000000001" + "0000000000000008", 1, 1), later = world.own(9, 1);
+        rowsOfAnEarlierSession(decided);
+        world.a.branches.put(world.own(1, 9), StandInResource.State.PREPARED);
+        world.a.branches.put(later, StandInResource.State.PREPARED);
+        try (ByHand it = world.builder().byHand(decided.toString())) {
+            assertEquals("b: make the call xa_commit of " + decided, it.toString());
+            // Nobody begins a session meanwhile.
+            assertTrue(world.coordinator.isAlive());
+            assertEquals("it is ended", it.end());
+            assertEquals("it was over already: XAER_NOTA", it.end());
+        }
+        assertFalse(world.coordinator.isAlive());
+        try (ByHand it = world.builder().byHand(world.own(1, 9).toString())) {
+            it.end();
+        }
+        assertEquals(List.of(decided), world.b.committed);
+        assertEquals(List.of(world.own(1, 9)), world.a.rolledBack);
+        assertEquals("no resource lists a branch " + decided + " of this manager", notByHand(decided));
+        assertTrue(notByHand(later), notByHand(later).contains("is older than the branch " + later + ", so nothing is ended"));
+        assertEquals(Set.of(later), world.a.branches.keySet());
+    }
+
+    @Test
+    public void aBranchOfAManagerThatIsGoneIsEndedAsAnOperatorSays() throws Exception {
+        world.manager.close();
+        BranchXid others = BranchXid.of("gone", "0000000000000001" + "0000000000000008", 1, 0);
+        world.a.branches.put(others, StandInResource.State.PREPARED);
+        assertTrue(notByHand(others), notByHand(others).startsWith("no resource lists a branch " + others));
+        String own = world.manager.name();
+        String text = assertThrows(Fault.Unavailable.class, () -> world.builder().byHandLeftBy(own, "commit", others.toString())).getMessage();
+        assertEquals(own + " is the manager of this file: its log says how its branches end", text);
+        try (ByHand it = world.builder().byHandLeftBy("gone", "rollback", others.toString())) {
+            assertEquals("it is ended", it.end());
+        }
+        assertEquals(List.of(others), world.a.rolledBack);
     }
 
     @Test

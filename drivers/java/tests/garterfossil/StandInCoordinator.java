@@ -42,7 +42,8 @@ import java.util.stream.Collectors;
  * begins with it, instead of a reply, and removes the file; {@code decided} is a decision to commit that it makes and doesn't tell. It begins
  * with the line of the protocol where the file `protocol` has its words. Where `refusal` is there, it ends with the status that this has, and
  * says what stands behind that. The files `names` and
- * `rows` have what {@code xatm log} prints of its log. From the first move that begins with the word of the file `silent` on it says nothing,
+ * `rows` have what {@code xatm log} prints of its log, and `in-use` is there where that says that a program has it; what {@code xatm log --make}
+ * is given is in `made`. From the first move that begins with the word of the file `silent` on it says nothing,
  * and the file is removed.
  */
 final class StandInCoordinator extends Process {
@@ -106,10 +107,30 @@ final class StandInCoordinator extends Process {
 
     /** The process of a command, as {@code xatm} has it. */
     static Process of(Path folder, List<String> words) throws IOException {
+        if (words.contains("--make")) {
+            return new ProcessBuilder("tee", folder.resolve("made").toString()).start();
+        }
         if (words.get(1).equals("log")) {
-            return new ProcessBuilder("cat", folder.resolve("names").toString(), folder.resolve("rows").toString()).start();
+            String said = Files.exists(folder.resolve("in-use")) ? "xatm: log: another process runs over it, or it can't be written" : "";
+            Path printed = Files.write(folder.resolve("printed"), printed(folder, words.contains("--explain")));
+            return new ProcessBuilder("sh", "-c", "cat \"$1\"; echo \"$2\" >&2", "sh", printed.toString(), said).start();
         }
         return new StandInCoordinator(folder, words);
+    }
+
+    /** What {@code xatm log} prints, or with {@code --explain} as far as the driver needs that. */
+    private static List<String> printed(Path folder, boolean isExplained) throws IOException {
+        List<String> lines = new ArrayList<>(Files.readAllLines(folder.resolve("names")));
+        String name = lines.stream().filter(line -> line.startsWith("name ")).map(line -> line.substring(5)).findFirst().orElse("");
+        Path counter = folder.resolve("incarnation");
+        lines.add("incarnation " + (Files.exists(counter) ? Files.readString(counter).trim() : "0"));
+        for (String row : Files.readAllLines(folder.resolve("rows"))) {
+            List<String> words = List.of(row.split(" "));
+            lines.add(isExplained ? words.get(0) + " is decided to commit" : row);
+            words.subList(1, isExplained ? words.size() : 1).forEach(xid -> lines.add("    7:" + HexFormat.of().formatHex(
+                name.getBytes(StandardCharsets.US_ASCII)) + xid.substring(2) + " at resource manager " + rm("0")));
+        }
+        return lines;
     }
 
     private StandInCoordinator(Path folder, List<String> command) throws IOException {

@@ -212,14 +212,14 @@ final class StandInResource implements Resource {
             if (into == null) {
                 branches.remove(BranchXid.copyOf(xid));
             } else {
-                branches.put((BranchXid) BranchXid.copyOf(xid), into);
+                branches.put(BranchXid.copyOf(xid), into);
             }
         }
 
         @Override
         public void start(Xid xid, int flags) throws XAException {
             make("start", xid, () -> {
-                own = (BranchXid) BranchXid.copyOf(xid);
+                own = BranchXid.copyOf(xid);
                 branches.put(own, State.ACTIVE);
                 return 0;
             });
@@ -245,7 +245,7 @@ final class StandInResource implements Resource {
         public void commit(Xid xid, boolean isOnePhase) throws XAException {
             make(isOnePhase ? "commit TMONEPHASE" : "commit", xid, () -> {
                 move(xid, null, isOnePhase ? State.IDLE : State.PREPARED);
-                committed.add((BranchXid) BranchXid.copyOf(xid));
+                committed.add(BranchXid.copyOf(xid));
                 return 0;
             });
         }
@@ -254,7 +254,7 @@ final class StandInResource implements Resource {
         public void rollback(Xid xid) throws XAException {
             make("rollback", xid, () -> {
                 move(xid, null, State.IDLE, State.PREPARED, State.ROLLBACK_ONLY);
-                rolledBack.add((BranchXid) BranchXid.copyOf(xid));
+                rolledBack.add(BranchXid.copyOf(xid));
                 return 0;
             });
         }

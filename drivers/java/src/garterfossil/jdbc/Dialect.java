@@ -1,5 +1,6 @@
 package garterfossil.jdbc;
 
+import garterfossil.BranchXid;
 import garterfossil.Fault;
 import garterfossil.Resource;
 import java.lang.reflect.Method;
@@ -67,6 +68,11 @@ enum Dialect {
         }
 
         @Override
+        String byHand(String verb, BranchXid xid) {
+            return verb + " PREPARED '" + PreparedNames.of(xid) + "';";
+        }
+
+        @Override
         JdbcXaResource xaResource(Resource owner, XAResource inner, Connection connection) {
             return new PostgreSqlXaResource(owner, this, inner, connection);
         }
@@ -130,6 +136,11 @@ enum Dialect {
         @Override
         List<String> weaknesses(Connection connection) {
             return Traits.weaknessesOfMariaDb(connection);
+        }
+
+        @Override
+        String byHand(String verb, BranchXid xid) {
+            return "XA " + verb + " " + MariaDbXaResource.text(xid) + ";";
         }
 
         private void takeAny(Connection connection, String label) throws SQLException {
@@ -216,6 +227,11 @@ enum Dialect {
     /** How the database is set so that it may not keep what it voted for, as somebody is to read it. */
     List<String> weaknesses(Connection connection) {
         return List.of();
+    }
+
+    /** The statement that ends a prepared branch: COMMIT or ROLLBACK. */
+    String byHand(String verb, BranchXid xid) {
+        return verb + " of " + xid;
     }
 
     /** The number by which the database knows the connection, which has this label from now on. */

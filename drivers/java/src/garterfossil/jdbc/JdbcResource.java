@@ -1,5 +1,6 @@
 package garterfossil.jdbc;
 
+import garterfossil.BranchXid;
 import garterfossil.Fault;
 import garterfossil.Known;
 import garterfossil.Link;
@@ -10,6 +11,7 @@ import java.sql.Connection;
 import java.sql.SQLException;
 import java.time.Duration;
 import java.util.HashSet;
+import java.util.Locale;
 import java.util.Set;
 import javax.sql.DataSource;
 import javax.sql.XADataSource;
@@ -145,6 +147,12 @@ public final class JdbcResource implements Resource {
             dialect = Dialect.of(connection);
         }
         return dialect;
+    }
+
+    @Override
+    public String byHand(String call, BranchXid xid) {
+        Dialect known = dialect == null ? Dialect.OTHER : dialect;
+        return known.byHand(call.substring(3).toUpperCase(Locale.ROOT), xid);
     }
 
     /** What another pool has is ended, too. */

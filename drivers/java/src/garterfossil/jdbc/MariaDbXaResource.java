@@ -1,5 +1,6 @@
 package garterfossil.jdbc;
 
+import garterfossil.BranchXid;
 import garterfossil.PreparesAtEnd;
 import garterfossil.Resource;
 import java.sql.Connection;
@@ -52,7 +53,7 @@ final class MariaDbXaResource extends JdbcXaResource implements PreparesAtEnd {
 
     private boolean isListed(Xid xid) throws XAException {
         for (Xid it : recover(TMSTARTRSCAN | TMENDRSCAN)) {
-            if (PreparedNames.of(it).equals(PreparedNames.of(xid))) {
+            if (BranchXid.copyOf(it).equals(BranchXid.copyOf(xid))) {
                 return true;
             }
         }
@@ -85,9 +86,8 @@ final class MariaDbXaResource extends JdbcXaResource implements PreparesAtEnd {
         }
     }
 
-    private static String text(Xid xid) {
+    static String text(Xid xid) {
         HexFormat hex = HexFormat.of();
-        return "0x" + hex.formatHex(xid.getGlobalTransactionId()) + ",0x" + hex.formatHex(xid.getBranchQualifier()) + ","
-            + xid.getFormatId();
+        return "X'" + hex.formatHex(xid.getGlobalTransactionId()) + "',X'" + hex.formatHex(xid.getBranchQualifier()) + "'," + xid.getFormatId();
     }
 }

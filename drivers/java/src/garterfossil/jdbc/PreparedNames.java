@@ -1,8 +1,7 @@
 package garterfossil.jdbc;
 
-import java.util.Arrays;
+import garterfossil.BranchXid;
 import java.util.Base64;
-import java.util.HexFormat;
 import java.util.Optional;
 import javax.transaction.xa.Xid;
 
@@ -11,13 +10,11 @@ import javax.transaction.xa.Xid;
  * that whatever works over the same log finds them. Drivers before this one had them named by PostgreSQL's own driver, in base64.
  */
 final class PreparedNames {
-    private static final HexFormat HEX = HexFormat.of();
-
     private PreparedNames() {
     }
 
     static String of(Xid xid) {
-        return xid.getFormatId() + ":" + HEX.formatHex(xid.getGlobalTransactionId()) + ":" + HEX.formatHex(xid.getBranchQualifier());
+        return BranchXid.copyOf(xid).toString();
     }
 
     /** As drivers before this one have it. */
@@ -29,61 +26,16 @@ final class PreparedNames {
 
     /** The identifier that a name is of, in either way, if it is one. */
     static Optional<Xid> parse(String name) {
-        String[] parts = name.split("[:_]", -1);
         try {
             boolean isOlder = name.contains("_");
-            Xid xid = parts.length != 3 ? null
-                : new Named(Integer.parseInt(parts[0]), bytes(parts[1], isOlder), bytes(parts[2], isOlder));
-            return Optional.ofNullable(xid).filter(it -> name.equals(isOlder ? older(it) : of(it)));
-        } catch (IllegalArgumentException error) {
+            Xid xid = isOlder ? parseOlder(name.split("_", -1)) : BranchXid.parse(name);
+            return Optional.of(xid).filter(it -> name.equals(isOlder ? older(it) : of(it)));
+        } catch (IllegalArgumentException | IndexOutOfBoundsException error) {
             return Optional.empty();
         }
     }
 
-    private static byte[] bytes(String text, boolean isOlder) {
-        return isOlder ? Base64.getDecoder().decode(text) : HEX.parseHex(text);
-    }
-
-    private static final class Named implements Xid {
-        private final int format;
-        private final byte[] gtrid;
-        private final byte[] bqual;
-
-        Named(int format, byte[] gtrid, byte[] bqual) {
-            this.format = format;
-            this.gtrid = gtrid;
-            this.bqual = bqual;
-        }
-
-        @Override
-        public int getFormatId() {
-            return format;
-        }
-
-        @Override
-        public byte[] getGlobalTransactionId() {
-            return gtrid.clone();
-        }
-
-        @Override
-        public byte[] getBranchQualifier() {
-            return bqual.clone();
-        }
-
-        @Override
-        public boolean equals(Object other) {
-            return other instanceof Named && format == ((Named) other).format && Arrays.equals(gtrid, ((Named) other).gtrid)
-                && Arrays.equals(bqual, ((Named) other).bqual);
-        }
-
-        @Override
-        public int hashCode() {
-            return 31 * (31 * format + Arrays.hashCode(gtrid)) + Arrays.hashCode(bqual);
-        }
-
-        @Override
-        public String toString() {
-            return of(this);
-        }
+    private static Xid parseOlder(String[] parts) {
+        return new BranchXid(Integer.parseInt(parts[0]), Base64.getDecoder().decode(parts[1]), Base64.getDecoder().decode(parts[2]));
     }
 }

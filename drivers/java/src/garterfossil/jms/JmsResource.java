@@ -1,6 +1,7 @@
 package garterfossil.jms;
 
 import garterfossil.Fault;
+import garterfossil.Known;
 import garterfossil.Link;
 import garterfossil.Manager;
 import garterfossil.Pooling;
@@ -36,6 +37,7 @@ public final class JmsResource implements Resource {
     private boolean areSeen;
     private final BitSet left = new BitSet();
     private volatile String manager = "";
+    private volatile Known known;
 
     private JmsResource(String name, XAConnectionFactory factory) {
         this.name = name;
@@ -105,16 +107,24 @@ public final class JmsResource implements Resource {
     }
 
     @Override
+    public void knownBy(Known it) {
+        known = it;
+    }
+
+    @Override
     public Link connect() throws Fault.Lost {
         int number = take();
+        boolean isMade = false;
         try {
-            return new JmsLink(connection(number), number + 1, () -> giveBack(number));
+            Link made = new JmsLink(connection(number, true), number + 1, () -> giveBack(number));
+            isMade = true;
+            return made;
         } catch (JMSException | RuntimeException error) {
-            giveBack(number);
             throw new Fault.Lost("no connection to " + name, error);
-        } catch (Fault.Lost error) {
-            giveBack(number);
-            throw error;
+        } finally {
+            if (!isMade) {
+                giveBack(number);
+            }
         }
     }
 
@@ -152,8 +162,8 @@ public final class JmsResource implements Resource {
         }
     }
 
-    /** A connection that has its identifier, once an older one of the same is gone. */
-    private XAConnection connection(int number) throws JMSException, Fault.Lost {
+    /** A connection that has its identifier, once an older one of the same is gone; to the broker that it always was, if that is to be seen. */
+    private XAConnection connection(int number, boolean isToBeSeen) throws JMSException, Fault.Lost {
         String client = "garterfossil-" + (manager.isEmpty() ? "" : manager + "-") + name + "-" + number;
         long until = System.nanoTime() + PATIENCE;
         while (true) {
@@ -161,17 +171,27 @@ public final class JmsResource implements Resource {
             try {
                 connection.setClientID(client);
                 connection.start();
+                if (isToBeSeen) {
+                    see(connection);
+                }
                 return connection;
             } catch (InvalidClientIDException error) {
                 connection.close();
                 if (System.nanoTime() > until) {
                     throw new Fault.Lost("a connection " + client + " of an earlier manager stays at " + name, error);
                 }
-            } catch (JMSException | RuntimeException error) {
+            } catch (JMSException | RuntimeException | Fault.Lost error) {
                 connection.close();
                 throw error;
             }
             pause();
+        }
+    }
+
+    private void see(XAConnection connection) throws JMSException, Fault.Lost {
+        Known it = known;
+        if (it != null) {
+            it.see(BrokerIdentity.of(connection, it.identity()), BrokerIdentity.placeOf(factory));
         }
     }
 
@@ -188,10 +208,12 @@ public final class JmsResource implements Resource {
     @Override
     public void endOthers(Set<Long> kept) throws Fault.Lost {
         BitSet unseen = unseen();
+        boolean isSeen = false;
         try {
             for (int number = unseen.nextSetBit(0); number >= 0; number = unseen.nextSetBit(number + 1)) {
                 if (!kept.contains(number + 1L)) {
-                    connection(number).close();
+                    connection(number, !isSeen).close();
+                    isSeen = true;
                 }
                 unseen.clear(number);
             }

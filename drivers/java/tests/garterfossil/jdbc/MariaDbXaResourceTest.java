@@ -16,7 +16,7 @@ import org.junit.Test;
 
 /** xa_end and xa_prepare by one statement, and what MariaDB may answer to it. */
 public class MariaDbXaResourceTest {
-    private static final String TEXT = "BEGIN NOT ATOMIC XA END 0x0102,0x03,7; XA PREPARE 0x0102,0x03,7; END";
+    private static final String TEXT = "BEGIN NOT ATOMIC XA END X'0102',X'03',7; XA PREPARE X'0102',X'03',7; END";
 
     private final List<String> done = new ArrayList<>();
     /** What the statement fails by, and what XA ROLLBACK is answered; 0 where they don't. */

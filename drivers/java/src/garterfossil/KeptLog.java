@@ -1,6 +1,7 @@
 package garterfossil;
 
 import java.io.IOException;
+import java.io.OutputStream;
 import java.lang.System.Logger.Level;
 import java.nio.charset.StandardCharsets;
 import java.nio.file.Files;
@@ -8,36 +9,55 @@ import java.nio.file.Path;
 import java.security.SecureRandom;
 import java.util.ArrayList;
 import java.util.List;
+import java.util.Map;
+import java.util.TreeMap;
+import java.util.concurrent.CompletableFuture;
+import java.util.concurrent.TimeUnit;
+import java.util.regex.Matcher;
+import java.util.regex.Pattern;
 import java.util.stream.Collectors;
 
 /**
- * The names that a log keeps in its file: that of its manager, which stands in the identifiers of branches, and those of the resources by
- * their numbers, which stand there too. They are written as the log is made, and never again (docs/LOG.md).
+ * What a log holds, as {@code xatm log} prints it: the names that it keeps of its manager and of the resources, by their numbers, which stand in
+ * the identifiers of branches and never change (docs/LOG.md); its last session; and its rows.
  *
  * <p>A new log gets a name that no other log ever had: so what an earlier log left at the resources is another manager's, and stays.
  */
-final class LogNames {
+final class KeptLog {
     private static final String LETTERS = "abcdefghijklmnopqrstuvwxyz0123456789";
     /** The name of a manager has so many letters at most, and of these so many are drawn. */
     static final int LONGEST = 16, DRAWN = 6;
+    /** A look that takes longer than so many seconds is given up. */
+    private static final long LONGEST_LOOK = 60;
+    private static final Pattern EXPLAINED = Pattern.compile(" +([0-9]+:[0-9a-f]+:[0-9a-f]+) at resource manager .*");
 
     /** The manager's, which is empty if the log was made without one. */
     final String manager;
     final List<String> resources;
+    /** The number of the last session; 0 if there was none. */
+    final long incarnation;
+    /** The transactions that are decided to commit, each with the branches that its row waits for, if these were asked for. */
+    final Map<String, List<BranchXid>> decisions = new TreeMap<>();
+    /** What resources ended by themselves, a line for each. */
+    final List<String> heuristics = new ArrayList<>();
+    /** Whether a program has it. */
+    final boolean isInUse;
 
-    private LogNames(String manager, List<String> resources) {
+    private KeptLog(String manager, List<String> resources, long incarnation, boolean isInUse) {
         this.manager = manager;
         this.resources = List.copyOf(resources);
+        this.incarnation = incarnation;
+        this.isInUse = isInUse;
     }
 
-    /** Those of the log in the file, as the program tells them; or those that a new log gets. */
-    static LogNames of(Path log, Coordinator.Starter starter, String program, String given, List<Resource> resources) throws Fault {
-        LogNames names = isThere(log) ? read(log, starter, program) : drawn(log, given, resources);
-        names.seeManager(log, given);
+    /** The log in the file, or what a new one gets. */
+    static KeptLog of(Path log, Coordinator.Starter starter, String program, String given, List<Resource> resources) throws Fault {
+        KeptLog kept = isThere(log) ? read(log, starter, program) : drawn(log, given, resources);
+        kept.seeManager(log, given);
         for (Resource resource : resources) {
-            names.numberOf(resource.name(), log);
+            kept.numberOf(resource.name(), log);
         }
-        return names;
+        return kept;
     }
 
     /** Sees that a log that was used is still there: one made in its place would have its name, and roll back what it decided. */
@@ -79,7 +99,7 @@ final class LogNames {
         }
     }
 
-    private static LogNames drawn(Path log, String given, List<Resource> resources) throws Fault.Unavailable {
+    private static KeptLog drawn(Path log, String given, List<Resource> resources) throws Fault.Unavailable {
         if (given.length() + 1 + DRAWN > LONGEST) {
             throw new Fault.Unavailable("the log " + log + " is new, and the name " + given + " too long: it has at most "
                 + (LONGEST - 1 - DRAWN) + " letters, since " + DRAWN + " are drawn behind it");
@@ -90,36 +110,75 @@ final class LogNames {
         while (name.length() < length) {
             name.append(LETTERS.charAt(random.nextInt(LETTERS.length())));
         }
-        return new LogNames(name.toString(), resources.stream().map(Resource::name).collect(Collectors.toList()));
+        return new KeptLog(name.toString(), resources.stream().map(Resource::name).collect(Collectors.toList()), 0, false);
     }
 
-    private static LogNames read(Path log, Coordinator.Starter starter, String program) throws Fault {
+    // ** what the program prints
+
+    /** The log in the file. */
+    static KeptLog read(Path log, Coordinator.Starter starter, String program) throws Fault {
+        StringBuilder said = new StringBuilder();
+        String[] lines = printed(starter, List.of(program, "log", log.toString()), "", said).split("\n");
         String manager = "";
-        List<String> resources = new ArrayList<>();
-        for (String line : listed(log, starter, program).split("\n")) {
+        long incarnation = 0;
+        List<String> resources = new ArrayList<>(), rows = new ArrayList<>();
+        for (String line : lines) {
             String[] words = line.split(" ", -1);
-            boolean isName = words[0].equals("name"), isResource = words[0].equals("rm");
-            if (words.length < (isName ? 2 : isResource ? 3 : 1)) {
+            try {
+                switch (words[0]) {
+                    case "name": manager = words[1]; break;
+                    case "rm": resources.add(words[2]); break;
+                    case "incarnation": incarnation = Long.parseLong(words[1]); break;
+                    default: rows.add(line);
+                }
+            } catch (IndexOutOfBoundsException | NumberFormatException error) {
                 throw new Fault.Unavailable("what " + program + " prints of the log " + log + " isn't what xatm log prints: " + line);
             }
-            if (isName) {
-                manager = words[1];
-            } else if (isResource) {
-                resources.add(words[2]);
-            }
         }
-        return new LogNames(manager, withAdded(log, resources));
+        KeptLog found = new KeptLog(manager, withAdded(log, resources), incarnation, said.indexOf("another process runs over it") >= 0);
+        rows.forEach(found::take);
+        return found;
     }
 
-    /** What {@code xatm log} prints. */
-    static String listed(Path log, Coordinator.Starter starter, String program) throws Fault.Gone {
+    private void take(String row) {
+        String first = row.split(" ", -1)[0];
+        if (first.matches("[0-9a-f]{32}")) {
+            decisions.put(first, new ArrayList<>());
+        } else if (first.contains(":")) {
+            heuristics.add(row);
+        }
+    }
+
+    /** The same, with the branches that its rows wait for. */
+    static KeptLog readWithBranches(Path log, Coordinator.Starter starter, String program) throws Fault {
+        KeptLog found = read(log, starter, program);
+        if (!found.decisions.isEmpty()) {
+            String explained = printed(starter, List.of(program, "log", "--explain", log.toString()), "", new StringBuilder());
+            for (String line : explained.split("\n")) {
+                Matcher it = EXPLAINED.matcher(line);
+                if (it.matches()) {
+                    BranchXid xid = BranchXid.parse(it.group(1));
+                    found.decisions.computeIfAbsent(xid.transaction(), none -> new ArrayList<>()).add(xid);
+                }
+            }
+        }
+        return found;
+    }
+
+    /** What a program prints that is given a text, once it has ended; and what it says beside. */
+    static String printed(Coordinator.Starter starter, List<String> words, String given, StringBuilder said) throws Fault.Gone {
         try {
-            Process process = starter.start(List.of(program, "log", log.toString()));
-            process.getOutputStream().close();
+            Process process = starter.start(words);
+            CompletableFuture.delayedExecutor(LONGEST_LOOK, TimeUnit.SECONDS).execute(process::destroyForcibly);
+            try (OutputStream input = process.getOutputStream()) {
+                input.write(given.getBytes(StandardCharsets.US_ASCII));
+            } catch (IOException error) {
+                // It has ended, and says why.
+            }
             String printed = new String(process.getInputStream().readAllBytes(), StandardCharsets.ISO_8859_1);
-            String said = new String(process.getErrorStream().readAllBytes(), StandardCharsets.UTF_8).trim();
+            said.append(new String(process.getErrorStream().readAllBytes(), StandardCharsets.UTF_8).trim());
             if (process.waitFor() != 0) {
-                throw new Fault.Gone("the log isn't read; it said: " + said, process.exitValue());
+                throw new Fault.Gone("the log isn't to be had; it said: " + said, process.exitValue());
             }
             return printed;
         } catch (IOException error) {
@@ -129,6 +188,8 @@ final class LogNames {
             throw new Fault.Gone("interrupted");
         }
     }
+
+    // ** its names
 
     /** Drivers before this one kept the names in a file beside the log, with those that were added to the log's. */
     private static List<String> withAdded(Path log, List<String> kept) throws Fault.Unavailable {
@@ -143,10 +204,15 @@ final class LogNames {
 
     /** A manager that was given a name has a log of that name, alone or with what was drawn behind it. */
     private void seeManager(Path log, String given) throws Fault.Unavailable {
-        if (!given.isEmpty() && !manager.equals(given) && !manager.startsWith(given + "-")) {
+        if (!isNamed(manager, given)) {
             throw new Fault.Unavailable("the log " + log + " is that of " + (manager.isEmpty() ? "a manager without a name" : "the manager " + manager)
                 + ", not of " + given + ". Is it the right file?");
         }
+    }
+
+    /** Whether a manager's name is one that a program which gave this name may have. */
+    static boolean isNamed(String manager, String given) {
+        return given.isEmpty() || manager.equals(given) || manager.startsWith(given + "-");
     }
 
     /** The number of a resource. */
@@ -158,10 +224,12 @@ final class LogNames {
         return resources.indexOf(name);
     }
 
-    /** The words that tell them to {@code xatm serve}. */
-    List<String> options() {
-        List<String> words = new ArrayList<>(manager.isEmpty() ? List.of() : List.of("--name", manager));
+    /** The words by which {@code xatm serve} is started over the log, for so many threads. */
+    List<String> served(Path log, String program, int threads) {
+        List<String> words = new ArrayList<>(List.of(program, "serve", "--moves"));
+        words.addAll(manager.isEmpty() ? List.of() : List.of("--name", manager));
         resources.forEach(name -> words.addAll(List.of("--rm", name)));
+        words.addAll(List.of("--log", log.toString(), Integer.toString(threads), Integer.toString(resources.size())));
         return words;
     }
 }
