@@ -1,5 +1,5 @@
 """A machine that dies: the folder with the log is deleted in the middle of transfers, and from the mirror in a database a new log is
-made, in another folder, over which the next run goes on."""
+made, in another folder, over which the next run goes on. By the driver in Python, and by that in Java."""
 
 import os
 import random
@@ -7,9 +7,12 @@ import shutil
 import signal
 import subprocess
 import sys
+import tempfile
 import time
 
-from servers import processes_of
+from broker import QUICK
+from jdbc import compiled, driver_of, paths_of
+from servers import Missing, free_port, processes_of
 from services import await_coordinator, found_wrong, see_apart
 from world import HERE, TOP
 
@@ -33,10 +36,13 @@ class Machine:
     def log(self):
         return f"{self.home}/decisions.db"
 
+    def words(self, seconds):
+        """The program that moves money."""
+        return [sys.executable, f"{HERE}/bank.py", self.world.home, str(seconds), "4", self.log, str(self.mirror)]
+
     def start(self, seconds=86400):
         with open(f"{self.world.home}/machines.log", "a") as it:
-            words = [sys.executable, f"{HERE}/bank.py", self.world.home, str(seconds), "4", self.log, str(self.mirror)]
-            self.process = subprocess.Popen(words, stdout=subprocess.PIPE, stderr=it)
+            self.process = subprocess.Popen(self.words(seconds), stdout=subprocess.PIPE, stderr=it)
 
     def die(self):
         """Whether it was still at work. Nothing of it is left."""
@@ -68,14 +74,59 @@ class Machine:
         return subprocess.run(words, capture_output=True, text=True, env=environment, check=False)
 
 
-def run(world, machines, seed):
+class JavaMachine(Machine):
+    """The same, with a program in Java over drivers/java."""
+
+    path = []
+
+    @property
+    def log(self):
+        """Of a name of its own: the mirror still knows the managers of those before."""
+        return f"{self.home}/java.db"
+
+    def java(self, name, *words):
+        return ["java", *QUICK, "-cp", ":".join(self.path), name, *words]
+
+    def words(self, seconds):
+        urls = [server.url() for server in self.world.servers]
+        return self.java("Bank", self.world.home, self.world.coordinator, str(seconds), "4", *urls, "-", self.log, urls[self.mirror])
+
+    def take_over(self):
+        path = f"{self.home}/bank.properties"
+        kinds = {"PostgreSQLServer": "org.postgresql.ds.PGSimpleDataSource", "MariaDBServer": "org.mariadb.jdbc.MariaDbDataSource"}
+        server = self.world.servers[self.mirror]
+        with open(path, "w") as it:
+            it.write(f"log = {self.log}\nprogram = {self.world.coordinator}\n")
+            it.write(f"mirror.class = {kinds[type(server).__name__]}\nmirror.url = {server.url()}\n")
+        return subprocess.run(self.java("garterfossil.Command", "failover", path), capture_output=True, text=True, check=False)
+
+
+def run_java(world, machines, seed):
+    """The same as run, by Java. How much was wrong."""
+    folder = tempfile.mkdtemp(dir=world.home)
+    os.chmod(folder, 0o755)
+    try:
+        JavaMachine.path = [folder, *paths_of(dict(driver_of(server) for server in world.servers)), *compiled(folder, ["Bank", "Drain", "Speed"])]
+    except Missing as missing:
+        print(f"machines: without Java: {missing}")
+        return 0
+    for server in world.servers:
+        server.restart(free_port())
+    try:
+        return run(world, machines, seed, JavaMachine)
+    finally:
+        for server in world.servers:
+            server.restart(None)
+
+
+def run(world, machines, seed, kind=Machine):
     """So many machines, one after the other, each of which dies. How much was wrong."""
     world.prepare()
     begun, rng, failed, decided = time.monotonic(), random.Random(seed), 0, 0
     for mirror in (0, 1):
         has_begun = False
         for number in range(machines // 2):
-            machine = Machine(world, f"{mirror}-{number}", mirror)
+            machine = kind(world, f"{mirror}-{number}", mirror)
             done = machine.take_over()
             if done.returncode == 0:
                 has_begun = True
@@ -88,13 +139,13 @@ def run(world, machines, seed):
             time.sleep(rng.uniform(*LIFE))
             failed += not machine.die()
         # One more, to the end.
-        machine = Machine(world, f"{mirror}-last", mirror)
+        machine = kind(world, f"{mirror}-last", mirror)
         failed += machine.take_over().returncode != 0
         machine.start(seconds=2)
         machine.process.communicate(timeout=300)
         failed += machine.process.returncode != 0
         shutil.rmtree(machine.home)
-    print(f"machines: {machines} of them died in {time.monotonic() - begun:.0f} seconds, seed {seed}; {decided} decisions were in the mirror as they did")
+    print(f"machines: {machines} of them, {kind.__name__}, died in {time.monotonic() - begun:.0f} seconds, seed {seed}; {decided} decisions were in the mirror as they did")
     with open(f"{world.home}/machines.log") as it:
         unexplained = see_apart(world, [it.read()])
     return found_wrong("machines", world, unexplained, failed)

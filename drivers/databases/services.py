@@ -85,7 +85,7 @@ class Service:
 
 def see_apart(world, texts):
     """How many branches somebody else has ended, by the drivers' notes: it would be another manager."""
-    return sum(text.count("ended it by hand") for text in texts)
+    return sum(text.count("ended it by hand") + text.count("the resource ended it by itself") for text in texts)
 
 
 def found_wrong(part, world, unexplained, failed):

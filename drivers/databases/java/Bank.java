@@ -26,8 +26,9 @@ import org.apache.activemq.ActiveMQXAConnectionFactory;
 /**
  * The driver that is killed, in Java: moves money between two databases, and orders through a broker, on several threads.
  *
- * <p>Usage: Bank HOME PROGRAM SECONDS THREADS URL URL BROKER. Each outcome is written to HOME/told once it was told. One transaction of
- * ten fails on purpose. Ends with a line of JSON: how many there were of each kind.
+ * <p>Usage: Bank HOME PROGRAM SECONDS THREADS URL URL BROKER, or of a machine that has no broker, and whose log is mirrored, Bank HOME
+ * PROGRAM SECONDS THREADS URL URL - LOG MIRROR. Each outcome is written to HOME/told once it was told. One transaction of ten fails on
+ * purpose. Ends with a line of JSON: how many there were of each kind.
  */
 public class Bank {
     private static final class OnPurpose extends Exception {
@@ -51,7 +52,7 @@ public class Bank {
     void work(long until) {
         while (System.nanoTime() < until) {
             String token = UUID.randomUUID().toString().replace("-", "");
-            int dice = ThreadLocalRandom.current().nextInt(20);
+            int dice = ThreadLocalRandom.current().nextInt(broker == null ? 13 : 20);
             String kind = dice < 11 ? "both" : dice < 13 ? Integer.toString(dice - 11) : dice < 17 ? "send" : "take";
             String end = transact(kind, token);
             counts.computeIfAbsent(end, it -> new AtomicInteger()).incrementAndGet();
@@ -188,19 +189,33 @@ public class Bank {
         }
     }
 
+    private static DataSource plain(String url) throws Exception {
+        String name = url.startsWith("jdbc:postgresql:") ? "org.postgresql.ds.PGSimpleDataSource" : "org.mariadb.jdbc.MariaDbDataSource";
+        Object source = Class.forName(name).getConstructor().newInstance();
+        source.getClass().getMethod("setUrl", String.class).invoke(source, url);
+        return (DataSource) source;
+    }
+
     public static void main(String[] words) throws Exception {
         JdbcResource[] databases = new JdbcResource[2];
         int threads = Integer.parseInt(words[3]);
-        Manager.Builder builder = Manager.over(Path.of(words[0], "log.db")).program(words[1]).threads(threads).timeout(Duration.ofSeconds(20));
+        boolean isMirrored = words.length > 7;
+        Path log = isMirrored ? Path.of(words[7]) : Path.of(words[0], "log.db");
+        Manager.Builder builder = Manager.over(log).program(words[1]).threads(threads).timeout(Duration.ofSeconds(20));
         for (int number = 0; number < 2; number++) {
             databases[number] = JdbcResource.of("db" + number, Speed.source(words[4 + number])).maxConnections(threads + 2);
             builder.resource(databases[number]);
         }
-        JmsResource broker = JmsResource.of("broker", new ActiveMQXAConnectionFactory(words[6])).maxConnections(threads + 2);
-        builder.resource(broker);
+        JmsResource broker = null;
+        if (isMirrored) {
+            builder.mirror(plain(words[8]));
+        } else {
+            broker = JmsResource.of("broker", new ActiveMQXAConnectionFactory(words[6])).maxConnections(threads + 2);
+            builder.resource(broker);
+        }
         try (Manager manager = start(builder)) {
             DataSource[] sources = {databases[0].dataSource(manager), databases[1].dataSource(manager)};
-            Bank bank = new Bank(manager, sources, broker.connectionFactory(manager), words[0]);
+            Bank bank = new Bank(manager, sources, broker == null ? null : broker.connectionFactory(manager), words[0]);
             long until = System.nanoTime() + (long) (Double.parseDouble(words[2]) * 1e9);
             Thread[] workers = new Thread[threads];
             for (int number = 0; number < threads; number++) {

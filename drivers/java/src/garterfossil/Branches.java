@@ -129,9 +129,9 @@ final class Branches {
         all.forEach(branch -> branch.gate.cancel());
     }
 
-    /** Lets no work in any more, and cuts short what is inside. */
-    void shut(String why) {
-        all.forEach(branch -> branch.gate.shut(why, 0));
+    /** Lets no work in any more. To cut short what is inside may take long at a resource that is silent, so each branch does that by itself. */
+    void bar(String why) {
+        all.forEach(branch -> branch.gate.bar(why));
     }
 
     /** The session is over: their connections are closed, and work that isn't prepared is undone as far as that can be done here. */

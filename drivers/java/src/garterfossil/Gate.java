@@ -41,9 +41,14 @@ public final class Gate {
         return reason != null;
     }
 
-    /** Lets nothing in any more. Waits so many milliseconds for what is inside, if that is more than none, and then cuts it short. False if it doesn't end. */
-    boolean shut(String because, long patience) {
+    /** Lets nothing in any more. What is inside goes on. */
+    void bar(String because) {
         reason = reason == null ? because : reason;
+    }
+
+    /** The same, and waits so many milliseconds for what is inside, if that is more than none, and then cuts it short. False if it doesn't end. */
+    boolean shut(String because, long patience) {
+        bar(because);
         if (isLeft(patience)) {
             return true;
         }

@@ -195,7 +195,7 @@ public final class GlobalTransaction {
         try {
             if (outcome.isOpen()) {
                 Manager.LOG.log(Level.WARNING, () -> told() + ": it is rolled back: " + why);
-                branches.shut(this + " is rolled back: " + why);
+                branches.bar(this + " is rolled back: " + why);
                 rollBack(true);
             }
         } catch (Fault error) {
@@ -461,7 +461,7 @@ public final class GlobalTransaction {
         }
         String why = "the coordinator ended: roll " + this + " back";
         mark("the coordinator ended", null);
-        branches.shut(why);
+        branches.bar(why);
         try {
             boolean isMine = false;
             while (!isMine && !isGivenUp && System.nanoTime() < until) {

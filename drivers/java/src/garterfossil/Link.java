@@ -1,12 +1,18 @@
 package garterfossil;
 
 import java.time.Duration;
+import javax.transaction.xa.XAException;
 import javax.transaction.xa.XAResource;
 
 /** A connection to a resource. It has one branch at a time. */
 public interface Link {
     /** What makes XA's calls over it. */
     XAResource xaResource();
+
+    /** Whether an XAResource belongs to the same resource, as it says itself. */
+    default boolean isSame(XAResource other) throws XAException {
+        return other.isSameRM(xaResource());
+    }
 
     /** The number by which the resource knows the connection; 0 if it has none. */
     long number();

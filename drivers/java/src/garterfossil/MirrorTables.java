@@ -14,9 +14,6 @@ import java.util.List;
 import java.util.Locale;
 import java.util.Map;
 import java.util.TreeMap;
-import java.util.concurrent.CompletableFuture;
-import java.util.concurrent.ExecutionException;
-import java.util.concurrent.TimeUnit;
 import java.util.concurrent.TimeoutException;
 import java.util.stream.Collectors;
 import javax.sql.DataSource;
@@ -103,26 +100,13 @@ final class MirrorTables {
     }
 
     /** A new connection, made by a thread of its own: the database may be silent. */
-    private Connection made() throws SQLException, Fault.Lost {
-        CompletableFuture<Connection> making = new CompletableFuture<>();
-        Apart.run(() -> {
-            try {
-                making.complete(source.getConnection());
-            } catch (SQLException | RuntimeException | Error error) {
-                making.completeExceptionally(error);
-            }
-        });
+    private Connection made() throws Fault.Lost {
         try {
-            return making.get(patience.toMillis(), TimeUnit.MILLISECONDS);
-        } catch (ExecutionException error) {
-            throw new Fault.Lost("no connection", error.getCause());
+            return Apart.within(patience, source::getConnection, MirrorTables::close);
         } catch (TimeoutException error) {
-            making.thenAccept(MirrorTables::close);
             throw new Fault.Lost("no connection, and nothing was said for " + patience.toMillis() + " ms", null);
-        } catch (InterruptedException error) {
-            Thread.currentThread().interrupt();
-            making.thenAccept(MirrorTables::close);
-            throw new Fault.Lost("interrupted", null);
+        } catch (Exception error) {
+            throw new Fault.Lost("no connection", error);
         }
     }
 

@@ -214,7 +214,7 @@ final class ResourceManager {
     boolean isSame(XAResource xaResource) throws Fault {
         Lease lease = borrow(Duration.ofSeconds(10));
         try {
-            return xaResource.isSameRM(lease.link.xaResource());
+            return lease.link.isSame(xaResource);
         } catch (XAException | RuntimeException error) {
             return false;
         } finally {

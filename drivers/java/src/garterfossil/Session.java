@@ -385,7 +385,18 @@ final class Session {
     void abandon() {
         recoveries.forEach(Recovery::stop);
         long until = System.nanoTime() + TO_END.toNanos();
-        live.forEach(transaction -> transaction.abandon(until));
+        // Each by itself: what runs at a resource that is silent may take long to be cut short.
+        Queue<GlobalTransaction> left = new ConcurrentLinkedQueue<>(live);
+        left.forEach(transaction -> Apart.run(() -> {
+            try {
+                transaction.abandon(until);
+            } finally {
+                left.remove(transaction);
+            }
+        }));
+        while (!left.isEmpty() && System.nanoTime() < until) {
+            LockSupport.parkNanos(1_000_000);
+        }
         rms.forEach(ResourceManager::startAnew);
         if (mirror != null) {
             mirror.close();

@@ -13,6 +13,7 @@ import java.util.ArrayList;
 import java.util.Collections;
 import java.util.List;
 import java.util.Map;
+import java.util.concurrent.CountDownLatch;
 import javax.jms.Connection;
 import javax.jms.ConnectionFactory;
 import javax.jms.ConnectionMetaData;
@@ -185,6 +186,23 @@ public class BrokerTest {
         outer.commit();
         assertEquals(List.of("in a transaction sends"), done);
         assertEquals(1, inner.committed.stream().filter(BranchXid::isOfAManager).count());
+    }
+
+    @Test
+    public void aBrokerThatIsSilentAsItPrepares() throws Exception {
+        resource.patience(Duration.ofMillis(300));
+        begin();
+        session().createProducer(null).send(null);
+        transaction.enlist(world.a);
+        CountDownLatch mayGoOn = new CountDownLatch(1);
+        inner.before = () -> World.await(mayGoOn);
+        long begun = System.nanoTime();
+        assertThrows(Fault.RolledBack.class, transaction::commit);
+        assertTrue(System.nanoTime() - begun < Duration.ofSeconds(8).toNanos());
+        assertEquals(1, world.a.rolledBack.size());
+        inner.before = () -> { };
+        mayGoOn.countDown();
+        World.eventually(() -> inner.branches.isEmpty() && manager.owing() == 0);
     }
 
     private String refusedText() {

@@ -586,6 +586,52 @@ public class RecoveryTest {
         nothingIsLeft();
     }
 
+    /** Work that runs at a resource, and that nobody can cut short: the resource is silent. */
+    private void worksAt(StandInResource resource, GlobalTransaction transaction, CountDownLatch mayGoOn) throws Fault {
+        Gate gate = transaction.enlist(resource).gate();
+        CountDownLatch isInside = new CountDownLatch(1);
+        Thread working = new Thread(() -> {
+            try {
+                gate.enter(() -> World.await(mayGoOn));
+                isInside.countDown();
+                World.await(mayGoOn);
+                gate.leave();
+            } catch (Fault fault) {
+                throw new AssertionError(fault);
+            }
+        });
+        working.setDaemon(true);
+        working.start();
+        World.await(isInside);
+    }
+
+    @Test
+    public void aTimeOutWhileWorkCantBeCutShort() throws Exception {
+        CountDownLatch mayGoOn = new CountDownLatch(1);
+        GlobalTransaction transaction = world.manager.begin(Duration.ofMillis(300));
+        worksAt(world.a, transaction, mayGoOn);
+        transaction.enlist(world.b);
+        // The others' locks are free.
+        World.eventually(() -> world.b.branches.isEmpty());
+        mayGoOn.countDown();
+        nothingIsLeft();
+    }
+
+    @Test
+    public void aSessionBehindWorkThatCantBeCutShort() throws Exception {
+        CountDownLatch mayGoOn = new CountDownLatch(1);
+        for (int count = 0; count < 4; count++) {
+            worksAt(world.a, world.begin(), mayGoOn);
+        }
+        long begun = System.nanoTime();
+        world.manager.session().coordinator.kill("a test");
+        GlobalTransaction next = world.begin();
+        next.enlist(world.b);
+        next.commit();
+        assertTrue(System.nanoTime() - begun < TimeUnit.SECONDS.toNanos(12));
+        mayGoOn.countDown();
+    }
+
     @Test
     public void aResourceThatIsSilentAtARestart() throws Exception {
         CountDownLatch mayGoOn = new CountDownLatch(1);

@@ -1,12 +1,19 @@
 package garterfossil.jms;
 
+import garterfossil.Apart;
 import garterfossil.Gate;
 import garterfossil.Link;
+import java.lang.reflect.InvocationTargetException;
+import java.lang.reflect.Method;
+import java.lang.reflect.Proxy;
+import java.time.Duration;
 import java.util.ArrayList;
 import java.util.List;
+import java.util.concurrent.TimeoutException;
 import javax.jms.JMSException;
 import javax.jms.XAConnection;
 import javax.jms.XASession;
+import javax.transaction.xa.XAException;
 import javax.transaction.xa.XAResource;
 
 /** A connection to a broker, with one session. */
@@ -16,10 +23,13 @@ final class JmsLink implements Link {
     private final long number;
     private final Runnable whenClosed;
     private final List<Gate.Work> opened = new ArrayList<>();
-    private volatile boolean isFailed;
+    private final XAResource resource;
+    private volatile Duration longest;
+    private volatile boolean isFailed, isSilent;
 
-    JmsLink(XAConnection connection, long number, Runnable whenClosed) throws JMSException {
+    JmsLink(XAConnection connection, long number, Duration patience, Runnable whenClosed) throws JMSException {
         this.connection = connection;
+        longest = patience;
         this.number = number;
         this.whenClosed = whenClosed;
         try {
@@ -28,6 +38,19 @@ final class JmsLink implements Link {
         } catch (JMSException | RuntimeException error) {
             connection.close();
             throw error;
+        }
+        resource = (XAResource) Proxy.newProxyInstance(getClass().getClassLoader(), new Class<?>[] {XAResource.class}, this::bounded);
+    }
+
+    /** A call of XA, which takes as long as the link is bound: a client may wait without end for a broker that is silent. */
+    private Object bounded(Object proxy, Method method, Object[] words) throws Throwable {
+        try {
+            return Apart.within(longest, () -> method.invoke(session.getXAResource(), words), late -> { });
+        } catch (InvocationTargetException error) {
+            throw error.getCause();
+        } catch (TimeoutException error) {
+            isSilent = true;
+            throw new XAException(XAException.XAER_RMFAIL);
         }
     }
 
@@ -42,7 +65,17 @@ final class JmsLink implements Link {
 
     @Override
     public XAResource xaResource() {
-        return session.getXAResource();
+        return resource;
+    }
+
+    @Override
+    public boolean isSame(XAResource other) throws XAException {
+        return other.isSameRM(session.getXAResource());
+    }
+
+    @Override
+    public void bound(Duration duration) {
+        longest = duration;
     }
 
     @Override
@@ -77,11 +110,22 @@ final class JmsLink implements Link {
     public void close() {
         isFailed = true;
         try {
+            if (isSilent) {
+                Apart.run(this::closeNow);
+            } else {
+                closeNow();
+            }
+        } finally {
+            // Whoever takes its identifier next waits until the broker has let it go.
+            whenClosed.run();
+        }
+    }
+
+    private void closeNow() {
+        try {
             connection.close();
         } catch (JMSException | RuntimeException error) {
             System.getLogger("garterfossil").log(System.Logger.Level.DEBUG, "a connection can't be closed", error);
-        } finally {
-            whenClosed.run();
         }
     }
 }

@@ -69,7 +69,7 @@ public final class JmsResource implements Resource {
         return pooling;
     }
 
-    /** How long the broker may be silent as a connection is made: 10 seconds where none is given. */
+    /** How long the broker may be silent, as a connection is made or in one of XA's calls: 10 seconds where none is given. Then the connection is lost. */
     public JmsResource patience(Duration duration) {
         patience = duration;
         return this;
@@ -116,7 +116,7 @@ public final class JmsResource implements Resource {
         int number = take();
         boolean isMade = false;
         try {
-            Link made = new JmsLink(connection(number, true), number + 1, () -> giveBack(number));
+            Link made = new JmsLink(connection(number, true), number + 1, patience, () -> giveBack(number));
             isMade = true;
             return made;
         } catch (JMSException | RuntimeException error) {
