@@ -16,15 +16,15 @@ from servers import Missing, free_port, processes_of
 from services import await_coordinator, found_wrong, see_apart
 from world import HERE, TOP
 
-#: For how many seconds a machine lives once it has its coordinator: some of that is recovery.
-LIFE = 0.0, 2.0
-
 #: What a failover says before the first session has told the mirror of itself: nothing was begun, and a new log is right.
 NOTHING = "there is no log to be made"
 
 
 class Machine:
     """A folder, and the program in it that moves money."""
+
+    #: For how many seconds it lives once it has its coordinator: some of that is recovery.
+    LIFE = 0.0, 2.0
 
     def __init__(self, world, number, mirror):
         self.world, self.mirror = world, mirror
@@ -77,6 +77,8 @@ class Machine:
 class JavaMachine(Machine):
     """The same, with a program in Java over drivers/java."""
 
+    #: It looks at the log by a program, too, before it has its coordinator.
+    LIFE = 0.5, 4.0
     path = []
 
     @property
@@ -136,7 +138,7 @@ def run(world, machines, seed, kind=Machine):
                 return 1
             machine.start()
             await_coordinator(machine.process.pid)
-            time.sleep(rng.uniform(*LIFE))
+            time.sleep(rng.uniform(*kind.LIFE))
             failed += not machine.die()
         # One more, to the end.
         machine = kind(world, f"{mirror}-last", mirror)

@@ -1,14 +1,31 @@
 package garterfossil;
 
+import java.lang.reflect.Field;
+import java.lang.reflect.Modifier;
+import java.util.HashMap;
+import java.util.Map;
 import javax.transaction.xa.XAException;
 import javax.transaction.xa.XAResource;
 
 /** XA's return codes, as far as they are reported to the coordinator (C193, section 4.5). */
 final class Code {
     static final int OK = XAResource.XA_OK, RDONLY = XAResource.XA_RDONLY, RETRY = XAException.XA_RETRY;
-    static final int HEURMIX = XAException.XA_HEURMIX, HEURRB = XAException.XA_HEURRB;
-    static final int HEURCOM = XAException.XA_HEURCOM, HEURHAZ = XAException.XA_HEURHAZ;
-    static final int ROLLBACK = XAException.XA_RBROLLBACK, NOTA = XAException.XAER_NOTA;
+    static final int HEURMIX = XAException.XA_HEURMIX, HEURRB = XAException.XA_HEURRB, HEURHAZ = XAException.XA_HEURHAZ;
+    static final int NOTA = XAException.XAER_NOTA;
+    private static final Map<Integer, String> NAMES = new HashMap<>(Map.of(OK, "XA_OK", RDONLY, "XA_RDONLY"));
+
+    static {
+        for (Field field : XAException.class.getFields()) {
+            try {
+                // XA_RBBASE and XA_RBEND are the first and the last of some that have names of their own.
+                if (Modifier.isStatic(field.getModifiers()) && field.getType() == int.class && !field.getName().matches("XA_RB(BASE|END)")) {
+                    NAMES.put(field.getInt(null), field.getName());
+                }
+            } catch (IllegalAccessException error) {
+                throw new ExceptionInInitializerError(error);
+            }
+        }
+    }
 
     private Code() {
     }
@@ -30,31 +47,6 @@ final class Code {
 
     /** XA's name of the code. */
     static String name(int code) {
-        switch (code) {
-            case OK: return "XA_OK";
-            case RDONLY: return "XA_RDONLY";
-            case RETRY: return "XA_RETRY";
-            case HEURMIX: return "XA_HEURMIX";
-            case HEURRB: return "XA_HEURRB";
-            case HEURCOM: return "XA_HEURCOM";
-            case HEURHAZ: return "XA_HEURHAZ";
-            case ROLLBACK: return "XA_RBROLLBACK";
-            case XAException.XA_RBCOMMFAIL: return "XA_RBCOMMFAIL";
-            case XAException.XA_RBDEADLOCK: return "XA_RBDEADLOCK";
-            case XAException.XA_RBINTEGRITY: return "XA_RBINTEGRITY";
-            case XAException.XA_RBOTHER: return "XA_RBOTHER";
-            case XAException.XA_RBPROTO: return "XA_RBPROTO";
-            case XAException.XA_RBTIMEOUT: return "XA_RBTIMEOUT";
-            case XAException.XA_RBTRANSIENT: return "XA_RBTRANSIENT";
-            case NOTA: return "XAER_NOTA";
-            case XAException.XAER_ASYNC: return "XAER_ASYNC";
-            case XAException.XAER_RMERR: return "XAER_RMERR";
-            case XAException.XAER_INVAL: return "XAER_INVAL";
-            case XAException.XAER_PROTO: return "XAER_PROTO";
-            case XAException.XAER_RMFAIL: return "XAER_RMFAIL";
-            case XAException.XAER_DUPID: return "XAER_DUPID";
-            case XAException.XAER_OUTSIDE: return "XAER_OUTSIDE";
-            default: return "code " + code;
-        }
+        return NAMES.getOrDefault(code, "code " + code);
     }
 }

@@ -212,38 +212,30 @@ public final class GlobalTransaction {
 
     /** The branch at a resource, over a connection of the pool. It begins as it is first asked for. */
     public Enlisted enlist(Resource resource) throws Fault {
-        lock.lock();
-        try {
-            requireActive();
-            ResourceManager rm = manager.resourceManager(resource);
-            Optional<Branch> found = branches.at(rm);
-            if (found.isEmpty()) {
-                return new Enlisted(begun(rm, null));
-            }
-            if (found.get().isLost()) {
-                throw new Fault.Unavailable("the connection of " + this + " to " + rm + " was lost: roll it back");
-            }
-            if (found.get().link() == null) {
-                throw secondConnection(rm);
-            }
-            return new Enlisted(found.get());
-        } finally {
-            lock.unlock();
-        }
+        return new Enlisted(branchAt(resource, null));
     }
 
     /** The branch of a connection that the program brought, at the resource that it belongs to. */
     public void enlist(Resource resource, XAResource xaResource) throws Fault {
+        branchAt(resource, xaResource);
+    }
+
+    private Branch branchAt(Resource resource, XAResource brought) throws Fault {
         lock.lock();
         try {
             requireActive();
             ResourceManager rm = manager.resourceManager(resource);
-            Optional<Branch> found = branches.at(rm);
-            if (found.isEmpty()) {
-                begun(rm, xaResource);
-            } else if (found.get().resource() != xaResource) {
-                throw secondConnection(rm);
+            Branch found = branches.at(rm).orElse(null);
+            if (found == null) {
+                return begun(rm, brought);
             }
+            if (brought == null && found.isLost()) {
+                throw new Fault.Unavailable("the connection of " + this + " to " + rm + " was lost: roll it back");
+            }
+            if (brought == null ? found.link() == null : found.resource() != brought) {
+                throw new Fault.Unavailable(this + " has a connection to " + rm + " already, and takes part there by one alone");
+            }
+            return found;
         } finally {
             lock.unlock();
         }
@@ -259,10 +251,6 @@ public final class GlobalTransaction {
             }
             throw error;
         }
-    }
-
-    private Fault.Unavailable secondConnection(ResourceManager rm) {
-        return new Fault.Unavailable(this + " has a connection to " + rm + " already, and takes part there by one alone");
     }
 
     /** The work on a connection that the program brought is over. Its branch ends with the transaction. False if it has none. */

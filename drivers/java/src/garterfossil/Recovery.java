@@ -6,10 +6,8 @@ import java.util.HashSet;
 import java.util.List;
 import java.util.Set;
 import java.util.TreeSet;
-import java.util.concurrent.CompletableFuture;
-import java.util.concurrent.ExecutionException;
+import java.util.concurrent.CountDownLatch;
 import java.util.concurrent.TimeUnit;
-import java.util.concurrent.TimeoutException;
 import javax.transaction.xa.XAResource;
 
 /**
@@ -26,7 +24,7 @@ final class Recovery {
     private final Session session;
     private final Coordinator coordinator;
     private final Thread thread;
-    private final CompletableFuture<Void> first = new CompletableFuture<>();
+    private final CountDownLatch first = new CountDownLatch(1);
     // How often it was due, and how often of these that was seen to: a branch may be left to it while it goes on.
     private volatile long due = 1, seenTo;
     // How many branches are owed there, as far as is known.
@@ -59,19 +57,14 @@ final class Recovery {
         thread.start();
     }
 
-    /** Waits until it has worked once. An error in that is thrown here. */
+    /** Waits until it has worked once. */
     void awaitFirst(long until) {
         try {
-            first.get(Math.max(1, until - System.nanoTime()), TimeUnit.NANOSECONDS);
-        } catch (ExecutionException error) {
-            if (error.getCause() instanceof Error) {
-                throw (Error) error.getCause();
+            if (!first.await(Math.max(1, until - System.nanoTime()), TimeUnit.NANOSECONDS)) {
+                Manager.LOG.log(Level.WARNING, () -> rm + " isn't recovered yet: it is silent, and the others go on");
             }
-            throw (RuntimeException) error.getCause();
         } catch (InterruptedException error) {
             Thread.currentThread().interrupt();
-        } catch (TimeoutException error) {
-            Manager.LOG.log(Level.WARNING, () -> rm + " isn't recovered yet: it is silent, and the others go on");
         }
     }
 
@@ -104,39 +97,21 @@ final class Recovery {
 
     private void keep() {
         try {
-            recoverFirst();
             while (!isOver && !coordinator.isGone()) {
+                if (!isRecovered()) {
+                    recover();
+                }
+                first.countDown();
                 if (isRecovered()) {
                     disconnect();
-                    pause(0);
-                } else if (!recoverOnce()) {
-                    pause(PAUSE);
                 }
+                pause(isRecovered() ? 0 : PAUSE);
             }
             disconnect();
         } catch (RuntimeException | Error error) {
             coordinator.failed(error);
-        }
-    }
-
-    private void recoverFirst() {
-        try {
-            recover();
-            first.complete(null);
-        } catch (RuntimeException | Error error) {
-            first.completeExceptionally(error);
-            throw error;
-        }
-    }
-
-    /** What is owed waits for this thread alone: so whatever goes wrong, it goes on, over another connection. */
-    private boolean recoverOnce() {
-        try {
-            return recover();
-        } catch (RuntimeException | Error error) {
-            putOff(error.toString());
-            breakOff();
-            return false;
+        } finally {
+            first.countDown();
         }
     }
 
@@ -189,8 +164,8 @@ final class Recovery {
 
     // ** a recovery
 
-    /** Recovers it, if it can be reached. False if something is left. */
-    private boolean recover() {
+    /** Recovers it. What is owed waits for this thread alone: so whatever goes wrong, it goes on, over another connection. */
+    private void recover() {
         long seen = due;
         int before = owed;
         try {
@@ -208,8 +183,10 @@ final class Recovery {
             isOver = true;
         } catch (Fault error) {
             putOff(error.getMessage());
+        } catch (RuntimeException | Error error) {
+            putOff(error.toString());
+            breakOff();
         }
-        return isRecovered();
     }
 
     /** Does what the coordinator says: how many branches are owed there in the end; -1 if it was broken off. */

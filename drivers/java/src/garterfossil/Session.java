@@ -38,43 +38,30 @@ final class Session {
 
         /** A transaction begins: its 32 digits. */
         String begin() throws Fault {
-            String ready = next;
+            String ready = next != null ? next : named(last != null ? last : coordinator.post("start " + number));
             next = null;
-            return ready != null ? ready : last != null ? behindLast() : started();
+            last = null;
+            expected = null;
+            return ready;
         }
 
-        private String started() throws Fault {
+        /** The transaction that a reply names, behind what a program was told. */
+        private String named(Coordinator.Reply asked) throws Fault {
             try {
-                return next(coordinator.told(coordinator.post("start " + number)));
+                Told told = coordinator.told(asked);
+                if (told.outcome() == expected && told.next != null) {
+                    return told.next;
+                }
+                throw coordinator.failed(new IllegalStateException("a program was told " + expected + ", and the coordinator tells " + told.reply));
             } catch (Fault.Refused refused) {
+                if (expected != null) {
+                    // It isn't what was told either.
+                    throw coordinator.failed(new IllegalStateException("a program was told " + expected + ", and the coordinator tells "
+                        + refused.getMessage()));
+                }
                 String missing = recoveries.stream().filter(it -> !it.isRecovered()).map(it -> it.rm.toString()).collect(Collectors.joining(", "));
                 throw new Fault.Unavailable("the log is new, and no transaction begins before each of its resources was reached once: " + missing);
             }
-        }
-
-        /** The transaction that a reply names, which has begun. */
-        private String next(Told told) throws Fault.Gone {
-            if (told.next == null) {
-                throw coordinator.failed(new IllegalStateException("the coordinator names no next transaction: " + told.reply));
-            }
-            return told.next;
-        }
-
-        private String behindLast() throws Fault.Gone {
-            Coordinator.Reply asked = last;
-            last = null;
-            String reply;
-            try {
-                Told told = coordinator.told(asked);
-                if (told.outcome() == expected) {
-                    return next(told);
-                }
-                reply = told.reply;
-            } catch (Fault.Refused refused) {
-                // It isn't what was told either.
-                reply = refused.getMessage();
-            }
-            throw coordinator.failed(new IllegalStateException("a program was told " + expected + ", and the coordinator tells " + reply));
         }
 
         /** Branches began there. The coordinator is told now, if the calls of the first phase wait behind that. */

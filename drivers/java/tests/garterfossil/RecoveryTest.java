@@ -11,7 +11,6 @@ import java.io.UncheckedIOException;
 import java.nio.file.Files;
 import java.nio.file.Path;
 import java.time.Duration;
-import java.util.HashSet;
 import java.util.List;
 import java.util.Map;
 import java.util.Set;
@@ -671,8 +670,9 @@ public class RecoveryTest {
     }
 
     @Test
-    public void aStartThatFailsByAnError() throws Exception {
+    public void aRecoveryAtTheStartThatFailsByAnError() throws Exception {
         Process first = world.coordinator;
+        world.a.branches.put(world.own(1, 99), StandInResource.State.PREPARED);
         Runnable failing = World.failingOnce();
         world.a.before = () -> {
             if (world.coordinator != first) {
@@ -680,13 +680,10 @@ public class RecoveryTest {
             }
         };
         first.destroy();
-        // The manager's clock starts the next session, and after that one more.
-        Set<Process> all = new HashSet<>();
-        World.eventually(() -> all.add(world.coordinator) && all.size() == 3);
-        world.b.answer("commit", StandInResource.LOST_BEFORE);
-        world.overBoth().commit();
+        // It is tried again.
         nothingIsLeft();
-        assertEquals(1, world.b.committed.size());
+        world.overBoth().commit();
+        assertEquals(List.of(world.own(1, 99)), world.a.rolledBack);
     }
 
     @Test

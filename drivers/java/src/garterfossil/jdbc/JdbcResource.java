@@ -5,11 +5,9 @@ import garterfossil.Fault;
 import garterfossil.Known;
 import garterfossil.Link;
 import garterfossil.Manager;
-import garterfossil.Pooling;
-import garterfossil.Resource;
+import garterfossil.PooledResource;
 import java.sql.Connection;
 import java.sql.SQLException;
-import java.time.Duration;
 import java.util.HashSet;
 import java.util.Locale;
 import java.util.Set;
@@ -22,20 +20,14 @@ import javax.sql.XADataSource;
  * <p>The manager ends connections that an earlier session left, and knows them by its own name and the resource's: at PostgreSQL they
  * are in the application_name, and at MariaDB in a named lock (GET_LOCK) that each connection holds.
  */
-public final class JdbcResource implements Resource {
-    private final String name;
+public final class JdbcResource extends PooledResource<JdbcResource> {
     private final XADataSource source;
     private final OwnedXaDataSource owned;
-    private int maxConnections = 32;
-    private Pooling pooling = Pooling.usual();
-    private Duration patience = Duration.ofSeconds(10);
-    private volatile String manager = "";
     private volatile Dialect dialect;
-    private volatile Known known;
     private volatile boolean isLookedAt;
 
     private JdbcResource(String name, XADataSource source) {
-        this.name = name;
+        super(name, 32);
         this.source = source;
         owned = new OwnedXaDataSource(this, source);
     }
@@ -45,35 +37,9 @@ public final class JdbcResource implements Resource {
         return new JdbcResource(name, source);
     }
 
-    /** How many connections there may be at a time, beside one for the recovery: 32 where none is given. */
-    public JdbcResource maxConnections(int count) {
-        if (count < 1) {
-            throw new IllegalArgumentException("maxConnections: 1 or more, and not " + count);
-        }
-        maxConnections = count;
-        return this;
-    }
-
-    /** How long its connections are waited for, and kept. */
-    public JdbcResource pooling(Pooling given) {
-        pooling = given;
-        return this;
-    }
-
     @Override
-    public Pooling pooling() {
-        return pooling;
-    }
-
-    /** How long the database may be silent, as a connection is made or in one of XA's calls: 10 seconds where none is given. Then the connection is lost. */
-    public JdbcResource patience(Duration duration) {
-        patience = duration;
+    protected JdbcResource self() {
         return this;
-    }
-
-    @Override
-    public Duration patience() {
-        return patience;
     }
 
     /** Connections for programs: in a transaction of the manager each takes part in it. */
@@ -87,34 +53,14 @@ public final class JdbcResource implements Resource {
     }
 
     @Override
-    public String name() {
-        return name;
-    }
-
-    @Override
-    public int maxConnections() {
-        return maxConnections;
-    }
-
-    @Override
-    public void belongTo(String of) {
-        manager = of;
-    }
-
-    @Override
     public Link connect() throws Fault.Lost {
         return connection();
-    }
-
-    @Override
-    public void knownBy(Known it) {
-        known = it;
     }
 
     /** Sees that a new connection is one to the database that it always was; and once, that this keeps what it promises. */
     void see(Connection connection) throws SQLException, Fault.Lost {
         Dialect kind = Dialect.of(connection);
-        Known it = known;
+        Known it = known();
         if (it != null) {
             // (The rest of a URL may have a password.)
             String url = String.valueOf(connection.getMetaData().getURL()).replaceFirst("\\?.*", "");
@@ -123,7 +69,7 @@ public final class JdbcResource implements Resource {
         if (!isLookedAt) {
             isLookedAt = true;
             for (String weakness : kind.weaknesses(connection)) {
-                System.getLogger("garterfossil").log(System.Logger.Level.WARNING, name + ": " + weakness);
+                System.getLogger("garterfossil").log(System.Logger.Level.WARNING, name() + ": " + weakness);
             }
         }
     }
@@ -132,13 +78,13 @@ public final class JdbcResource implements Resource {
         try {
             return new JdbcLink(source.getXAConnection(), this);
         } catch (SQLException | RuntimeException error) {
-            throw new Fault.Lost("no connection to " + name, error);
+            throw new Fault.Lost("no connection to " + name(), error);
         }
     }
 
     /** What the database knows the connections by. */
     String label() {
-        return "garterfossil " + (manager.isEmpty() ? "" : manager + " ") + name;
+        return label(" ");
     }
 
     /** What kind of database it is, as it says itself. */
@@ -172,7 +118,7 @@ public final class JdbcResource implements Resource {
         try {
             dialect.endOthers(link.connection(), label(), link.number(), all);
         } catch (SQLException | RuntimeException error) {
-            throw new Fault.Lost("connections to " + name + " can't be ended", error);
+            throw new Fault.Lost("connections to " + name() + " can't be ended", error);
         } finally {
             link.close();
         }

@@ -4,9 +4,7 @@ import garterfossil.Fault;
 import garterfossil.Known;
 import garterfossil.Link;
 import garterfossil.Manager;
-import garterfossil.Pooling;
-import garterfossil.Resource;
-import java.time.Duration;
+import garterfossil.PooledResource;
 import java.util.BitSet;
 import java.util.Set;
 import java.util.concurrent.TimeUnit;
@@ -22,25 +20,19 @@ import javax.jms.XAConnectionFactory;
  * <p>Each connection has a client identifier of its own, of which a broker lets one in at a time (JMS 1.1, section 4.3.2): so a
  * connection that an earlier manager left is seen to be gone before a new one of its identifier is used.
  */
-public final class JmsResource implements Resource {
+public final class JmsResource extends PooledResource<JmsResource> {
     private static final long PATIENCE = TimeUnit.SECONDS.toNanos(40);
 
-    private final String name;
     private final XAConnectionFactory factory;
     // The identifiers that are in use, by their numbers.
     private final BitSet used = new BitSet();
     private ConnectionFactory outside;
-    private int maxConnections = 16;
-    private Pooling pooling = Pooling.usual();
-    private Duration patience = Duration.ofSeconds(10);
     // Whether all identifiers were seen to be free since the session began, and those that were given back since then.
     private boolean areSeen;
     private final BitSet left = new BitSet();
-    private volatile String manager = "";
-    private volatile Known known;
 
     private JmsResource(String name, XAConnectionFactory factory) {
-        this.name = name;
+        super(name, 16);
         this.factory = factory;
     }
 
@@ -49,35 +41,9 @@ public final class JmsResource implements Resource {
         return new JmsResource(name, factory);
     }
 
-    /** How many connections there may be at a time, beside one for the recovery: 16 where none is given. Don't make it less later. */
-    public JmsResource maxConnections(int count) {
-        if (count < 1) {
-            throw new IllegalArgumentException("maxConnections: 1 or more, and not " + count);
-        }
-        maxConnections = count;
-        return this;
-    }
-
-    /** How long its connections are waited for, and kept. */
-    public JmsResource pooling(Pooling given) {
-        pooling = given;
-        return this;
-    }
-
     @Override
-    public Pooling pooling() {
-        return pooling;
-    }
-
-    /** How long the broker may be silent, as a connection is made or in one of XA's calls: 10 seconds where none is given. Then the connection is lost. */
-    public JmsResource patience(Duration duration) {
-        patience = duration;
+    protected JmsResource self() {
         return this;
-    }
-
-    @Override
-    public Duration patience() {
-        return patience;
     }
 
     /** What makes the sessions outside of any transaction; there are none where this isn't given. */
@@ -92,35 +58,15 @@ public final class JmsResource implements Resource {
     }
 
     @Override
-    public String name() {
-        return name;
-    }
-
-    @Override
-    public int maxConnections() {
-        return maxConnections;
-    }
-
-    @Override
-    public void belongTo(String of) {
-        manager = of;
-    }
-
-    @Override
-    public void knownBy(Known it) {
-        known = it;
-    }
-
-    @Override
     public Link connect() throws Fault.Lost {
         int number = take();
         boolean isMade = false;
         try {
-            Link made = new JmsLink(connection(number, true), number + 1, patience, () -> giveBack(number));
+            Link made = new JmsLink(connection(number, true), number + 1, patience(), () -> giveBack(number));
             isMade = true;
             return made;
         } catch (JMSException | RuntimeException error) {
-            throw new Fault.Lost("no connection to " + name, error);
+            throw new Fault.Lost("no connection to " + name(), error);
         } finally {
             if (!isMade) {
                 giveBack(number);
@@ -155,7 +101,7 @@ public final class JmsResource implements Resource {
         synchronized (used) {
             BitSet found = (BitSet) left.clone();
             if (!areSeen) {
-                found.set(0, maxConnections + 1);
+                found.set(0, maxConnections() + 1);
             }
             left.clear();
             return found;
@@ -164,7 +110,7 @@ public final class JmsResource implements Resource {
 
     /** A connection that has its identifier, once an older one of the same is gone; to the broker that it always was, if that is to be seen. */
     private XAConnection connection(int number, boolean isToBeSeen) throws JMSException, Fault.Lost {
-        String client = "garterfossil-" + (manager.isEmpty() ? "" : manager + "-") + name + "-" + number;
+        String client = label("-") + "-" + number;
         long until = System.nanoTime() + PATIENCE;
         while (true) {
             XAConnection connection = factory.createXAConnection();
@@ -178,7 +124,7 @@ public final class JmsResource implements Resource {
             } catch (InvalidClientIDException error) {
                 connection.close();
                 if (System.nanoTime() > until) {
-                    throw new Fault.Lost("a connection " + client + " of an earlier manager stays at " + name, error);
+                    throw new Fault.Lost("a connection " + client + " of an earlier manager stays at " + name(), error);
                 }
             } catch (JMSException | RuntimeException | Fault.Lost error) {
                 connection.close();
@@ -189,7 +135,7 @@ public final class JmsResource implements Resource {
     }
 
     private void see(XAConnection connection) throws JMSException, Fault.Lost {
-        Known it = known;
+        Known it = known();
         if (it != null) {
             it.see(BrokerIdentity.of(connection, it.identity()), BrokerIdentity.placeOf(factory));
         }
@@ -221,7 +167,7 @@ public final class JmsResource implements Resource {
                 areSeen = true;
             }
         } catch (JMSException | RuntimeException error) {
-            throw new Fault.Lost("no connection to " + name, error);
+            throw new Fault.Lost("no connection to " + name(), error);
         } finally {
             synchronized (used) {
                 left.or(unseen);
