@@ -44,6 +44,9 @@ class Machine:
         with open(f"{self.world.home}/machines.log", "a") as it:
             self.process = subprocess.Popen(self.words(seconds), stdout=subprocess.PIPE, stderr=it)
 
+    def await_begun(self):
+        await_coordinator(self.process.pid)
+
     def die(self):
         """Whether it was still at work. Nothing of it is left."""
         was_alive = self.process.poll() is None
@@ -77,8 +80,6 @@ class Machine:
 class JavaMachine(Machine):
     """The same, with a program in Java over drivers/java."""
 
-    #: It looks at the log by a program, too, before it has its coordinator.
-    LIFE = 0.5, 4.0
     path = []
 
     @property
@@ -92,6 +93,18 @@ class JavaMachine(Machine):
     def words(self, seconds):
         urls = [server.url() for server in self.world.servers]
         return self.java("Bank", self.world.home, self.world.coordinator, str(seconds), "4", *urls, "-", self.log, urls[self.mirror])
+
+    def await_begun(self):
+        """Waits until it has seen the second database: a start of Java takes longer than one of the coordinator."""
+        until = time.monotonic() + 60
+        while time.monotonic() < until and self.process.poll() is None:
+            try:
+                with open(f"{self.log}-databases") as it:
+                    if '"number": 1' in it.read():
+                        return
+            except FileNotFoundError:
+                pass
+            time.sleep(0.02)
 
     def take_over(self):
         path = f"{self.home}/bank.properties"
@@ -137,12 +150,12 @@ def run(world, machines, seed, kind=Machine):
                 print(f"machines: {done.stdout}{done.stderr}", file=sys.stderr)
                 return 1
             machine.start()
-            await_coordinator(machine.process.pid)
+            machine.await_begun()
             time.sleep(rng.uniform(*kind.LIFE))
             failed += not machine.die()
         # One more, to the end.
         machine = kind(world, f"{mirror}-last", mirror)
-        failed += machine.take_over().returncode != 0
+        failed += has_begun and machine.take_over().returncode != 0
         machine.start(seconds=2)
         machine.process.communicate(timeout=300)
         failed += machine.process.returncode != 0

@@ -20,13 +20,14 @@ final class ByHand implements AutoCloseable {
     }
 
     /** A branch of the manager of a log, which holds this. */
-    static ByHand of(Path log, KeptLog kept, Coordinator.Starter starter, String program, List<Listing> listings, String text) throws Fault {
+    static ByHand of(Path log, KeptLog kept, Coordinator.Starter starter, String program, List<Listing> listings, String text,
+        Duration patience) throws Fault {
         if (kept.isInUse) {
             throw new Fault.Unavailable("the log " + log + " can't be read, so nothing is ended: a program has it");
         }
         BranchXid xid = parsed(text);
         Resource at = at(listings, xid, xid.isOf(kept.manager, xid.rm()));
-        Coordinator hold = new Coordinator(starter, kept.served(log, program, 1));
+        Coordinator hold = new Coordinator(starter, kept.served(log, program, 1), patience);
         if (xid.incarnation() >= Long.parseLong(hold.greeting.split(" ")[1])) {
             hold.quit();
             throw new Fault.Unavailable("the log " + log + " is older than the branch " + xid + ", so nothing is ended: put the right one back");

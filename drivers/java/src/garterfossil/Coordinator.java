@@ -6,11 +6,13 @@ import java.io.IOException;
 import java.io.InputStream;
 import java.io.OutputStream;
 import java.nio.charset.StandardCharsets;
+import java.time.Duration;
 import java.util.ArrayDeque;
 import java.util.ArrayList;
 import java.util.Arrays;
 import java.util.List;
 import java.util.Queue;
+import java.util.concurrent.CompletableFuture;
 import java.util.concurrent.ConcurrentLinkedQueue;
 import java.util.concurrent.TimeUnit;
 import java.util.concurrent.atomic.AtomicBoolean;
@@ -80,6 +82,7 @@ class Coordinator {
     private int begun;
     // What is to be written waits until more replies are read.
     private volatile boolean isPutOff;
+    private volatile boolean isUp;
     private final Object ending = new Object();
     private volatile String killedFor, fault;
     private volatile int status;
@@ -89,8 +92,8 @@ class Coordinator {
         Process start(List<String> words) throws IOException;
     }
 
-    /** Starts the process. The session begins with a line of its own. */
-    Coordinator(Starter starter, List<String> words) throws Fault.Gone {
+    /** Starts the process, of which the first lines are waited for so long: the session begins with one of its own. */
+    Coordinator(Starter starter, List<String> words, Duration patience) throws Fault.Gone {
         try {
             process = starter.start(words);
         } catch (IOException error) {
@@ -98,6 +101,11 @@ class Coordinator {
         }
         output = process.getOutputStream();
         input = process.getInputStream();
+        CompletableFuture.delayedExecutor(patience.toMillis(), TimeUnit.MILLISECONDS).execute(() -> {
+            if (!isUp) {
+                kill("it said nothing for " + patience.toMillis() + " ms");
+            }
+        });
         String line = greeted();
         // A coordinator with names says first which protocol it speaks.
         if (line.startsWith("protocol ")) {
@@ -110,6 +118,7 @@ class Coordinator {
         if (!greeting.matches("restarted [0-9]{1,18}( .*)?")) {
             throw gone("it began with the line: " + greeting);
         }
+        isUp = true;
     }
 
     /** A line that it begins with. */

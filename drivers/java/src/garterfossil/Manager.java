@@ -169,7 +169,7 @@ public final class Manager implements AutoCloseable {
         ByHand byHand(String branch) throws Fault {
             KeptLog kept = kept();
             looksAt(kept);
-            return ByHand.of(log, kept, starter, program, listings(), branch);
+            return ByHand.of(log, kept, starter, program, listings(), branch, patience);
         }
 
         /** A branch that is to be ended by hand, of a manager that is gone for good, and its log with it. */
@@ -217,6 +217,8 @@ public final class Manager implements AutoCloseable {
     private KeptLog names;
     private Identities identities;
     private volatile Session session;
+    // The same, or the next one that begins.
+    private volatile Session begun;
     private volatile boolean isClosed;
 
     private Manager(Builder made) {
@@ -240,18 +242,18 @@ public final class Manager implements AutoCloseable {
         try {
             synchronized (starting) {
                 KeptLog.seePlace(made.log);
-                boolean isNew = !KeptLog.isThere(made.log);
-                names = untilFree(() -> KeptLog.of(made.log, made.starter, made.program, made.name, made.resources));
-                identities = new Identities(made.log, names.manager, isNew);
-                identities.seeOpen();
-                for (Resource resource : made.resources) {
-                    int number = names.numberOf(resource.name(), made.log);
-                    resource.belongTo(names.manager);
-                    resource.knownBy(identities.of(number, resource.name()));
-                    rms.add(new ResourceManager(number, resource));
-                }
                 seconds.scheduleWithFixedDelay(this::watch, 1, 1, TimeUnit.SECONDS);
-                start();
+                boolean isNew = !KeptLog.isThere(made.log);
+                try {
+                    startFirst(isNew);
+                } catch (Fault.Unavailable error) {
+                    if (!isNew || !KeptLog.isThere(made.log) || keptLog().manager.equals(names.manager)) {
+                        throw error;
+                    }
+                    // Another program has made the log since its names were looked for.
+                    rms.clear();
+                    startFirst(false);
+                }
             }
             seconds.scheduleWithFixedDelay(this::tick, 1, 1, TimeUnit.SECONDS);
             bean.register();
@@ -259,6 +261,19 @@ public final class Manager implements AutoCloseable {
             close();
             throw error;
         }
+    }
+
+    private void startFirst(boolean isNew) throws Fault {
+        names = untilFree(() -> KeptLog.of(made.log, made.starter, made.program, made.name, made.resources));
+        identities = new Identities(made.log, names.manager, isNew);
+        identities.seeOpen();
+        for (Resource resource : made.resources) {
+            int number = names.numberOf(resource.name(), made.log);
+            resource.belongTo(names.manager);
+            resource.knownBy(identities.of(number, resource.name()));
+            rms.add(new ResourceManager(number, resource));
+        }
+        start();
     }
 
     // ** sessions
@@ -321,6 +336,7 @@ public final class Manager implements AutoCloseable {
 
     private void start(Coordinator coordinator, Mirror mirror) throws Fault {
         Session next = new Session(coordinator, names.manager, List.copyOf(rms), made.threads, identities, counts, mirror);
+        begun = next;
         try {
             identities.begin(next.incarnation);
             fates.find(coordinator);
@@ -345,7 +361,7 @@ public final class Manager implements AutoCloseable {
 
     private Coordinator coordinator() throws Fault {
         List<String> words = names.served(made.log, made.program, Session.slots(made.threads) + 1);
-        return untilFree(() -> new Coordinator(made.starter, words));
+        return untilFree(() -> new Coordinator(made.starter, words, made.patience));
     }
 
     private interface Start<T> {
@@ -403,7 +419,7 @@ public final class Manager implements AutoCloseable {
 
     private void watch() {
         seeDone(() -> {
-            Session up = session;
+            Session up = begun;
             if (up != null && !up.coordinator.isGone()) {
                 up.watch(made.patience.toNanos());
             }

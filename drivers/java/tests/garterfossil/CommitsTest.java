@@ -7,6 +7,7 @@ import static org.junit.Assert.assertTrue;
 
 import java.nio.file.Files;
 import java.nio.file.Path;
+import java.time.Duration;
 import java.util.ArrayList;
 import java.util.List;
 import java.util.Map;
@@ -62,7 +63,7 @@ public class CommitsTest {
     public void start() throws Exception {
         folder = temporary.getRoot().toPath();
         coordinator = new Coordinator(words -> process = (StandInCoordinator) StandInCoordinator.of(folder, words),
-            List.of("xatm", "serve", "--moves", "--log", "log", "5", "2"));
+            List.of("xatm", "serve", "--moves", "--log", "log", "5", "2"), Duration.ofSeconds(20));
         process.before = () -> {
             try {
                 mayReply.await();

@@ -5,6 +5,7 @@ import static org.junit.Assert.assertFalse;
 import static org.junit.Assert.assertThrows;
 import static org.junit.Assert.assertTrue;
 
+import java.time.Duration;
 import java.util.List;
 import java.util.Map;
 import java.util.concurrent.CountDownLatch;
@@ -55,7 +56,7 @@ public class CoordinatorTest {
     @Before
     public void start() throws Exception {
         coordinator = new Coordinator(words -> process = (StandInCoordinator) StandInCoordinator.of(temporary.getRoot().toPath(), words),
-            List.of("xatm", "serve", "--moves", "--log", "log", "5", "2"));
+            List.of("xatm", "serve", "--moves", "--log", "log", "5", "2"), Duration.ofSeconds(20));
     }
 
     @After

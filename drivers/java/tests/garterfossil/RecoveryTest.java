@@ -521,6 +521,45 @@ public class RecoveryTest {
     }
 
     @Test
+    public void aCoordinatorThatIsSilentAsItStarts() throws Exception {
+        world.manager.close();
+        world.put("silent", "restarted");
+        Manager.Builder builder = world.builder().patience(Duration.ofSeconds(1));
+        String text = assertThrows(Fault.Unavailable.class, builder::start).getMessage();
+        assertTrue(text, text.contains("it said nothing for 1000 ms"));
+        World.eventually(() -> !world.coordinator.isAlive());
+        // So too as it is asked what became of a transaction.
+        world.manager = builder.start();
+        world.dieAt("tell");
+        world.put("silent", "fate");
+        GlobalTransaction transaction = world.overBoth();
+        assertThrows(Fault.OutcomeUnknown.class, transaction::commit);
+        nothingIsLeft();
+        world.manager.close();
+    }
+
+    @Test
+    public void anotherProgramMakesTheLogAtThatMoment() throws Exception {
+        world.manager.close();
+        for (String name : List.of("log", "names", "rows", "incarnation")) {
+            Files.delete(world.folder.resolve(name));
+        }
+        AtomicInteger starts = new AtomicInteger();
+        world.manager = world.builder().starter(words -> {
+            if (words.get(1).equals("serve") && starts.incrementAndGet() == 1) {
+                StandInCoordinator.of(world.folder, List.of("xatm", "serve", "--moves", "--name", "other", "--rm", "a", "--rm", "b")).destroy();
+                world.put("refusal", "6 xatm: log: log: it is that of the manager other");
+            } else if (words.get(1).equals("serve")) {
+                Files.delete(world.folder.resolve("refusal"));
+            }
+            return StandInCoordinator.of(world.folder, words);
+        }).start();
+        assertEquals("other", world.manager.name());
+        world.overBoth().commit();
+        world.manager.close();
+    }
+
+    @Test
     public void aCommitThatWaitsForTheNextSessionKeepsThatFromNothing() throws Exception {
         for (int count = 0; count < 10; count++) {
             Session before = world.manager.session();

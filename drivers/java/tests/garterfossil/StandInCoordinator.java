@@ -43,7 +43,7 @@ import java.util.stream.Collectors;
  * with the line of the protocol where the file `protocol` has its words. Where `refusal` is there, it ends with the status that this has, and
  * says what stands behind that. The files `names` and
  * `rows` have what {@code xatm log} prints of its log, and `in-use` is there where that says that a program has it; what {@code xatm log --make}
- * is given is in `made`. From the first move that begins with the word of the file `silent` on it says nothing,
+ * is given is in `made`. From the first move that begins with the word of the file `silent` on, or from its start for `restarted`, it says nothing,
  * and the file is removed.
  */
 final class StandInCoordinator extends Process {
@@ -499,6 +499,7 @@ final class StandInCoordinator extends Process {
             if (!refusal[1].isEmpty()) {
                 return;
             }
+            beSilentAt("restarted");
             if (Files.exists(folder.resolve("protocol"))) {
                 write(replies, "protocol " + Files.readString(folder.resolve("protocol")).trim());
             }
