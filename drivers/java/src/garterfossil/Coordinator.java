@@ -220,45 +220,44 @@ class Coordinator {
     /** Writes what was posted, unless another thread does: that writes this too. */
     private void write() throws Fault.Gone {
         try {
-            while (hasToWrite() && writing.tryLock()) {
-                try {
-                    while (hasToWrite()) {
-                        seeReplies();
-                        writeSome();
-                    }
-                } finally {
-                    writing.unlock();
-                }
-            }
+            write(true);
         } catch (IOException error) {
             throw gone(error.getMessage());
-        } catch (RuntimeException | Error error) {
-            // What was taken to be written may never be, and others wait for its replies.
-            throw failed(error);
         }
     }
 
     /** The same by the thread that reads, behind the reply to a decision, so that the next one is made at once. It waits for no reply. */
     private void writeNext() {
-        isPutOff = false;
         try {
-            while (hasToWrite() && !writing.isHeldByCurrentThread() && writing.tryLock()) {
+            write(false);
+        } catch (IOException error) {
+            // Whoever waits for a reply finds that out, too.
+        }
+    }
+
+    private void write(boolean mayWait) throws IOException {
+        boolean isLeft = false;
+        try {
+            while (!isLeft && hasToWrite() && (mayWait || !writing.isHeldByCurrentThread()) && writing.tryLock()) {
                 try {
-                    while (hasToWrite() && !isFull()) {
+                    while (hasToWrite() && (mayWait || !isFull())) {
+                        if (mayWait) {
+                            seeReplies();
+                        }
                         writeSome();
                     }
-                    isPutOff = hasToWrite();
+                    isLeft = !mayWait && hasToWrite();
                 } finally {
                     writing.unlock();
                 }
-                if (isPutOff) {
-                    return;
-                }
             }
-        } catch (IOException error) {
-            // Whoever waits for a reply finds that out, too.
+            isPutOff = mayWait ? isPutOff : isLeft;
         } catch (RuntimeException | Error error) {
+            // What was taken to be written may never be, and others wait for its replies.
             failed(error);
+            if (mayWait) {
+                throw new IOException(error);
+            }
         }
     }
 

@@ -4,9 +4,7 @@ import java.time.Duration;
 import java.util.Map;
 import java.util.concurrent.CompletableFuture;
 import java.util.concurrent.ConcurrentHashMap;
-import java.util.concurrent.ExecutionException;
 import java.util.concurrent.TimeUnit;
-import java.util.concurrent.TimeoutException;
 
 /**
  * Transactions whose votes were told, and to which the coordinator didn't reply before it ended: the very
@@ -41,27 +39,17 @@ final class Fates {
 
     /** Whatever is to have the decisions first has them: the threads that wait are told. */
     void tell() {
-        found.forEach((gtrid, fate) -> {
-            CompletableFuture<Outcome> waiting = expected.get(gtrid);
-            if (waiting != null) {
-                waiting.complete(fate);
-            }
-        });
+        found.forEach((gtrid, fate) -> expected.getOrDefault(gtrid, new CompletableFuture<>()).complete(fate));
         found.clear();
     }
 
     /** What became of it; unknown, if no session can tell in time. */
     Outcome await(String gtrid, Duration patience) {
-        CompletableFuture<Outcome> found = expected.get(gtrid);
+        CompletableFuture<Outcome> fate = expected.get(gtrid);
         try {
-            return found == null ? Outcome.UNKNOWN : found.get(patience.toMillis(), TimeUnit.MILLISECONDS);
-        } catch (InterruptedException error) {
-            Thread.currentThread().interrupt();
-        } catch (ExecutionException | TimeoutException error) {
-            // It isn't known.
+            return fate == null ? Outcome.UNKNOWN : fate.completeOnTimeout(Outcome.UNKNOWN, patience.toMillis(), TimeUnit.MILLISECONDS).join();
         } finally {
             expected.remove(gtrid);
         }
-        return Outcome.UNKNOWN;
     }
 }

@@ -2,6 +2,7 @@ package garterfossil;
 
 import java.util.ArrayList;
 import java.util.List;
+import java.util.Set;
 import java.util.stream.Collectors;
 
 /**
@@ -9,6 +10,10 @@ import java.util.stream.Collectors;
  * decided here (docs/MOVES.md).
  */
 final class Hands {
+    /** The calls behind which a transaction is over if all succeed; and what is told behind votes. */
+    private static final Set<String> ENDS = Set.of("commit", "commit-at-once", "undo"),
+        DECIDED = Set.of("commit", "committed", "rollback", "undo", "rolled-back");
+
     private final GlobalTransaction transaction;
     private final List<Branch> branches;
     private final Session session;
@@ -65,13 +70,13 @@ final class Hands {
         // The first calls are at all branches: else the coordinator doesn't know of one.
         seeExpected(told, told.rms.size() == branches.size());
         while (seen(told).outcome() == null) {
-            List<Branch> called = called(told);
+            List<Branch> called = told.rms.stream().map(this::at).collect(Collectors.toList());
             make(told, called, isApart);
             String answers = called.stream().map(branch -> " " + branch.answer()).collect(Collectors.joining());
-            Outcome outcome = plainEnd(told, called);
-            if (outcome != null) {
-                slot.tellLast(answers, outcome);
-                return over(Told.of(outcome == Outcome.COMMITTED ? "committed" : "rolled-back"));
+            if (ENDS.contains(told.verb) && called.stream().allMatch(it -> !it.isLost() && it.code() == Code.OK)) {
+                // These leave no other outcome, so nobody waits for it.
+                slot.tellLast(answers, sure);
+                return over(Told.of(sure == Outcome.COMMITTED ? "committed" : "rolled-back"));
             }
             told = tell(answers, told.verb.equals("prepare"));
         }
@@ -93,28 +98,24 @@ final class Hands {
         return rms.stream().map(rm -> at(rm).xid).collect(Collectors.toList());
     }
 
-    /** The branches of which calls are told. */
-    private List<Branch> called(Told told) throws Fault {
-        seeExpected(told, !told.rms.isEmpty() && (told.stage() != null || told.verb.equals("forget")));
-        return told.rms.stream().map(this::at).collect(Collectors.toList());
-    }
-
     private static void seeExpected(Told told, boolean isExpected) throws Fault.Refused {
         if (!isExpected) {
             throw new Fault.Refused("the coordinator told: " + told.reply);
         }
     }
 
-    /** The same, of which each branch is one of the transaction's. */
+    /** The same: an outcome, or calls, of which each branch is one of the transaction's. */
     private Told seen(Told told) throws Fault.Refused {
+        boolean isCall = told.outcome() == null;
+        seeExpected(told, isCall ? !told.rms.isEmpty() && (told.stage() != null || told.verb.equals("forget"))
+            : told.outcome() != Outcome.UNKNOWN || !told.owed.isEmpty());
         List<Integer> named = new ArrayList<>(told.owed);
         for (int at = 0; at < told.mixed.size(); at += 2) {
             named.add(told.mixed.get(at));
         }
         // Behind an outcome stand no branches first, but a vote and whose it is.
-        named.addAll(told.outcome() == null ? told.rms : told.rms.subList(Math.min(1, told.rms.size()), told.rms.size()));
+        named.addAll(told.rms.subList(isCall ? 0 : Math.min(1, told.rms.size()), told.rms.size()));
         seeExpected(told, named.stream().allMatch(rm -> branches.stream().anyMatch(branch -> branch.rm.number == rm)));
-        seeExpected(told, told.outcome() != Outcome.UNKNOWN || !told.owed.isEmpty());
         return told;
     }
 
@@ -151,13 +152,6 @@ final class Hands {
         }
     }
 
-    /** The outcome, if these answers leave no other: then nothing is waited for. */
-    private Outcome plainEnd(Told told, List<Branch> called) {
-        boolean isPlain = called.stream().allMatch(it -> !it.isLost() && it.code() == Code.OK);
-        boolean isEnd = told.verb.equals("commit") || told.verb.equals("commit-at-once") || told.verb.equals("undo");
-        return isPlain && isEnd ? sure : null;
-    }
-
     private Told tell(String answers, boolean isVote) throws Fault {
         if (sure != null) {
             return slot.tell(answers, isVote);
@@ -171,13 +165,12 @@ final class Hands {
         }
         Told told = slot.tell(answers, isVote);
         // Behind a reply that says nothing of a decision the next session knows what was decided.
-        Outcome to = told.outcome() != null ? told.outcome() : told.stage();
-        seeExpected(told, to == Outcome.COMMITTED || to == Outcome.COMMITTING || to == Outcome.ROLLED_BACK || to == Outcome.ROLLING_BACK);
+        seeExpected(told, DECIDED.contains(told.verb));
         if (told.verb.equals("commit")) {
             session.noteDecision(transaction.gtrid(), xidsOf(seen(told).rms));
         }
         manager.fates.forget(transaction.gtrid());
-        sure = told.verb.equals("commit") || told.outcome() == Outcome.COMMITTED ? Outcome.COMMITTED : Outcome.ROLLED_BACK;
+        sure = told.verb.startsWith("commit") ? Outcome.COMMITTED : Outcome.ROLLED_BACK;
         return told;
     }
 }

@@ -7,6 +7,7 @@ import java.nio.charset.StandardCharsets;
 import java.nio.file.Files;
 import java.nio.file.Path;
 import java.security.SecureRandom;
+import java.time.Duration;
 import java.util.ArrayList;
 import java.util.List;
 import java.util.Map;
@@ -27,8 +28,8 @@ final class KeptLog {
     private static final String LETTERS = "abcdefghijklmnopqrstuvwxyz0123456789";
     /** The name of a manager has so many letters at most, and of these so many are drawn. */
     static final int LONGEST = 16, DRAWN = 6;
-    /** A look that takes longer than so many seconds is given up. */
-    private static final long LONGEST_LOOK = 60;
+    /** A look that takes longer is given up. */
+    private static final Duration LONGEST_LOOK = Duration.ofSeconds(60);
     private static final Pattern EXPLAINED = Pattern.compile(" +([0-9]+:[0-9a-f]+:[0-9a-f]+) at resource manager .*");
 
     /** The manager's, which is empty if the log was made without one. */
@@ -118,7 +119,7 @@ final class KeptLog {
     /** The log in the file. */
     static KeptLog read(Path log, Coordinator.Starter starter, String program) throws Fault {
         StringBuilder said = new StringBuilder();
-        String[] lines = printed(starter, List.of(program, "log", log.toString()), "", said).split("\n");
+        String[] lines = printed(starter, List.of(program, "log", log.toString()), "", LONGEST_LOOK, said).split("\n");
         String manager = "";
         long incarnation = 0;
         List<String> resources = new ArrayList<>(), rows = new ArrayList<>();
@@ -153,7 +154,7 @@ final class KeptLog {
     static KeptLog readWithBranches(Path log, Coordinator.Starter starter, String program) throws Fault {
         KeptLog found = read(log, starter, program);
         if (!found.decisions.isEmpty()) {
-            String explained = printed(starter, List.of(program, "log", "--explain", log.toString()), "", new StringBuilder());
+            String explained = printed(starter, List.of(program, "log", "--explain", log.toString()), "", LONGEST_LOOK, new StringBuilder());
             for (String line : explained.split("\n")) {
                 Matcher it = EXPLAINED.matcher(line);
                 if (it.matches()) {
@@ -165,11 +166,11 @@ final class KeptLog {
         return found;
     }
 
-    /** What a program prints that is given a text, once it has ended; and what it says beside. */
-    static String printed(Coordinator.Starter starter, List<String> words, String given, StringBuilder said) throws Fault.Gone {
+    /** What a program prints that is given a text, once it has ended, or is ended after so long; and what it says beside. */
+    static String printed(Coordinator.Starter starter, List<String> words, String given, Duration longest, StringBuilder said) throws Fault.Gone {
         try {
             Process process = starter.start(words);
-            CompletableFuture.delayedExecutor(LONGEST_LOOK, TimeUnit.SECONDS).execute(process::destroyForcibly);
+            CompletableFuture.delayedExecutor(longest.toMillis(), TimeUnit.MILLISECONDS).execute(process::destroyForcibly);
             try (OutputStream input = process.getOutputStream()) {
                 input.write(given.getBytes(StandardCharsets.US_ASCII));
             } catch (IOException error) {

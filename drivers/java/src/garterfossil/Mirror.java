@@ -19,6 +19,9 @@ import javax.sql.DataSource;
  * it is made, and so a log that is made of it lacks no decision of which a resource has heard.
  */
 final class Mirror {
+    /** So long a log may take that is made: each of its incarnations is a write that is synced. */
+    private static final Duration TO_MAKE = Duration.ofDays(1);
+
     /** A decision that a thread tells, and waits for. */
     private static final class Decision {
         final String gtrid;
@@ -278,7 +281,7 @@ final class Mirror {
         try {
             List<String> lines = tables.takeOver();
             String text = String.join("\n", lines) + "\n";
-            KeptLog.printed(starter, List.of(program, "log", "--make", log.toString()), text, new StringBuilder());
+            KeptLog.printed(starter, List.of(program, "log", "--make", log.toString()), text, TO_MAKE, new StringBuilder());
             long count = lines.stream().filter(line -> line.contains(":")).count();
             return "log " + log + ", of the manager " + tables.manager + ": made, with " + count + " decisions to commit";
         } catch (Fault.Gone | Fault.Lost error) {
