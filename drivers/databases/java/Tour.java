@@ -5,6 +5,7 @@ import java.nio.file.Path;
 import java.sql.Connection;
 import java.sql.ResultSet;
 import java.sql.SQLException;
+import java.sql.Savepoint;
 import java.sql.Statement;
 import java.time.Duration;
 import java.util.ArrayList;
@@ -228,6 +229,17 @@ public class Tour {
                 run(one, "SELECT 1 / 0");
             } catch (SQLException error) {
                 // It doesn't care, but the database has given the transaction up.
+            }
+        });
+        story("a savepoint takes a statement back that failed at PostgreSQL", ENDED, token -> {
+            writeBoth(token);
+            try (Connection connection = databases[isPostgreSQL(0) ? 0 : 1].getConnection(); Statement statement = connection.createStatement()) {
+                Savepoint before = connection.setSavepoint();
+                try {
+                    statement.execute("SELECT 1 / 0");
+                } catch (SQLException error) {
+                    connection.rollback(before);
+                }
             }
         });
         if (!isPostgreSQL(1)) {

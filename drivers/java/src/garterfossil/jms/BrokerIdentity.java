@@ -2,7 +2,7 @@ package garterfossil.jms;
 
 import garterfossil.BranchXid;
 import java.lang.reflect.InvocationTargetException;
-import java.nio.ByteBuffer;
+import java.nio.charset.StandardCharsets;
 import java.util.Enumeration;
 import java.util.UUID;
 import javax.jms.InvalidDestinationException;
@@ -20,7 +20,8 @@ import javax.transaction.xa.XAResource;
 
 /**
  * What a broker is known by again. JMS has nothing of the kind, and what ActiveMQ calls itself is drawn anew at each of its starts. So it is a
- * message of the driver's own, in a queue of its own, which stays there: it is only looked at.
+ * message of the driver's own, in a queue of its own, which stays there: it is only looked at. Outside of a branch a session of XA neither sends
+ * nor looks at anything, so each has a branch of its own, which is never prepared.
  */
 final class BrokerIdentity {
     static final String QUEUE = "garterfossil.identity";
@@ -33,14 +34,17 @@ final class BrokerIdentity {
         XASession session = connection.createXASession();
         try {
             Queue queue = session.createQueue(QUEUE);
-            String found = first(session, queue);
+            String found = inBranch(session, () -> first(session, queue));
             if (found == null && kept == null) {
-                send(session, queue);
+                inBranch(session, () -> sent(session, queue));
                 // Of several that send at once each takes the first.
-                found = first(session, queue);
+                found = inBranch(session, () -> first(session, queue));
             }
             String provider = connection.getMetaData().getJMSProviderName();
-            return found == null ? "a broker of " + provider + " whose queue " + QUEUE + " is empty" : "the broker " + found + " of " + provider;
+            if (found == null) {
+                return kept == null ? null : "a broker of " + provider + " whose queue " + QUEUE + " is empty";
+            }
+            return "the broker " + found + " of " + provider;
         } catch (JMSException error) {
             if (isForbidden(error)) {
                 return null;
@@ -62,29 +66,40 @@ final class BrokerIdentity {
         }
     }
 
-    /** Sends the message, in a branch that is committed in one phase: outside of a branch a session of XA sends nothing. */
-    private static void send(XASession session, Queue queue) throws JMSException {
-        UUID drawn = UUID.randomUUID();
-        byte[] bytes = ByteBuffer.allocate(16).putLong(drawn.getMostSignificantBits()).putLong(drawn.getLeastSignificantBits()).array();
-        BranchXid xid = new BranchXid(1, bytes, bytes);
+    /** Sends a message, with a text that is drawn. */
+    private static String sent(XASession session, Queue queue) throws JMSException {
+        String drawn = UUID.randomUUID().toString();
+        MessageProducer producer = session.createProducer(queue);
+        producer.send(session.createTextMessage(drawn));
+        producer.close();
+        return drawn;
+    }
+
+    private interface Work {
+        String done() throws JMSException;
+    }
+
+    private static String inBranch(XASession session, Work work) throws JMSException {
+        byte[] drawn = UUID.randomUUID().toString().getBytes(StandardCharsets.US_ASCII);
+        BranchXid xid = new BranchXid(1, drawn, drawn);
         XAResource resource = session.getXAResource();
-        boolean isSent = false;
+        boolean isDone = false;
         try {
             resource.start(xid, XAResource.TMNOFLAGS);
             try {
-                MessageProducer producer = session.createProducer(queue);
-                producer.send(session.createTextMessage(drawn.toString()));
-                producer.close();
-                isSent = true;
+                String found = work.done();
+                isDone = true;
+                return found;
             } finally {
-                resource.end(xid, isSent ? XAResource.TMSUCCESS : XAResource.TMFAIL);
-                if (!isSent) {
+                resource.end(xid, isDone ? XAResource.TMSUCCESS : XAResource.TMFAIL);
+                if (isDone) {
+                    resource.commit(xid, true);
+                } else {
                     resource.rollback(xid);
                 }
             }
-            resource.commit(xid, true);
         } catch (XAException error) {
-            JMSException failed = new JMSException("the message by which the broker is known can't be sent");
+            JMSException failed = new JMSException("the broker can't be asked which one it is");
             failed.initCause(error);
             throw failed;
         }
