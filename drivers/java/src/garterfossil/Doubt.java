@@ -62,7 +62,7 @@ public final class Doubt {
 
     private Map<Integer, Listing> numbered(List<Listing> listings) {
         Map<Integer, Listing> found = new TreeMap<>();
-        listings.forEach(it -> found.put(kept.resources.indexOf(it.resource.name()), it));
+        listings.forEach(it -> found.put(kept.numberOf(it.resource), it));
         return found;
     }
 

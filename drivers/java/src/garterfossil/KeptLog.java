@@ -46,7 +46,7 @@ final class KeptLog {
 
     private KeptLog(String manager, List<String> resources, long incarnation, boolean isInUse) {
         this.manager = manager;
-        this.resources = List.copyOf(resources);
+        this.resources = new ArrayList<>(resources);
         this.incarnation = incarnation;
         this.isInUse = isInUse;
     }
@@ -55,10 +55,24 @@ final class KeptLog {
     static KeptLog of(Path log, Coordinator.Starter starter, String program, String given, List<Resource> resources) throws Fault {
         KeptLog kept = isThere(log) ? read(log, starter, program) : drawn(log, given, resources);
         kept.seeManager(log, given);
-        for (Resource resource : resources) {
-            kept.numberOf(resource.name(), log);
-        }
+        kept.add(resources.stream().map(Resource::name).collect(Collectors.toList()), log);
         return kept;
+    }
+
+    /** Resources that the log doesn't know come behind those that it knows, and it keeps their names from its next start on. */
+    private void add(List<String> names, Path log) throws Fault.Unavailable {
+        boolean areAllKnown = names.containsAll(resources);
+        for (String name : names) {
+            if (!resources.contains(name) && !areAllKnown) {
+                // It may be one of them, by another name.
+                throw new Fault.Unavailable("the log " + log + " is that of the resources " + resources + ", and " + name + " isn't one of them. To"
+                    + " add one, give the manager the others, too; if one of them is called " + name + " now, stop the program, and say xatm log"
+                    + " --rename-rm OLD " + name + " " + log);
+            }
+            if (!resources.contains(name)) {
+                resources.add(name);
+            }
+        }
     }
 
     /** Sees that a log that was used is still there: one made in its place would have its name, and roll back what it decided. */
@@ -217,12 +231,8 @@ final class KeptLog {
     }
 
     /** The number of a resource. */
-    int numberOf(String name, Path log) throws Fault.Unavailable {
-        if (!resources.contains(name)) {
-            throw new Fault.Unavailable("the log " + log + " is that of the resources " + resources + ", and " + name
-                + " isn't one of them. A log has the resources that it was made with: with others, begin a new log once nothing waits for this one");
-        }
-        return resources.indexOf(name);
+    int numberOf(Resource resource) {
+        return resources.indexOf(resource.name());
     }
 
     /** The words by which {@code xatm serve} is started over the log, for so many threads. */

@@ -157,7 +157,7 @@ public final class Manager implements AutoCloseable {
             Identities identities = new Identities(log, kept.manager, false);
             for (Resource resource : resources) {
                 resource.belongTo(kept.manager + "-status");
-                resource.knownBy(identities.onlySeen(kept.numberOf(resource.name(), log), resource.name()));
+                resource.knownBy(identities.onlySeen(kept.numberOf(resource), resource.name()));
             }
         }
 
@@ -268,7 +268,7 @@ public final class Manager implements AutoCloseable {
         identities = new Identities(made.log, names.manager, isNew);
         identities.seeOpen();
         for (Resource resource : made.resources) {
-            int number = names.numberOf(resource.name(), made.log);
+            int number = names.numberOf(resource);
             resource.belongTo(names.manager);
             resource.knownBy(identities.of(number, resource.name()));
             rms.add(new ResourceManager(number, resource));
@@ -320,7 +320,7 @@ public final class Manager implements AutoCloseable {
         if (made.mirror == null) {
             return null;
         }
-        Mirror found = new Mirror(made.mirror, made.log, KeptLog.isThere(made.log) ? untilFree(this::keptLog) : names, made.patience);
+        Mirror found = new Mirror(made.mirror, made.log, KeptLog.isThere(made.log) ? untilFree(this::keptLog) : names, names.resources, made.patience);
         found.look(made.name, number -> rms.stream().filter(rm -> rm.number == number).map(rm -> Listing.of(rm.resource))
             .filter(it -> it.fault == null).map(it -> it.all).findFirst().orElse(null));
         return found;

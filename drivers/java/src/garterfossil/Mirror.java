@@ -42,6 +42,7 @@ final class Mirror {
 
     private final Path log;
     private final KeptLog kept;
+    private final List<String> resources;
     // Decisions come by one connection, and leave by another, for which nobody waits.
     private final MirrorTables adding, removing;
     private final Queue<Decision> asked = new ConcurrentLinkedQueue<>();
@@ -53,13 +54,14 @@ final class Mirror {
     private final Map<String, Set<BranchXid>> owed = new HashMap<>();
     private final List<String> left = new ArrayList<>();
 
-    /** That of the next session over a log that holds this, with the branches of its decisions. */
-    Mirror(DataSource source, Path log, KeptLog kept, Duration patience) throws Fault.Unavailable {
+    /** That of the next session over a log that holds this, with the branches of its decisions, and that is to keep these names of resources. */
+    Mirror(DataSource source, Path log, KeptLog kept, List<String> resources, Duration patience) throws Fault.Unavailable {
         if (kept.manager.isEmpty()) {
             throw new Fault.Unavailable("a mirror is for a manager with a name, and this log keeps none: give a new log a name, once nothing is in doubt");
         }
         this.log = log.toAbsolutePath();
         this.kept = kept;
+        this.resources = resources;
         adding = new MirrorTables(source, kept.manager, patience);
         removing = new MirrorTables(source, kept.manager, patience);
     }
@@ -145,7 +147,7 @@ final class Mirror {
                 if (before >= next) {
                     throw older(next, before);
                 }
-                adding.note(at, log.toString(), String.join(" ", kept.resources), next, before < 0);
+                adding.note(at, log.toString(), String.join(" ", resources), next, before < 0);
                 Set<String> held = adding.decisions(at).keySet();
                 if (!surelyOver.isEmpty()) {
                     adding.remove(at, List.copyOf(surelyOver));

@@ -368,6 +368,42 @@ public class RecoveryTest {
         assertTrue(error.getMessage(), error.getMessage().contains("c isn't one of them"));
     }
 
+    private Manager.Builder withThird(StandInResource third) {
+        return world.builder().resource(third);
+    }
+
+    private void refusedWithThird(StandInResource third, String wanted) {
+        String text = assertThrows(Fault.Unavailable.class, () -> withThird(third).start()).getMessage();
+        assertTrue(text, text.contains(wanted));
+    }
+
+    @Test
+    public void aResourceThatIsAddedAndRenamed() throws Exception {
+        world.manager.close();
+        BranchXid decided = BranchXid.of(world.manager.name(), "0000000000000001" + "0000000000000008", 1, 1);
+        rowsOfAnEarlierSession(decided);
+        world.a.branches.put(world.own(1, 9), StandInResource.State.PREPARED);
+        StandInResource third = new StandInResource("c"), other = new StandInResource("d");
+        third.identity = "the third";
+        world.manager = withThird(third).start();
+        nothingIsLeft();
+        assertEquals(List.of(decided), world.b.committed);
+        GlobalTransaction transaction = world.overBoth();
+        transaction.enlist(third);
+        assertTrue(third.branches.keySet().iterator().next().toString().endsWith("00000002"));
+        transaction.commit();
+        world.manager.close();
+        // Another name in its place may be a third of another name: nobody but an operator knows.
+        refusedWithThird(other, "and d isn't one of them. To add one, give the manager the others, too; if one of them is called d now");
+        Path names = world.folder.resolve("names");
+        Files.writeString(names, Files.readString(names).replace("rm 2 c", "rm 2 d"));
+        other.identity = "the fourth";
+        refusedWithThird(other, "d isn't the one that the log");
+        other.identity = "the third";
+        world.manager = withThird(other).start();
+        world.manager.close();
+    }
+
     @Test
     public void namesInAFileBesideTheLog() throws Exception {
         world.manager.close();

@@ -137,7 +137,7 @@ final class StandInCoordinator extends Process {
         this.folder = folder;
         int named = command.indexOf("--name");
         name = named < 0 ? "" : HexFormat.of().formatHex(command.get(named + 1).getBytes(StandardCharsets.US_ASCII));
-        keepNames(command);
+        String objection = keptNames(command);
         fromDriver = new PipedInputStream(input, 65536);
         toDriver = new PipedOutputStream(output);
         Path counter = folder.resolve("incarnation");
@@ -152,19 +152,16 @@ final class StandInCoordinator extends Process {
         }
         found = new TreeMap<>(rows);
         Path refused = folder.resolve("refusal");
-        refusal = Files.exists(refused) ? Files.readString(refused).split(" ", 2) : new String[] {"0", ""};
+        refusal = (Files.exists(refused) ? Files.readString(refused) : objection).split(" ", 2);
         save();
         thread = new Thread(this::serve, "a stand-in for the coordinator");
         thread.setDaemon(true);
         thread.start();
     }
 
-    /** A new log keeps the names that it is made with. */
-    private void keepNames(List<String> words) throws IOException {
-        if (Files.exists(folder.resolve("log"))) {
-            return;
-        }
-        Files.writeString(folder.resolve("log"), "a log");
+    /** A new log keeps the names that it is made with, and one that was there those that come behind them. What it says against others. */
+    private String keptNames(List<String> words) throws IOException {
+        Path names = folder.resolve("names");
         List<String> lines = new ArrayList<>();
         for (int at = 0; at < words.size(); at++) {
             if (words.get(at).equals("--name")) {
@@ -173,7 +170,17 @@ final class StandInCoordinator extends Process {
                 lines.add("rm " + (lines.size() - (name.isEmpty() ? 0 : 1)) + " " + words.get(at + 1));
             }
         }
-        Files.write(folder.resolve("names"), lines);
+        List<String> kept = Files.exists(folder.resolve("log")) && Files.exists(names) ? Files.readAllLines(names) : List.of();
+        for (int at = 0; at < Math.min(kept.size(), lines.size()); at++) {
+            if (!kept.get(at).equals(lines.get(at))) {
+                return "6 xatm: log: log: its " + kept.get(at) + " isn't " + lines.get(at);
+            }
+        }
+        Files.writeString(folder.resolve("log"), "a log");
+        if (lines.size() > kept.size()) {
+            Files.write(names, lines);
+        }
+        return "0 ";
     }
 
     private void save() throws IOException {
