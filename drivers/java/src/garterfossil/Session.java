@@ -374,13 +374,21 @@ final class Session {
         long until = System.nanoTime() + TO_END.toNanos();
         // Each by itself: what runs at a resource that is silent may take long to be cut short.
         Queue<GlobalTransaction> left = new ConcurrentLinkedQueue<>(live);
-        left.forEach(transaction -> Apart.run(() -> {
+        for (GlobalTransaction transaction : List.copyOf(left)) {
+            Runnable work = () -> {
+                try {
+                    transaction.abandon(until);
+                } finally {
+                    left.remove(transaction);
+                }
+            };
             try {
-                transaction.abandon(until);
-            } finally {
-                left.remove(transaction);
+                Apart.run(work);
+            } catch (Error error) {
+                // There is no thread to be had.
+                work.run();
             }
-        }));
+        }
         while (!left.isEmpty() && System.nanoTime() < until) {
             LockSupport.parkNanos(1_000_000);
         }

@@ -1,8 +1,6 @@
 package garterfossil.jdbc;
 
 import garterfossil.Fault;
-import java.lang.reflect.InvocationTargetException;
-import java.lang.reflect.Method;
 import java.lang.reflect.Proxy;
 import java.sql.Connection;
 import java.sql.SQLException;
@@ -29,7 +27,7 @@ final class OwnedXaDataSource {
 
     XADataSource proxy() {
         return (XADataSource) Proxy.newProxyInstance(getClass().getClassLoader(), new Class<?>[] {XADataSource.class}, (proxy, method, words) -> {
-            Object made = direct(source, method, words);
+            Object made = ConnectionHandle.direct(source, method, words);
             return made instanceof XAConnection ? owned((XAConnection) made) : made;
         });
     }
@@ -55,10 +53,10 @@ final class OwnedXaDataSource {
                 case "getXAResource": return resource;
                 // A new one would shut the first.
                 case "getConnection": return given;
-                case "close": open.remove(number); return direct(xa, method, words);
+                case "close": open.remove(number); return ConnectionHandle.direct(xa, method, words);
                 case "equals": return proxy == words[0];
                 case "hashCode": return System.identityHashCode(proxy);
-                default: return direct(xa, method, words);
+                default: return ConnectionHandle.direct(xa, method, words);
             }
         });
     }
@@ -83,16 +81,8 @@ final class OwnedXaDataSource {
             switch (name) {
                 case "equals": return proxy == words[0];
                 case "hashCode": return System.identityHashCode(proxy);
-                default: return direct(plain, method, words);
+                default: return ConnectionHandle.direct(plain, method, words);
             }
         });
-    }
-
-    private static Object direct(Object target, Method method, Object[] words) throws Throwable {
-        try {
-            return method.invoke(target, words);
-        } catch (InvocationTargetException error) {
-            throw error.getCause();
-        }
     }
 }
