@@ -170,7 +170,8 @@ final class StandInCoordinator extends Process {
                 lines.add("rm " + (lines.size() - (name.isEmpty() ? 0 : 1)) + " " + words.get(at + 1));
             }
         }
-        List<String> kept = Files.exists(folder.resolve("log")) && Files.exists(names) ? Files.readAllLines(names) : List.of();
+        List<String> kept = new ArrayList<>(Files.exists(folder.resolve("log")) && Files.exists(names) ? Files.readAllLines(names) : List.of());
+        kept.removeIf(String::isBlank);
         for (int at = 0; at < Math.min(kept.size(), lines.size()); at++) {
             if (!kept.get(at).equals(lines.get(at))) {
                 return "6 xatm: log: log: its " + kept.get(at) + " isn't " + lines.get(at);
