@@ -63,36 +63,24 @@ final class Json {
         if (depth > DEEPEST) {
             throw new IllegalArgumentException("more than " + DEEPEST + " maps and lists in one another, at character " + at);
         }
-        Object found = first == '{' ? map() : list();
+        Map<String, Object> map = new LinkedHashMap<>();
+        List<Object> list = new ArrayList<>();
+        take(first);
+        for (boolean isFirst = true; !takes(first == '{' ? '}' : ']'); isFirst = false) {
+            if (!isFirst) {
+                take(',');
+            }
+            if (first == '{') {
+                next();
+                String key = string();
+                take(':');
+                map.put(key, value());
+            } else {
+                list.add(value());
+            }
+        }
         depth--;
-        return found;
-    }
-
-    private Map<String, Object> map() {
-        Map<String, Object> found = new LinkedHashMap<>();
-        take('{');
-        while (!takes('}')) {
-            if (!found.isEmpty()) {
-                take(',');
-            }
-            next();
-            String key = string();
-            take(':');
-            found.put(key, value());
-        }
-        return found;
-    }
-
-    private List<Object> list() {
-        List<Object> found = new ArrayList<>();
-        take('[');
-        while (!takes(']')) {
-            if (!found.isEmpty()) {
-                take(',');
-            }
-            found.add(value());
-        }
-        return found;
+        return first == '{' ? map : list;
     }
 
     private String string() {
@@ -111,20 +99,15 @@ final class Json {
             throw wrong();
         }
         char letter = text.charAt(at++);
-        switch (letter) {
-            case 'n': return '\n';
-            case 't': return '\t';
-            case 'r': return '\r';
-            case 'b': return '\b';
-            case 'f': return '\f';
-            case 'u':
-                if (at + 4 > text.length()) {
-                    throw wrong();
-                }
-                at += 4;
-                return (char) HexFormat.fromHexDigits(text, at - 4, at);
-            default: return letter;
+        if (letter == 'u' && at + 4 <= text.length()) {
+            at += 4;
+            return (char) HexFormat.fromHexDigits(text, at - 4, at);
         }
+        if (letter == 'u') {
+            throw wrong();
+        }
+        int place = "ntrbf".indexOf(letter);
+        return place < 0 ? letter : "\n\t\r\b\f".charAt(place);
     }
 
     private Object word() {
