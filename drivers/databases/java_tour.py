@@ -43,34 +43,65 @@ def see_set_ups(world, folder, path):
     return wrong
 
 
-def see_command(world, folder, path):
-    """A branch that is decided to commit is shown, ended by hand as the log says, and its row leaves. How much was wrong."""
-    log, token, kinds = f"{folder}/halt.db", "halted", ["org.postgresql.xa.PGXADataSource", "org.mariadb.jdbc.MariaDbDataSource"]
-    if not isinstance(world.servers[0], PostgreSQLServer):
-        kinds.reverse()
-    urls = [server.url() for server in world.servers]
-    java = ["java", "-cp", ":".join(path)]
-    halted = subprocess.run([*java, "Halt", log, world.coordinator, *urls, token], stderr=subprocess.DEVNULL)
-    lines = [f"log = {log}", f"program = {world.coordinator}"]
-    for number, (kind, url) in enumerate(zip(kinds, urls)):
-        lines += [f"resource.db{number}.class = {kind}", f"resource.db{number}.url = {url}"]
-    with open(f"{folder}/halt.properties", "w") as it:
-        it.write("\n".join(lines) + "\n")
+class Halted:
+    """What a program left that was killed once its first database had committed, and the command over it."""
 
-    def command(*words):
-        words = [*java, "garterfossil.Command", words[0], it.name, *words[1:]]
+    KINDS = {PostgreSQLServer: ("xa.PGXADataSource", "ds.PGSimpleDataSource"), MariaDBServer: ("MariaDbDataSource",) * 2}
+
+    def __init__(self, world, folder, path, token, mirror=None):
+        self.world, self.token, self.log = world, token, f"{folder}/{token}.db"
+        self.java = ["java", "-cp", ":".join(path)]
+        servers = world.servers if mirror is None else [*world.servers, world.servers[mirror]]
+        urls = [server.url() for server in servers]
+        words = [*self.java, "Halt", self.log, world.coordinator, *urls[:2], token, *urls[2:]]
+        self.status = subprocess.run(words, stderr=subprocess.DEVNULL).returncode
+        lines = [f"log = {self.log}", f"program = {world.coordinator}"]
+        for place, (server, url) in enumerate(zip(servers, urls)):
+            package = "org.postgresql." if isinstance(server, PostgreSQLServer) else "org.mariadb.jdbc."
+            name = f"resource.db{place}" if place < 2 else "mirror"
+            lines += [f"{name}.class = {package}{self.KINDS[type(server)][place == 2]}", f"{name}.url = {url}"]
+        self.file = f"{folder}/{token}.properties"
+        with open(self.file, "w") as it:
+            it.write("\n".join(lines) + "\n")
+
+    def command(self, *words):
+        words = [*self.java, "garterfossil.Command", words[0], self.file, *words[1:]]
         done = subprocess.run(words, stdout=subprocess.PIPE, stderr=subprocess.DEVNULL, text=True)
         return done.returncode, done.stdout
 
+    def held(self):
+        """How many rows each database has of it."""
+        return [len(one.connect().run(f"SELECT gtrid FROM alone WHERE gtrid = '{self.token}'").rows) for one in self.world.databases()]
+
+
+def see_failover(world, folder, path, mirror):
+    """The log is lost behind a decision, and made anew of the mirror: what is prepared is committed. How much was wrong."""
+    halted = Halted(world, folder, path, f"lost{mirror}", mirror)
+    for name in os.listdir(folder):
+        if name.startswith(f"lost{mirror}.db"):
+            os.remove(f"{folder}/{name}")
+    early, _ = halted.command("recover")
+    made, said = halted.command("failover")
+    over, _ = halted.command("recover")
+    found = [halted.status, early, made, over, halted.held()]
+    is_right = found == [9, 2, 0, 0, [1, 1]] and said.endswith("made, with 1 decisions to commit\n")
+    print(f"{'ok   ' if is_right else 'WRONG'} Java: a log is made of the mirror in database {mirror}: {found}", flush=True)
+    return not is_right
+
+
+def see_command(world, folder, path):
+    """A branch that is decided to commit is shown, ended by hand as the log says, and its row leaves. How much was wrong."""
+    halted = Halted(world, folder, path, "halted")
+    command = halted.command
     status, said = command("status")
     branch = next((line.split(": waits")[0].strip() for line in said.splitlines() if "waits for xa_commit" in line), "none")
     ended, told = command("end", branch, "--yes")
     left, rest = command("status")
     over, last = command("recover")
-    held = [len(one.connect().run(f"SELECT gtrid FROM alone WHERE gtrid = '{token}'").rows) for one in world.databases()]
-    is_right = (halted.returncode, status, ended, left, over, held) == (9, 1, 0, 0, 0, [1, 1])
+    found = [halted.status, status, ended, left, over, halted.held()]
+    is_right = found == [9, 1, 0, 0, 0, [1, 1]]
     is_right &= "COMMIT" in said and told.endswith("it is ended\n") and "1 of the decisions have no branch any more" in rest and ": 0 decided" in last
-    print(f"{'ok   ' if is_right else 'WRONG'} Java: a branch is ended by hand: {[halted.returncode, status, ended, left, over, held]}", flush=True)
+    print(f"{'ok   ' if is_right else 'WRONG'} Java: a branch is ended by hand: {found}", flush=True)
     if not is_right:
         print(said, told, rest, last)
     return not is_right
@@ -97,7 +128,8 @@ def run(world):
             processes = ",".join(str(number) for number in processes_of(world.servers[1].process.pid))
             words = ["java", "-cp", ":".join(path), "Tour", folder, world.coordinator, *urls, processes]
             wrong = subprocess.run(words, stderr=log).returncode != 0
-        return wrong + see_set_ups(world, folder, path) + see_command(world, folder, path)
+        wrong += see_set_ups(world, folder, path) + see_command(world, folder, path)
+        return wrong + sum(see_failover(world, folder, path, mirror) for mirror in (0, 1))
     finally:
         for server in world.servers:
             server.restart(None)

@@ -189,13 +189,6 @@ public class Bank {
         }
     }
 
-    private static DataSource plain(String url) throws Exception {
-        String name = url.startsWith("jdbc:postgresql:") ? "org.postgresql.ds.PGSimpleDataSource" : "org.mariadb.jdbc.MariaDbDataSource";
-        Object source = Class.forName(name).getConstructor().newInstance();
-        source.getClass().getMethod("setUrl", String.class).invoke(source, url);
-        return (DataSource) source;
-    }
-
     public static void main(String[] words) throws Exception {
         JdbcResource[] databases = new JdbcResource[2];
         int threads = Integer.parseInt(words[3]);
@@ -208,7 +201,7 @@ public class Bank {
         }
         JmsResource broker = null;
         if (isMirrored) {
-            builder.mirror(plain(words[8]));
+            builder.mirror(Speed.plain(words[8]));
         } else {
             broker = JmsResource.of("broker", new ActiveMQXAConnectionFactory(words[6])).maxConnections(threads + 2);
             builder.resource(broker);

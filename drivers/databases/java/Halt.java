@@ -8,7 +8,7 @@ import java.sql.Statement;
 /**
  * Ends its own process once the first of two databases has committed: the other is prepared then, and its commit decided.
  *
- * <p>Usage: Halt LOG PROGRAM URL URL TOKEN, that of the row which it writes to both.
+ * <p>Usage: Halt LOG PROGRAM URL URL TOKEN [MIRROR], that of the row which it writes to both, and where the log is mirrored.
  */
 public class Halt {
     public static void main(String[] words) throws Exception {
@@ -19,6 +19,9 @@ public class Halt {
             hooks[number] = new Hooks(Speed.source(words[2 + number]));
             resources[number] = JdbcResource.of("db" + number, hooks[number].source());
             builder.resource(resources[number]);
+        }
+        if (words.length > 5) {
+            builder.mirror(Speed.plain(words[5]));
         }
         Manager manager = builder.start();
         JtaTransactionManager jta = new JtaTransactionManager(manager);

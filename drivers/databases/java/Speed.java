@@ -203,10 +203,19 @@ public class Speed {
     }
 
     static XADataSource source(String url) throws Exception {
-        String name = url.startsWith("jdbc:postgresql:") ? "org.postgresql.xa.PGXADataSource" : "org.mariadb.jdbc.MariaDbDataSource";
+        return (XADataSource) made(url, "org.postgresql.xa.PGXADataSource");
+    }
+
+    /** One for a mirror. */
+    static DataSource plain(String url) throws Exception {
+        return (DataSource) made(url, "org.postgresql.ds.PGSimpleDataSource");
+    }
+
+    private static Object made(String url, String atPostgreSql) throws Exception {
+        String name = url.startsWith("jdbc:postgresql:") ? atPostgreSql : "org.mariadb.jdbc.MariaDbDataSource";
         Object source = Class.forName(name).getConstructor().newInstance();
         source.getClass().getMethod("setUrl", String.class).invoke(source, url);
-        return (XADataSource) source;
+        return source;
     }
 
     /** So many transfers a second, and what they cost. */
