@@ -247,7 +247,8 @@ public final class Manager implements AutoCloseable {
                 try {
                     startFirst(isNew);
                 } catch (Fault.Unavailable error) {
-                    if (!isNew || !KeptLog.isThere(made.log) || keptLog().manager.equals(names.manager)) {
+                    if (!isNew || names == null || !KeptLog.isThere(made.log)
+                        || KeptLog.read(made.log, made.starter, made.program).manager.equals(names.manager)) {
                         throw error;
                     }
                     // Another program has made the log since its names were looked for.

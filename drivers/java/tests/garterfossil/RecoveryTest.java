@@ -650,7 +650,7 @@ public class RecoveryTest {
     @Test
     public void aTimeOutOverAResourceThatIsSilent() throws Exception {
         CountDownLatch mayGoOn = new CountDownLatch(1);
-        GlobalTransaction transaction = world.manager.begin(Duration.ofMillis(300));
+        GlobalTransaction transaction = world.manager.begin(Duration.ofMillis(1500));
         transaction.enlist(world.a);
         transaction.enlist(world.b);
         world.a.before = () -> World.await(mayGoOn);
@@ -682,7 +682,7 @@ public class RecoveryTest {
     @Test
     public void aTimeOutWhileWorkCantBeCutShort() throws Exception {
         CountDownLatch mayGoOn = new CountDownLatch(1);
-        GlobalTransaction transaction = world.manager.begin(Duration.ofMillis(300));
+        GlobalTransaction transaction = world.manager.begin(Duration.ofMillis(1500));
         worksAt(world.a, transaction, mayGoOn);
         transaction.enlist(world.b);
         // The others' locks are free.
