@@ -75,7 +75,7 @@ class Halted:
 
 
 def see_failover(world, folder, path, mirror):
-    """The log is lost behind a decision, and made anew of the mirror: what is prepared is committed. How much was wrong."""
+    """The log is lost after a decision, and made anew of the mirror: what is prepared is committed. How much was wrong."""
     halted = Halted(world, folder, path, f"lost{mirror}", mirror)
     for name in os.listdir(folder):
         if name.startswith(f"lost{mirror}.db"):

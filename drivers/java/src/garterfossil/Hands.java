@@ -10,7 +10,7 @@ import java.util.stream.Collectors;
  * decided here (docs/MOVES.md).
  */
 final class Hands {
-    /** The calls behind which a transaction is over if all succeed; and what is told behind votes. */
+    /** The calls after which a transaction is over if all succeed; and what is told after votes. */
     private static final Set<String> ENDS = Set.of("commit", "commit-at-once", "undo"),
         DECIDED = Set.of("commit", "committed", "rollback", "undo", "rolled-back");
 

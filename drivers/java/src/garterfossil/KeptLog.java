@@ -59,7 +59,7 @@ final class KeptLog {
         return kept;
     }
 
-    /** Resources that the log doesn't know come behind those that it knows, and it keeps their names from its next start on. */
+    /** Resources that the log doesn't know come after those that it knows, and it keeps their names from its next start on. */
     private void add(List<String> names, Path log) throws Fault.Unavailable {
         boolean areAllKnown = names.containsAll(resources);
         for (String name : names) {

@@ -122,7 +122,7 @@ public final class Manager implements AutoCloseable {
         }
 
         /**
-         * A database that has each decision before any of the resources hears of it, so that a new log can be made of it where this machine is
+         * A database that has each decision before any of the resources hears of it, so that a new log can be made of it if this machine is
          * lost: one that is replicated already. While it can't be reached, nothing is committed.
          */
         public Builder mirror(DataSource database) {
@@ -130,7 +130,7 @@ public final class Manager implements AutoCloseable {
             return this;
         }
 
-        /** Makes the log anew of the mirror, where the machine that had it is lost: what it says of that. */
+        /** Makes the log anew of the mirror, once the machine that had it is lost: what it says of that. */
         public String failOver() throws Fault {
             if (mirror == null) {
                 throw new Fault.Unavailable("there is no mirror to make the log of");

@@ -69,7 +69,7 @@ final class Mirror {
     // ** a session begins
 
     /**
-     * Looks, before the coordinator starts, whether a session may begin over the log. A start that is refused behind that has raised the log's
+     * Looks, before the coordinator starts, whether a session may begin over the log. A start that is refused later has raised the log's
      * incarnation, and after a few of them an older log would pass for a newer one.
      */
     void look(String given, Lister lister) throws Fault {

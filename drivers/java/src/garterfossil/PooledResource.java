@@ -11,7 +11,7 @@ public abstract class PooledResource<R extends PooledResource<R>> implements Res
     private volatile String manager = "";
     private volatile Known known;
 
-    /** One of this name, which has so many connections where nothing else is said. */
+    /** One of this name, which has so many connections if nothing else is said. */
     protected PooledResource(String name, int maxConnections) {
         this.name = name;
         this.maxConnections = maxConnections;
@@ -20,7 +20,7 @@ public abstract class PooledResource<R extends PooledResource<R>> implements Res
     /** This one. */
     protected abstract R self();
 
-    /** How many connections there may be at a time, beside one for the recovery: 32 where none is given, of a broker 16. Don't make that less later. */
+    /** How many connections there may be at a time, beside one for the recovery: 32 if none is given, of a broker 16. Don't make that less later. */
     public R maxConnections(int count) {
         if (count < 1) {
             throw new IllegalArgumentException("maxConnections: 1 or more, and not " + count);
@@ -35,7 +35,7 @@ public abstract class PooledResource<R extends PooledResource<R>> implements Res
         return self();
     }
 
-    /** How long it may be silent, as a connection is made or in one of XA's calls: 10 seconds where none is given. Then the connection is lost. */
+    /** How long it may be silent, as a connection is made or in one of XA's calls: 10 seconds if none is given. Then the connection is lost. */
     public R patience(Duration duration) {
         patience = duration;
         return self();

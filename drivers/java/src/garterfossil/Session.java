@@ -45,7 +45,7 @@ final class Session {
             return ready;
         }
 
-        /** The transaction that a reply names, behind what a program was told. */
+        /** The transaction that a reply names, after what a program was told. */
         private String named(Coordinator.Reply asked) throws Fault {
             try {
                 Told told = coordinator.told(asked);

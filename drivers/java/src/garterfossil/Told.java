@@ -19,7 +19,7 @@ final class Told {
     final String verb;
     /** Where the call is to be made; of an outcome that is rolled back why, and where, if a branch is the reason. */
     final List<Integer> rms = new ArrayList<>();
-    /** Where a branch is yet to be ended; and where one was ended otherwise, each with how. */
+    /** The resource managers with a branch yet to be ended; and those that ended one otherwise, each with how. */
     final List<Integer> owed = new ArrayList<>(), mixed = new ArrayList<>();
     /** The thread's next transaction, or null. */
     final String next;

@@ -235,7 +235,7 @@ public class BrokerTest {
         identities.clear();
         text = refusedText();
         assertTrue(text, text.contains(" is a broker of Stand-in whose queue garterfossil.identity is empty, and it was the broker " + first));
-        // Nothing is put where another one's may be missing.
+        // Nothing is sent to what may be another one.
         assertEquals(List.of(), identities);
         identities.addAll(List.of(first, "a later one"));
         manager = world.builder().resource(resource).start();

@@ -42,7 +42,7 @@ import java.util.stream.Collectors;
  * begins with it, instead of a reply, and removes the file; {@code decided} is a decision to commit that it makes and doesn't tell. It begins
  * with the line of the protocol where the file `protocol` has its words. Where `refusal` is there, it ends with the status that this has, and
  * says what stands behind that. The files `names` and
- * `rows` have what {@code xatm log} prints of its log, and `in-use` is there where that says that a program has it; what {@code xatm log --make}
+ * `rows` have what {@code xatm log} prints of its log, and `in-use` is there if that says that a program has it; what {@code xatm log --make}
  * is given is in `made`. From the first move that begins with the word of the file `silent` on, or from its start for `restarted`, it says nothing,
  * and the file is removed.
  */
@@ -159,7 +159,7 @@ final class StandInCoordinator extends Process {
         thread.start();
     }
 
-    /** A new log keeps the names that it is made with, and one that was there those that come behind them. What it says against others. */
+    /** A new log keeps the names that it is made with, and one that was there those that come after them. What it says against others. */
     private String keptNames(List<String> words) throws IOException {
         Path names = folder.resolve("names");
         List<String> lines = new ArrayList<>();
