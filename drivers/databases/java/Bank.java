@@ -24,11 +24,13 @@ import javax.transaction.RollbackException;
 import org.apache.activemq.ActiveMQXAConnectionFactory;
 
 /**
- * The driver that is killed, in Java: moves money between two databases, and orders through a broker, on several threads.
+ * The driver that is killed, in Java: moves money between two databases, and orders through a
+ * broker, on several threads.
  *
- * <p>Usage: Bank HOME PROGRAM SECONDS THREADS URL URL BROKER, or of a machine that has no broker, and whose log is mirrored, Bank HOME
- * PROGRAM SECONDS THREADS URL URL - LOG MIRROR. Each outcome is written to HOME/told once it was told. One transaction of ten fails on
- * purpose. Ends with a line of JSON: how many there were of each kind.
+ * <p>Usage: Bank HOME PROGRAM SECONDS THREADS URL URL BROKER, or of a machine that has no broker,
+ * and whose log is mirrored, Bank HOME PROGRAM SECONDS THREADS URL URL - LOG MIRROR. Each outcome
+ * is written to HOME/told once it was told. One transaction of ten fails on purpose. Ends with a
+ * line of JSON: how many there were of each kind.
  */
 public class Bank {
     private static final class OnPurpose extends Exception {

@@ -5,7 +5,10 @@ import java.io.File;
 import java.sql.Connection;
 import java.util.concurrent.atomic.AtomicLong;
 
-/** Transfers through the Bitronix Transaction Manager, with its own settings: each decision is forced to the disk. */
+/**
+ * Transfers through the Bitronix Transaction Manager, with its own settings: each decision is
+ * forced to the disk.
+ */
 public class Bitronix implements Speed.Way {
     private final PoolingDataSource[] sources = new PoolingDataSource[Speed.RMS];
     private final BitronixTransactionManager manager;

@@ -5,8 +5,8 @@ import org.apache.activemq.store.kahadb.KahaDBPersistenceAdapter;
 /**
  * A broker of ActiveMQ with its store in a folder. Usage: Broker FOLDER PORT.
  *
- * <p>It keeps all of its journal. If it is killed its index may lack messages that the journal has, and it would delete a file of the
- * journal of which the index names no message.
+ * <p>It keeps all of its journal. If it is killed its index may lack messages that the journal has,
+ * and it would delete a file of the journal of which the index names no message.
  */
 public class Broker {
     public static void main(String[] words) throws Exception {

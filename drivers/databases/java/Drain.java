@@ -8,7 +8,10 @@ import org.apache.activemq.ActiveMQConnectionFactory;
 import org.apache.activemq.ActiveMQXAConnection;
 import org.apache.activemq.ActiveMQXAConnectionFactory;
 
-/** What a broker holds: how many branches are prepared there, and then the texts of the queue, which it takes out. Usage: Drain URL. */
+/**
+ * What a broker holds: how many branches are prepared there, and then the texts of the queue, which
+ * it takes out. Usage: Drain URL.
+ */
 public class Drain {
     public static void main(String[] words) throws Exception {
         ActiveMQXAConnection xa = (ActiveMQXAConnection) new ActiveMQXAConnectionFactory(words[0]).createXAConnection();

@@ -6,9 +6,11 @@ import java.sql.Connection;
 import java.sql.Statement;
 
 /**
- * Ends its own process once the first of two databases has committed: the other is prepared then, and its commit decided.
+ * Ends its own process once the first of two databases has committed: the other is prepared then,
+ * and its commit decided.
  *
- * <p>Usage: Halt LOG PROGRAM URL URL TOKEN [MIRROR], that of the row which it writes to both, and the database that mirrors the log.
+ * <p>Usage: Halt LOG PROGRAM URL URL TOKEN [MIRROR], that of the row which it writes to both, and
+ * the database that mirrors the log.
  */
 public class Halt {
     public static void main(String[] words) throws Exception {

@@ -7,7 +7,10 @@ import javax.sql.XAConnection;
 import javax.sql.XADataSource;
 import javax.transaction.xa.XAResource;
 
-/** A database's XADataSource of which the next call of a name has something done before it or after it. */
+/**
+ * A database's XADataSource of which the next call of a name has something done before it or after
+ * it.
+ */
 final class Hooks {
     /** What is done: it gets the connection on which the call is made. */
     interface Hook {
@@ -60,7 +63,9 @@ final class Hooks {
         });
     }
 
-    /** The connection, whose statements have what comes before and after the calls that they make. */
+    /**
+     * The connection, whose statements have what comes before and after the calls that they make.
+     */
     private Connection hooked(Connection plain) {
         return proxy(Connection.class, plain, (method, words) -> {
             Object made = direct(plain, method, words);
@@ -71,7 +76,10 @@ final class Hooks {
         });
     }
 
-    /** The first call that a statement makes, and the last; none, if it makes none. MariaDB gets xa_end and xa_prepare by one. */
+    /**
+     * The first call that a statement makes, and the last; none, if it makes none. MariaDB gets
+     * xa_end and xa_prepare by one.
+     */
     private static String[] calls(String text) {
         return text.startsWith("BEGIN NOT ATOMIC XA END") ? new String[] {"end", "prepare"}
             : text.startsWith("PREPARE TRANSACTION") ? new String[] {"prepare", "prepare"}

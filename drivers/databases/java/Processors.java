@@ -7,7 +7,10 @@ import java.util.List;
 import java.util.Map;
 import java.util.StringJoiner;
 
-/** Seconds of processor that the programs of a transfer have taken so far, by their names, as Linux counts them for each process. */
+/**
+ * Seconds of processor that the programs of a transfer have taken so far, by their names, as Linux
+ * counts them for each process.
+ */
 record Processors(Map<String, Double> taken) {
     private static final List<String> PROGRAMS = List.of("java", "xatm", "postgres", "mariadbd");
     /** Linux counts in hundredths of a second. */
@@ -40,7 +43,10 @@ record Processors(Map<String, Double> taken) {
         taken.computeIfPresent(name, (program, sum) -> sum + seconds);
     }
 
-    /** What was taken since, for each of so many transfers, in microseconds: the programs' names, each with a figure. */
+    /**
+     * What was taken since, for each of so many transfers, in microseconds: the programs' names,
+     * each with a figure.
+     */
     String eachSince(Processors before, double transfers) {
         StringJoiner words = new StringJoiner(" ");
         taken.forEach((program, seconds) -> {

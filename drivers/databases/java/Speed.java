@@ -20,12 +20,13 @@ import javax.transaction.xa.XAResource;
 import javax.transaction.xa.Xid;
 
 /**
- * How many transfers a second are committed in two phases over two databases, from threads without an interpreter's lock: by
- * hand, through the coordinator {@code xatm serve}, and, where its class is on the path, through Bitronix.
+ * How many transfers a second are committed in two phases over two databases, from threads without
+ * an interpreter's lock: by hand, through the coordinator {@code xatm serve}, and, where its class
+ * is on the path, through Bitronix.
  *
- * <p>Usage: Speed URL URL FOLDER SECONDS ROUNDS THREADS PROGRAM LOG. Prints a line for each way and round: the way, how many, and the
- * microseconds of processor that each took of each program.
- * The PROGRAM is the coordinator.
+ * <p>Usage: Speed URL URL FOLDER SECONDS ROUNDS THREADS PROGRAM LOG. Prints a line for each way and
+ * round: the way, how many, and the microseconds of processor that each took of each program. The
+ * PROGRAM is the coordinator.
  */
 public class Speed {
     static final int ACCOUNTS = 128, RMS = 2;
@@ -119,7 +120,10 @@ public class Speed {
         }
     }
 
-    /** Each database is told to prepare and to commit, and nobody would know how to go on after a crash. */
+    /**
+     * Each database is told to prepare and to commit, and nobody would know how to go on after a
+     * crash.
+     */
     static final class ByHand implements Way {
         private final XADataSource[] sources;
         private final AtomicLong numbers = new AtomicLong(ThreadLocalRandom.current().nextLong(1L << 40));
@@ -222,7 +226,10 @@ public class Speed {
     record Rate(double rate, String cost) {
     }
 
-    /** Transfers a second on so many threads. The accounts of a thread are its own: nobody waits for a lock. */
+    /**
+     * Transfers a second on so many threads. The accounts of a thread are its own: nobody waits for
+     * a lock.
+     */
     static Rate rate(Way way, int threads, double seconds) throws Exception {
         ExecutorService pool = Executors.newFixedThreadPool(threads);
         List<Work> works = new ArrayList<>();

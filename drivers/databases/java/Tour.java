@@ -19,10 +19,11 @@ import javax.transaction.Transaction;
 import javax.transaction.xa.XAResource;
 
 /**
- * Stories over two databases, by JTA over drivers/java: how a transaction ends where all goes well, and where something goes wrong at each
- * of its moments. Each is looked at in the databases.
+ * Stories over two databases, by JTA over drivers/java: how a transaction ends where all goes well,
+ * and where something goes wrong at each of its moments. Each is looked at in the databases.
  *
- * <p>Usage: Tour FOLDER PROGRAM URL URL [PROCESSES], those of database 1. Prints a line for each story, and at the end 'N stories, M wrong'.
+ * <p>Usage: Tour FOLDER PROGRAM URL URL [PROCESSES], those of database 1. Prints a line for each
+ * story, and at the end 'N stories, M wrong'.
  */
 public class Tour {
     private static final String ENDED = "committed", UNDONE = "rolled back";
@@ -127,8 +128,9 @@ public class Tour {
     }
 
     /**
-     * The manager sees once a second whether the coordinator is there. A transaction that begins before that is rolled back. A process that was
-     * killed is there for a while still, so it is no sign of the next session.
+     * The manager sees once a second whether the coordinator is there. A transaction that begins
+     * before that is rolled back. A process that was killed is there for a while still, so it is no
+     * sign of the next session.
      */
     private void awaitNext() throws InterruptedException {
         long until = System.nanoTime() + 20_000_000_000L;
@@ -158,7 +160,10 @@ public class Tour {
         }
     }
 
-    /** Tells a story: both databases hold the work where it was committed, else none does; or one of them alone, if only that took part. */
+    /**
+     * Tells a story: both databases hold the work where it was committed, else none does; or one of
+     * them alone, if only that took part.
+     */
     private void story(String name, String wanted, List<Integer> over, Work work) {
         String token = UUID.randomUUID().toString().replace("-", ""), end;
         try {
@@ -283,7 +288,10 @@ public class Tour {
         });
     }
 
-    /** Another transaction waits for a row of this one, which then asks for one of that; and this one has done less, so it is rolled back. */
+    /**
+     * Another transaction waits for a row of this one, which then asks for one of that; and this
+     * one has done less, so it is rolled back.
+     */
     private void runIntoADeadlock() throws Exception {
         javax.sql.XAConnection xa = plain[1].getXAConnection();
         try (Connection other = xa.getConnection(); Statement statement = other.createStatement()) {
@@ -415,7 +423,10 @@ public class Tour {
         story("all goes well again", ENDED, this::writeBoth);
     }
 
-    /** One that a driver before this one prepared, in an earlier session: PostgreSQL's own driver named it, in base64. */
+    /**
+     * One that a driver before this one prepared, in an earlier session: PostgreSQL's own driver
+     * named it, in base64.
+     */
     private static boolean isOlderBranchEnded(Path folder, String program, XADataSource source) throws Exception {
         JdbcResource resource = JdbcResource.of("older", source);
         Manager.Builder builder = Manager.over(folder.resolve("older.db")).name("older").program(program).resource(resource);

@@ -8,11 +8,11 @@ import javax.transaction.TransactionManager;
 import javax.transaction.UserTransaction;
 
 /**
- * A program of JTA, as it was written against Bitronix: it moves money between two databases, and knows no transaction manager but what its
- * set-up gives it.
+ * A program of JTA, as it was written against Bitronix: it moves money between two databases, and
+ * knows no transaction manager but what its set-up gives it.
  *
- * <p>Usage: Transfers SETUP URL URL FOLDER [WORDS]. SETUP is the class of the set-up: BitronixSetUp, or GarterfossilSetUp. Nothing else
- * differs.
+ * <p>Usage: Transfers SETUP URL URL FOLDER [WORDS]. SETUP is the class of the set-up:
+ * BitronixSetUp, or GarterfossilSetUp. Nothing else differs.
  */
 public class Transfers {
     /** What is set up: a transaction manager, and a DataSource for each database. */

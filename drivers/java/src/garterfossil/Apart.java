@@ -11,7 +11,10 @@ import java.util.concurrent.TimeUnit;
 import java.util.concurrent.TimeoutException;
 import java.util.function.Consumer;
 
-/** Threads for what may wait for a resource that is silent: each such thing has one of its own, and keeps nothing else waiting. */
+/**
+ * Threads for what may wait for a resource that is silent: each such thing has one of its own, and
+ * keeps nothing else waiting.
+ */
 public final class Apart {
     private static final ExecutorService THREADS = new ThreadPoolExecutor(0, Integer.MAX_VALUE, 10, TimeUnit.SECONDS, new SynchronousQueue<>(),
         work -> {
@@ -29,8 +32,9 @@ public final class Apart {
     }
 
     /**
-     * Has work done, and waits so long for it: an interrupt waits, too. If it isn't over by then, what it makes goes to {@code late} once it is,
-     * and TimeoutException is thrown; else what the work throws.
+     * Has work done, and waits so long for it: an interrupt waits, too. If it isn't over by then,
+     * what it makes goes to {@code late} once it is, and TimeoutException is thrown; else what the
+     * work throws.
      */
     public static <T> T within(Duration longest, Callable<T> work, Consumer<T> late) throws Exception {
         CompletableFuture<T> made = new CompletableFuture<>();

@@ -5,7 +5,10 @@ import java.util.function.Supplier;
 import javax.transaction.xa.XAException;
 import javax.transaction.xa.XAResource;
 
-/** The part of a transaction at one resource, over one connection. Its transaction has it make calls, one after the other. */
+/**
+ * The part of a transaction at one resource, over one connection. Its transaction has it make
+ * calls, one after the other.
+ */
 final class Branch {
     private static final Duration A_SECOND = Duration.ofSeconds(1), SHORTLY = Duration.ofSeconds(3);
     private static final String NO_MORE_WORK = "the transaction is over for this connection: get a new one";
@@ -53,12 +56,18 @@ final class Branch {
         return link() != null && link().isLetOut();
     }
 
-    /** The time of its transaction is over: its rollback may take some seconds. Then its connection is given up, which ends it too. */
+    /**
+     * The time of its transaction is over: its rollback may take some seconds. Then its connection
+     * is given up, which ends it too.
+     */
     void makeHaste() {
         isInHaste = true;
     }
 
-    /** How long the calls that follow may take: before the decision no longer than the transaction, but a second at least. */
+    /**
+     * How long the calls that follow may take: before the decision no longer than the transaction,
+     * but a second at least.
+     */
     private void bound(boolean isBeforeDecision) {
         if (lease == null) {
             return;
@@ -165,7 +174,9 @@ final class Branch {
         });
     }
 
-    /** The resource has said by xa_end that the branch can only be rolled back: that is its vote. */
+    /**
+     * The resource has said by xa_end that the branch can only be rolled back: that is its vote.
+     */
     private int rolledBack(int vote) throws Fault.Lost {
         Calls.end("xa_rollback", resource, xid);
         return vote;
@@ -225,14 +236,18 @@ final class Branch {
         return error;
     }
 
-    /** The connection is given up, and closed; work that can't be prepared is undone as far as that can be done here. */
+    /**
+     * The connection is given up, and closed; work that can't be prepared is undone as far as that
+     * can be done here.
+     */
     void abandon(String why) {
         if (isLost) {
             return;
         }
         boolean isQuiet = gate.shut(why, 0) && !isCut();
         isLost = true;
-        // Behind a rollback a connection is an ordinary one again, and so must not be the program's any more.
+        // Behind a rollback a connection is an ordinary one again, and so must not be the program's
+        // any more.
         if (isQuiet && isBegun && !isPrepareMade && !isOver && !isLetOut()) {
             undoHere();
         }

@@ -7,8 +7,8 @@ import java.util.HexFormat;
 import javax.transaction.xa.Xid;
 
 /**
- * The identifier of a branch. That of a manager has format 7, the manager's name and 16 bytes of the transaction, 4 bytes of the thread and 4
- * of the resource manager.
+ * The identifier of a branch. That of a manager has format 7, the manager's name and 16 bytes of
+ * the transaction, 4 bytes of the thread and 4 of the resource manager.
  */
 public final class BranchXid implements Xid {
     static final int FORMAT = 7;
@@ -26,7 +26,9 @@ public final class BranchXid implements Xid {
         this.bqual = bqual.clone();
     }
 
-    /** The branch of a transaction, by its 32 digits, on the line of a thread to a resource manager. */
+    /**
+     * The branch of a transaction, by its 32 digits, on the line of a thread to a resource manager.
+     */
     static BranchXid of(String name, String transaction, int thread, int rm) {
         byte[] bytes = name.getBytes(StandardCharsets.US_ASCII);
         byte[] gtrid = Arrays.copyOf(bytes, bytes.length + TRANSACTION);
@@ -34,7 +36,10 @@ public final class BranchXid implements Xid {
         return new BranchXid(FORMAT, gtrid, ByteBuffer.allocate(QUALIFIER).putInt(thread).putInt(rm).array());
     }
 
-    /** The one that the coordinator's text names, as in {@code 7:<digits>:<digits>}. Throws IllegalArgumentException if it names none. */
+    /**
+     * The one that the coordinator's text names, as in {@code 7:<digits>:<digits>}. Throws
+     * IllegalArgumentException if it names none.
+     */
     public static BranchXid parse(String text) {
         String[] parts = text.split(":", -1);
         if (parts.length != 3) {

@@ -8,7 +8,10 @@ import java.util.concurrent.CopyOnWriteArrayList;
 import java.util.stream.Collectors;
 import javax.transaction.xa.XAResource;
 
-/** The branches of a transaction, in the order in which they began, and the thread of the coordinator that it has from the first one on. */
+/**
+ * The branches of a transaction, in the order in which they began, and the thread of the
+ * coordinator that it has from the first one on.
+ */
 final class Branches {
     private final GlobalTransaction transaction;
     private final Manager manager;
@@ -129,17 +132,26 @@ final class Branches {
         all.forEach(branch -> branch.gate.cancel());
     }
 
-    /** Lets no work in any more. To cut short what is inside may take long at a resource that is silent, so each branch does that by itself. */
+    /**
+     * Lets no work in any more. To cut short what is inside may take long at a resource that is
+     * silent, so each branch does that by itself.
+     */
     void bar(String why) {
         all.forEach(branch -> branch.gate.bar(why));
     }
 
-    /** The session is over: their connections are closed, and work that isn't prepared is undone as far as that can be done here. */
+    /**
+     * The session is over: their connections are closed, and work that isn't prepared is undone as
+     * far as that can be done here.
+     */
     void abandon(String why) {
         all.forEach(branch -> branch.abandon(why));
     }
 
-    /** The transaction is over: the connections go back to their pools, and its thread to the session. */
+    /**
+     * The transaction is over: the connections go back to their pools, and its thread to the
+     * session.
+     */
     void release() {
         if (slot != null) {
             Session.Slot over = slot;
@@ -148,7 +160,10 @@ final class Branches {
         }
     }
 
-    /** Releases the branches that are left, and then the thread: whatever goes wrong with one, the others are released. */
+    /**
+     * Releases the branches that are left, and then the thread: whatever goes wrong with one, the
+     * others are released.
+     */
     private void release(Iterator<Branch> left, Session.Slot over) {
         if (!left.hasNext()) {
             session.remove(transaction);

@@ -5,7 +5,10 @@ import java.time.Duration;
 import java.util.List;
 import java.util.stream.Collectors;
 
-/** One branch in doubt that is ended by hand: as its log says, which is held until this is closed, so that no coordinator decides otherwise. */
+/**
+ * One branch in doubt that is ended by hand: as its log says, which is held until this is closed,
+ * so that no coordinator decides otherwise.
+ */
 final class ByHand implements AutoCloseable {
     private final Resource resource;
     private final BranchXid xid;

@@ -10,9 +10,9 @@ import javax.transaction.xa.XAResource;
 import javax.transaction.xa.Xid;
 
 /**
- * Makes XA's calls: how each was answered, by its code (C193, chapter 5). What an answer means is the
- * coordinator's to know. What isn't among the answers that docs/MOVES.md has of a call is none: the
- * connection is lost, and nobody knows what was done.
+ * Makes XA's calls: how each was answered, by its code (C193, chapter 5). What an answer means is
+ * the coordinator's to know. What isn't among the answers that docs/MOVES.md has of a call is none:
+ * the connection is lost, and nobody knows what was done.
  */
 final class Calls {
     /** A call. */
@@ -23,7 +23,10 @@ final class Calls {
     private Calls() {
     }
 
-    /** xa_end, xa_prepare, or xa_commit in one phase, which may also say that the branch was rolled back. */
+    /**
+     * xa_end, xa_prepare, or xa_commit in one phase, which may also say that the branch was rolled
+     * back.
+     */
     static int answer(String name, Call call) throws Fault.Lost {
         try {
             return call.made();
@@ -65,7 +68,8 @@ final class Calls {
         if (isEnd || isCommit || code == Code.NOTA) {
             return code;
         }
-        // Those that keep nothing of what ended by itself say that they can't, in one way or another.
+        // Those that keep nothing of what ended by itself say that they can't, in one way or
+        // another.
         if (call.equals("xa_forget") && code != XAException.XAER_RMFAIL) {
             return XAException.XAER_RMERR;
         }
@@ -79,7 +83,10 @@ final class Calls {
         }
     }
 
-    /** The branches of managers, of whatever names, that a resource lists: in several parts, if it does so. */
+    /**
+     * The branches of managers, of whatever names, that a resource lists: in several parts, if it
+     * does so.
+     */
     static List<BranchXid> listed(XAResource resource) throws Fault.Lost {
         Set<BranchXid> found = new LinkedHashSet<>();
         try {

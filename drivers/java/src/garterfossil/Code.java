@@ -17,7 +17,8 @@ final class Code {
     static {
         for (Field field : XAException.class.getFields()) {
             try {
-                // XA_RBBASE and XA_RBEND are the first and the last of some that have names of their own.
+                // XA_RBBASE and XA_RBEND are the first and the last of some that have names of
+                // their own.
                 if (Modifier.isStatic(field.getModifiers()) && field.getType() == int.class && !field.getName().matches("XA_RB(BASE|END)")) {
                     NAMES.put(field.getInt(null), field.getName());
                 }
@@ -40,7 +41,10 @@ final class Code {
         return code >= HEURMIX && code <= HEURHAZ;
     }
 
-    /** Whether the answer to a call that ends a prepared branch says that the resource had ended it by itself. */
+    /**
+     * Whether the answer to a call that ends a prepared branch says that the resource had ended it
+     * by itself.
+     */
     static boolean isAlone(String call, int code) {
         return isHeuristic(code) || call.equals("xa_commit") && (isRollback(code) || code == XAException.XAER_RMERR);
     }

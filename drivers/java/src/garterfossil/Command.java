@@ -24,11 +24,13 @@ import javax.sql.DataSource;
 import javax.sql.XADataSource;
 
 /**
- * The command line: {@code java -cp .. garterfossil.Command status FILE}, and what {@link #USAGE} has. The file has properties: {@code log}, {@code
- * program}, and of each resource {@code resource.NAME.class}, its XADataSource or XAConnectionFactory, and what is to be set on that, as {@code
- * resource.NAME.url}; and of a mirror so too {@code mirror.class}, a DataSource.
+ * The command line: {@code java -cp .. garterfossil.Command status FILE}, and what {@link #USAGE}
+ * has. The file has properties: {@code log}, {@code program}, and of each resource {@code
+ * resource.NAME.class}, its XADataSource or XAConnectionFactory, and what is to be set on that, as
+ * {@code resource.NAME.url}; and of a mirror so too {@code mirror.class}, a DataSource.
  *
- * <p>The status is 0; or 1 if something is in doubt still, or wasn't ended; or 2 if a resource, or the log, can't be had.
+ * <p>The status is 0; or 1 if something is in doubt still, or wasn't ended; or 2 if a resource, or
+ * the log, can't be had.
  */
 public final class Command {
     private static final String USAGE = "usage: garterfossil.Command status FILE\n"

@@ -4,7 +4,10 @@ import java.lang.System.Logger.Level;
 import java.util.ArrayList;
 import java.util.List;
 
-/** What a program wants to do around the end of a transaction. What is interposed comes closest to the end: last before it, first after it. */
+/**
+ * What a program wants to do around the end of a transaction. What is interposed comes closest to
+ * the end: last before it, first after it.
+ */
 final class Completions {
     private final List<Completion> plain = new ArrayList<>(), interposed = new ArrayList<>();
 
@@ -17,7 +20,9 @@ final class Completions {
         return place < of.size() ? of.get(place) : null;
     }
 
-    /** Before the end, as long as the transaction may still be committed. One may register others. */
+    /**
+     * Before the end, as long as the transaction may still be committed. One may register others.
+     */
     void before(GlobalTransaction transaction) {
         try {
             beforeEach(plain, transaction);

@@ -20,20 +20,29 @@ import java.util.concurrent.locks.LockSupport;
 import java.util.concurrent.locks.ReentrantLock;
 
 /**
- * The coordinator: {@code xatm serve --moves}, a process that this one starts, and that says what to do (docs/MOVES.md).
+ * The coordinator: {@code xatm serve --moves}, a process that this one starts, and that says what
+ * to do (docs/MOVES.md).
  *
- * <p>Any thread may ask. What is posted is written with the next move that is waited for, and the replies come in the order of the lines:
- * whichever thread waits reads what has come, and wakes the threads whose replies are among it. Moves that may lead to a decision are
- * gathered: while a line of such has no reply, those of other threads wait, and then go on one line, which is one write of the log.
+ * <p>Any thread may ask. What is posted is written with the next move that is waited for, and the
+ * replies come in the order of the lines: whichever thread waits reads what has come, and wakes the
+ * threads whose replies are among it. Moves that may lead to a decision are gathered: while a line
+ * of such has no reply, those of other threads wait, and then go on one line, which is one write of
+ * the log.
  */
 class Coordinator {
     /** Stands between the moves of a line, and between their replies. */
     static final String AND = ";";
-    /** So many moves may be written without a reply that was read: their replies fit into the pipe, so neither side blocks the other. */
+    /**
+     * So many moves may be written without a reply that was read: their replies fit into the pipe,
+     * so neither side blocks the other.
+     */
     private static final int AHEAD = 400;
     private static final String PROTOCOL = "1";
     static final String OLDER = "older than this driver";
-    /** So the coordinator gets a process group of its own: Ctrl-C in a terminal is for the program alone. */
+    /**
+     * So the coordinator gets a process group of its own: Ctrl-C in a terminal is for the program
+     * alone.
+     */
     private static final File SETSID = new File("/usr/bin/setsid");
 
     /** A move that is on its way, and the place of its reply. */
@@ -64,15 +73,18 @@ class Coordinator {
     private final Process process;
     private final OutputStream output;
     private final InputStream input;
-    // What is to be written: each on a line of its own, and what is gathered. Whoever has the lock writes.
+    // What is to be written: each on a line of its own, and what is gathered. Whoever has the lock
+    // writes.
     private final Queue<Reply> unwritten = new ConcurrentLinkedQueue<>(), gathered = new ConcurrentLinkedQueue<>();
     private final ReentrantLock writing = new ReentrantLock();
     private final ByteArrayOutputStream block = new ByteArrayOutputStream(8192);
-    // The lines without a reply, in the order in which they are written, and whether a gathered one is among them.
+    // The lines without a reply, in the order in which they are written, and whether a gathered one
+    // is among them.
     private final Queue<Line> waiting = new ConcurrentLinkedQueue<>();
     private volatile boolean isDeciding;
     private volatile long written;
-    // Whether a thread reads, and those whose threads sleep meanwhile. What follows is the reader's.
+    // Whether a thread reads, and those whose threads sleep meanwhile. What follows is the
+    // reader's.
     private final AtomicBoolean isRead = new AtomicBoolean();
     private final Queue<Reply> asleep = new ConcurrentLinkedQueue<>();
     // The second line of the start, if it came with the first.
@@ -92,7 +104,10 @@ class Coordinator {
         Process start(List<String> words) throws IOException;
     }
 
-    /** Starts the process, of which the first lines are waited for so long: the session begins with one of its own. */
+    /**
+     * Starts the process, of which the first lines are waited for so long: the session begins with
+     * one of its own.
+     */
     Coordinator(Starter starter, List<String> words, Duration patience) throws Fault.Gone {
         try {
             process = starter.start(words);
@@ -164,7 +179,10 @@ class Coordinator {
         return await(post(move));
     }
 
-    /** The same of a move of a thread: what it is told. A reply that is none ends the session, since nobody knows what was done. */
+    /**
+     * The same of a move of a thread: what it is told. A reply that is none ends the session, since
+     * nobody knows what was done.
+     */
     Told told(Reply reply) throws Fault.Gone, Fault.Refused {
         String text = await(reply);
         try {
@@ -181,14 +199,19 @@ class Coordinator {
         return reply;
     }
 
-    /** Puts a move of a thread on its way that may lead to a decision: with those of other threads. */
+    /**
+     * Puts a move of a thread on its way that may lead to a decision: with those of other threads.
+     */
     Reply gather(String move) {
         Reply reply = new Reply(move);
         gathered.add(reply);
         return reply;
     }
 
-    /** Sees that what was posted is written: now, or once a decision that is under way is made, since nothing else is done before that. */
+    /**
+     * Sees that what was posted is written: now, or once a decision that is under way is made,
+     * since nothing else is done before that.
+     */
     void flush() throws Fault.Gone {
         if (!isDeciding) {
             write();
@@ -226,7 +249,10 @@ class Coordinator {
         }
     }
 
-    /** The same by the thread that reads, behind the reply to a decision, so that the next one is made at once. It waits for no reply. */
+    /**
+     * The same by the thread that reads, behind the reply to a decision, so that the next one is
+     * made at once. It waits for no reply.
+     */
     private void writeNext() {
         try {
             write(false);
@@ -296,7 +322,10 @@ class Coordinator {
         output.flush();
     }
 
-    /** Waits until more moves may be written. It isn't woken by the reply to the oldest, for which another may wait. */
+    /**
+     * Waits until more moves may be written. It isn't woken by the reply to the oldest, for which
+     * another may wait.
+     */
     private void seeReplies() throws IOException {
         for (Line first = waiting.peek(); isFull() && first != null && fault == null; first = waiting.peek()) {
             if (isRead.compareAndSet(false, true)) {
@@ -309,7 +338,10 @@ class Coordinator {
 
     // ** its output
 
-    /** Waits for a reply: reads, or lets another thread read, which wakes this one. An interrupt waits: what was asked for is done. */
+    /**
+     * Waits for a reply: reads, or lets another thread read, which wakes this one. An interrupt
+     * waits: what was asked for is done.
+     */
     private void readUntil(Reply reply) throws IOException {
         boolean isInterrupted = false;
         while (reply.text == null && fault == null) {
@@ -328,7 +360,10 @@ class Coordinator {
         }
     }
 
-    /** Reads what has come already, since replies that nobody waits for would look as if they never came. */
+    /**
+     * Reads what has come already, since replies that nobody waits for would look as if they never
+     * came.
+     */
     void readWhatCame() throws Fault.Gone {
         if (isRead.compareAndSet(false, true)) {
             try {
@@ -346,7 +381,8 @@ class Coordinator {
                 read();
             }
         } catch (RuntimeException | Error error) {
-            // Of what came a part may be given out, and the rest is lost: the next line would be taken for another's reply.
+            // Of what came a part may be given out, and the rest is lost: the next line would be
+            // taken for another's reply.
             failed(error);
         } finally {
             isRead.set(false);
@@ -354,7 +390,10 @@ class Coordinator {
         }
     }
 
-    /** Sleeps while another thread reads, until that has the reply, or it is this one's turn to read. */
+    /**
+     * Sleeps while another thread reads, until that has the reply, or it is this one's turn to
+     * read.
+     */
     private void sleepUnlessRead(Reply reply) {
         reply.waiter = Thread.currentThread();
         asleep.add(reply);
@@ -393,7 +432,8 @@ class Coordinator {
         }
         begun = end - from;
         System.arraycopy(came, from, came, 0, begun);
-        // What was gathered meanwhile goes first: the coordinator needn't wait until another thread runs.
+        // What was gathered meanwhile goes first: the coordinator needn't wait until another thread
+        // runs.
         if (isDecided || isPutOff) {
             writeNext();
         }
@@ -432,7 +472,10 @@ class Coordinator {
         return waiting.peek();
     }
 
-    /** Ends the session, and waits for the end of the process. What is open stays in doubt, as after a crash. */
+    /**
+     * Ends the session, and waits for the end of the process. What is open stays in doubt, as after
+     * a crash.
+     */
     void quit() {
         try {
             ask("quit");
@@ -453,7 +496,10 @@ class Coordinator {
         }
     }
 
-    /** An error of the driver itself ends the session: the next one finds what is open, and what is decided. */
+    /**
+     * An error of the driver itself ends the session: the next one finds what is open, and what is
+     * decided.
+     */
     Fault.Gone failed(Throwable error) {
         String reason = "an error of the driver";
         try {
@@ -474,7 +520,10 @@ class Coordinator {
         return lost();
     }
 
-    /** Sees that the process has ended, wakes who waits, and keeps the reason: also where there is no memory for more. */
+    /**
+     * Sees that the process has ended, wakes who waits, and keeps the reason: also where there is
+     * no memory for more.
+     */
     private void end(String reason) {
         try {
             synchronized (ending) {

@@ -6,7 +6,9 @@ import java.util.LinkedHashMap;
 import java.util.List;
 import java.util.Map;
 
-/** Counts of what a manager has done since it was made; the names are those of the driver in Python. */
+/**
+ * Counts of what a manager has done since it was made; the names are those of the driver in Python.
+ */
 final class Counts {
     /** So many ends are told, the last ones. */
     private static final int MOST_TOLD = 100;

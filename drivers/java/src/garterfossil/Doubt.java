@@ -7,9 +7,15 @@ import java.util.TreeMap;
 import java.util.function.Supplier;
 import java.util.stream.Collectors;
 
-/** What is in doubt at the resources of a log, as they list it. It only looks: no session begins, and nothing is ended. */
+/**
+ * What is in doubt at the resources of a log, as they list it. It only looks: no session begins,
+ * and nothing is ended.
+ */
 public final class Doubt {
-    /** While a program has the log, a branch is in doubt once it was listed for so many seconds: what waits for a decision is listed, too. */
+    /**
+     * While a program has the log, a branch is in doubt once it was listed for so many seconds:
+     * what waits for a decision is listed, too.
+     */
     static final long YOUNG = 10;
     private static final long PAUSE_MILLIS = 300;
     /** So many branches of another manager are told. */
@@ -21,7 +27,10 @@ public final class Doubt {
     private int branches, unreachable;
     private long seconds;
 
-    /** That of a log which holds this, as the resources list it; of a program that has the log without what is listed for less than so long. */
+    /**
+     * That of a log which holds this, as the resources list it; of a program that has the log
+     * without what is listed for less than so long.
+     */
     Doubt(String log, KeptLog kept, Supplier<List<Listing>> look, long young) throws Fault.Unavailable {
         this.kept = kept;
         this.young = young;
@@ -40,7 +49,10 @@ public final class Doubt {
         }
     }
 
-    /** What they list by their numbers: of a manager that has its log without what it is about to end. */
+    /**
+     * What they list by their numbers: of a manager that has its log without what it is about to
+     * end.
+     */
     private Map<Integer, Listing> settled(Supplier<List<Listing>> look) throws Fault.Unavailable {
         Map<Integer, Listing> found = numbered(look.get());
         long begun = System.nanoTime();

@@ -7,8 +7,8 @@ import java.util.concurrent.ConcurrentHashMap;
 import java.util.concurrent.TimeUnit;
 
 /**
- * Transactions whose votes were told, and to which the coordinator didn't reply before it ended: the very
- * next session knows what became of them.
+ * Transactions whose votes were told, and to which the coordinator didn't reply before it ended:
+ * the very next session knows what became of them.
  */
 final class Fates {
     private final Map<String, CompletableFuture<Outcome>> expected = new ConcurrentHashMap<>();

@@ -24,7 +24,10 @@ public abstract class Fault extends Exception {
         }
     }
 
-    /** The coordinator says that a move isn't one, or not now, and nothing has changed (docs/MOVES.md). */
+    /**
+     * The coordinator says that a move isn't one, or not now, and nothing has changed
+     * (docs/MOVES.md).
+     */
     public static final class Refused extends Fault {
         private static final long serialVersionUID = 1;
 
@@ -33,7 +36,10 @@ public abstract class Fault extends Exception {
         }
     }
 
-    /** A connection is lost, or there is none, or a resource has no answer: nobody knows whether the call that was under way was done. */
+    /**
+     * A connection is lost, or there is none, or a resource has no answer: nobody knows whether the
+     * call that was under way was done.
+     */
     public static final class Lost extends Fault {
         private static final long serialVersionUID = 1;
 
@@ -57,7 +63,10 @@ public abstract class Fault extends Exception {
         }
     }
 
-    /** The transaction is rolled back at each resource. One that can't be reached now is told so as soon as it can. */
+    /**
+     * The transaction is rolled back at each resource. One that can't be reached now is told so as
+     * soon as it can.
+     */
     public static final class RolledBack extends Fault {
         private static final long serialVersionUID = 1;
 
@@ -66,7 +75,10 @@ public abstract class Fault extends Exception {
         }
     }
 
-    /** Nobody could tell how the transaction ended. Over several resources it ends at all of them alike. */
+    /**
+     * Nobody could tell how the transaction ended. Over several resources it ends at all of them
+     * alike.
+     */
     public static final class OutcomeUnknown extends Fault {
         private static final long serialVersionUID = 1;
 

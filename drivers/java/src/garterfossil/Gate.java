@@ -4,8 +4,9 @@ import java.util.concurrent.TimeUnit;
 import java.util.concurrent.locks.ReentrantLock;
 
 /**
- * Lets the program's work on a connection through until it is shut. After xa_end a connection is an ordinary one again, and a
- * statement on it would be committed by itself: so whoever ends a branch shuts its gate first.
+ * Lets the program's work on a connection through until it is shut. After xa_end a connection is an
+ * ordinary one again, and a statement on it would be committed by itself: so whoever ends a branch
+ * shuts its gate first.
  */
 public final class Gate {
     /** What may be cut short, as a statement that runs. */
@@ -46,7 +47,10 @@ public final class Gate {
         reason = reason == null ? because : reason;
     }
 
-    /** The same, and waits so many milliseconds for what is inside, if that is more than none, and then cuts it short. False if it doesn't end. */
+    /**
+     * The same, and waits so many milliseconds for what is inside, if that is more than none, and
+     * then cuts it short. False if it doesn't end.
+     */
     boolean shut(String because, long patience) {
         bar(because);
         if (isLeft(patience)) {

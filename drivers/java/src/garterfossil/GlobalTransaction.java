@@ -13,7 +13,10 @@ import java.util.concurrent.TimeUnit;
 import java.util.concurrent.locks.ReentrantLock;
 import javax.transaction.xa.XAResource;
 
-/** A transaction over any number of resources: either all its branches are committed, or all are rolled back. */
+/**
+ * A transaction over any number of resources: either all its branches are committed, or all are
+ * rolled back.
+ */
 public final class GlobalTransaction {
     /** A branch as the program has it. */
     public static final class Enlisted {
@@ -34,7 +37,10 @@ public final class GlobalTransaction {
         }
     }
 
-    /** After a time-out its thread has so long to ask for its end, and to be told. Then the synchronizations are called all the same. */
+    /**
+     * After a time-out its thread has so long to ask for its end, and to be told. Then the
+     * synchronizations are called all the same.
+     */
     private static final Duration TO_HEAR = Duration.ofSeconds(5);
 
     private final Manager manager;
@@ -102,7 +108,10 @@ public final class GlobalTransaction {
         return fault;
     }
 
-    /** Whether somebody called for its end, and it is over. One that is rolled back by its time-out isn't ended: its program is to hear of it. */
+    /**
+     * Whether somebody called for its end, and it is over. One that is rolled back by its time-out
+     * isn't ended: its program is to hear of it.
+     */
     public boolean isEnded() {
         return isEnded;
     }
@@ -122,7 +131,10 @@ public final class GlobalTransaction {
         things.put(key, thing);
     }
 
-    /** Has something done around its end. What is interposed comes closest to the end: last before it, first after it. */
+    /**
+     * Has something done around its end. What is interposed comes closest to the end: last before
+     * it, first after it.
+     */
     public void register(Completion completion, boolean isInterposed) throws Fault.Unavailable {
         requireOpen();
         completions.add(completion, isInterposed);
@@ -152,7 +164,10 @@ public final class GlobalTransaction {
         }
     }
 
-    /** The same since something failed. That is told also where it had called setRollbackOnly before. */
+    /**
+     * The same since something failed. That is told also where it had called setRollbackOnly
+     * before.
+     */
     synchronized void fail(String why, Throwable because) {
         if (cause == null || cause instanceof Marked) {
             fault = why;
@@ -185,7 +200,10 @@ public final class GlobalTransaction {
         }
     }
 
-    /** Cuts short what runs, and rolls it back. False if that isn't over yet, and the next try may do it. */
+    /**
+     * Cuts short what runs, and rolls it back. False if that isn't over yet, and the next try may
+     * do it.
+     */
     boolean rollBackSince(String why) {
         mark(why, null);
         if (!lock.tryLock()) {
@@ -210,7 +228,9 @@ public final class GlobalTransaction {
 
     // ** its branches
 
-    /** The branch at a resource, over a connection of the pool. It begins as it is first asked for. */
+    /**
+     * The branch at a resource, over a connection of the pool. It begins as it is first asked for.
+     */
     public Enlisted enlist(Resource resource) throws Fault {
         return new Enlisted(branchAt(resource, null));
     }
@@ -253,7 +273,10 @@ public final class GlobalTransaction {
         }
     }
 
-    /** The work on a connection that the program brought is over. Its branch ends with the transaction. False if it has none. */
+    /**
+     * The work on a connection that the program brought is over. Its branch ends with the
+     * transaction. False if it has none.
+     */
     public boolean delist(XAResource xaResource, boolean isFailed) {
         Optional<Branch> found = branches.of(xaResource);
         if (found.isPresent() && isFailed) {
@@ -276,7 +299,10 @@ public final class GlobalTransaction {
 
     // ** its end
 
-    /** Commits it. Once this returns the decision is in the log, and whatever ends then, each branch is committed. */
+    /**
+     * Commits it. Once this returns the decision is in the log, and whatever ends then, each branch
+     * is committed.
+     */
     public void commit() throws Fault {
         requireNotEnded();
         if (outcome.isOpen()) {
@@ -380,7 +406,10 @@ public final class GlobalTransaction {
         }
     }
 
-    /** The coordinator ended meanwhile: how the transaction ends. The next session ends the branches, too. */
+    /**
+     * The coordinator ended meanwhile: how the transaction ends. The next session ends the
+     * branches, too.
+     */
     private void seeFate(Hands hands, Fault.Gone gone) throws Fault {
         if (hands.sure() == null) {
             // Whoever begins the next session needn't wait for this thread, which waits for that.
@@ -442,7 +471,10 @@ public final class GlobalTransaction {
         }
     }
 
-    /** The session is over: the work is undone, and its connections are closed. A call that its thread makes is waited for until then. */
+    /**
+     * The session is over: the work is undone, and its connections are closed. A call that its
+     * thread makes is waited for until then.
+     */
     void abandon(long until) {
         if (isGivenUp) {
             return;

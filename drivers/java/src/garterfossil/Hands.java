@@ -6,8 +6,8 @@ import java.util.Set;
 import java.util.stream.Collectors;
 
 /**
- * The calls of a transaction's end: what the coordinator tells is made, and told as it was answered, until it tells the outcome. Nothing is
- * decided here (docs/MOVES.md).
+ * The calls of a transaction's end: what the coordinator tells is made, and told as it was
+ * answered, until it tells the outcome. Nothing is decided here (docs/MOVES.md).
  */
 final class Hands {
     /** The calls after which a transaction is over if all succeed; and what is told after votes. */
@@ -42,7 +42,9 @@ final class Hands {
         }
     }
 
-    /** Rolls back. With {@code isApart} no branch waits for another: one's resource may be silent. */
+    /**
+     * Rolls back. With {@code isApart} no branch waits for another: one's resource may be silent.
+     */
     Told rollBack(boolean isApart) throws Fault.Gone {
         try {
             return conduct(slot.end("rollback"), isApart);
@@ -51,7 +53,10 @@ final class Hands {
         }
     }
 
-    /** What becomes of the transaction now that the coordinator has ended; null if the next session knows. */
+    /**
+     * What becomes of the transaction now that the coordinator has ended; null if the next session
+     * knows.
+     */
     Outcome sure() {
         return sure;
     }
@@ -140,7 +145,10 @@ final class Hands {
         note(told.verb, called);
     }
 
-    /** What the answers say, if the coordinator ends before its next reply (docs/MOVES.md, "If the coordinator ends"). */
+    /**
+     * What the answers say, if the coordinator ends before its next reply (docs/MOVES.md, "If the
+     * coordinator ends").
+     */
     private void note(String verb, List<Branch> called) {
         boolean isYes = called.stream().allMatch(it -> !it.isLost() && (it.code() == Code.OK || it.code() == Code.RDONLY));
         if (verb.equals("prepare")) {

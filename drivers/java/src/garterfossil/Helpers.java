@@ -12,8 +12,9 @@ import java.util.concurrent.TimeUnit;
 import java.util.concurrent.atomic.AtomicInteger;
 
 /**
- * Threads that make calls at several resources at the same time: the thread that asks makes one, and each helper that is free another.
- * What no helper has begun by then the thread makes itself, so it never waits for a helper to come free.
+ * Threads that make calls at several resources at the same time: the thread that asks makes one,
+ * and each helper that is free another. What no helper has begun by then the thread makes itself,
+ * so it never waits for a helper to come free.
  */
 final class Helpers {
     /** What is done for each of several branches. */
@@ -42,10 +43,12 @@ final class Helpers {
     }
 
     /**
-     * Makes a step for each branch, and returns once all are made. Where the processors are busy, this thread makes them all: a helper
-     * would only cost one the time to change threads. A branch on a connection of the program's own stays in this thread, too.
+     * Makes a step for each branch, and returns once all are made. Where the processors are busy,
+     * this thread makes them all: a helper would only cost one the time to change threads. A branch
+     * on a connection of the program's own stays in this thread, too.
      *
-     * <p>With {@code isApart} each has a thread of its own in any case, since a resource may be silent, and keeps no other waiting.
+     * <p>With {@code isApart} each has a thread of its own in any case, since a resource may be
+     * silent, and keeps no other waiting.
      */
     void each(List<Branch> branches, boolean isApart, boolean isBusy, Step step) {
         List<FutureTask<Void>> parts = new ArrayList<>(branches.size());

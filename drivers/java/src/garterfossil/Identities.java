@@ -18,11 +18,13 @@ import java.util.TreeMap;
 import java.util.concurrent.ConcurrentHashMap;
 
 /**
- * Which databases a log belongs to. Each calls itself by something that no other one has, and the file PATH-databases beside the log keeps that
- * from its first use: another database in its place would be asked about branches that it never had, and would answer that there are none.
+ * Which databases a log belongs to. Each calls itself by something that no other one has, and the
+ * file PATH-databases beside the log keeps that from its first use: another database in its place
+ * would be asked about branches that it never had, and would answer that there are none.
  *
- * <p>The file is the same as that of the driver in Python, so that both may use one log. It keeps the last session's number, too: a log that
- * is older than it would roll back what was decided since.
+ * <p>The file is the same as that of the driver in Python, so that both may use one log. It keeps
+ * the last session's number, too: a log that is older than it would roll back what was decided
+ * since.
  */
 final class Identities {
     private static final long VERSION = 1;
@@ -49,7 +51,10 @@ final class Identities {
     private long incarnation;
     private String shut;
 
-    /** Those of the log at a path, of the manager of this name. A new log belongs to no database yet. */
+    /**
+     * Those of the log at a path, of the manager of this name. A new log belongs to no database
+     * yet.
+     */
     Identities(Path log, String manager, boolean isNew) throws Fault.Unavailable {
         this.log = log;
         this.manager = manager;
@@ -170,7 +175,10 @@ final class Identities {
         return text + " Nothing was asked of it. Put the right one back; if its data were moved, and nothing is in doubt, remove " + file;
     }
 
-    /** Why the resource of a number isn't the one that it was, as its last connection told; null if it is, or nobody knows. */
+    /**
+     * Why the resource of a number isn't the one that it was, as its last connection told; null if
+     * it is, or nobody knows.
+     */
     synchronized String wrong(int number) {
         return wrong.get(number);
     }
@@ -185,7 +193,10 @@ final class Identities {
         }
     }
 
-    /** No session is to begin over the log until somebody has looked, also in another run of the program. */
+    /**
+     * No session is to begin over the log until somebody has looked, also in another run of the
+     * program.
+     */
     synchronized void shut(String why) {
         shut = why;
         try {

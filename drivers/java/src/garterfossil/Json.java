@@ -6,9 +6,15 @@ import java.util.LinkedHashMap;
 import java.util.List;
 import java.util.Map;
 
-/** JSON, as far as the file beside a log needs it: maps, lists, texts, whole numbers, true, false and null. */
+/**
+ * JSON, as far as the file beside a log needs it: maps, lists, texts, whole numbers, true, false
+ * and null.
+ */
 final class Json {
-    /** So many maps and lists may stand in one another: the file has three, and each takes some of the thread's stack. */
+    /**
+     * So many maps and lists may stand in one another: the file has three, and each takes some of
+     * the thread's stack.
+     */
     private static final int DEEPEST = 64;
 
     private final String text;

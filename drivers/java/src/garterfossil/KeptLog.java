@@ -19,10 +19,12 @@ import java.util.regex.Pattern;
 import java.util.stream.Collectors;
 
 /**
- * What a log holds, as {@code xatm log} prints it: the names that it keeps of its manager and of the resources, by their numbers, which stand in
- * the identifiers of branches and never change (docs/LOG.md); its last session; and its rows.
+ * What a log holds, as {@code xatm log} prints it: the names that it keeps of its manager and of
+ * the resources, by their numbers, which stand in the identifiers of branches and never change
+ * (docs/LOG.md); its last session; and its rows.
  *
- * <p>A new log gets a name that no other log ever had: so what an earlier log left at the resources is another manager's, and stays.
+ * <p>A new log gets a name that no other log ever had: so what an earlier log left at the resources
+ * is another manager's, and stays.
  */
 final class KeptLog {
     private static final String LETTERS = "abcdefghijklmnopqrstuvwxyz0123456789";
@@ -37,7 +39,10 @@ final class KeptLog {
     final List<String> resources;
     /** The number of the last session; 0 if there was none. */
     final long incarnation;
-    /** The transactions that are decided to commit, each with the branches that its row waits for, if these were asked for. */
+    /**
+     * The transactions that are decided to commit, each with the branches that its row waits for,
+     * if these were asked for.
+     */
     final Map<String, List<BranchXid>> decisions = new TreeMap<>();
     /** What resources ended by themselves, a line for each. */
     final List<String> heuristics = new ArrayList<>();
@@ -59,7 +64,10 @@ final class KeptLog {
         return kept;
     }
 
-    /** Resources that the log doesn't know come after those that it knows, and it keeps their names from its next start on. */
+    /**
+     * Resources that the log doesn't know come after those that it knows, and it keeps their names
+     * from its next start on.
+     */
     private void add(List<String> names, Path log) throws Fault.Unavailable {
         boolean areAllKnown = names.containsAll(resources);
         for (String name : names) {
@@ -75,7 +83,10 @@ final class KeptLog {
         }
     }
 
-    /** Sees that a log that was used is still there: one made in its place would have its name, and roll back what it decided. */
+    /**
+     * Sees that a log that was used is still there: one made in its place would have its name, and
+     * roll back what it decided.
+     */
     static void seeThere(Path log) throws Fault.Unavailable {
         if (!isThere(log)) {
             throw new Fault.Unavailable("the log " + log + " is missing or empty, and was used a moment ago. Put it back");
@@ -102,7 +113,9 @@ final class KeptLog {
         }
     }
 
-    /** What may become of a log on a kind of file system; empty for those of which nothing is known. */
+    /**
+     * What may become of a log on a kind of file system; empty for those of which nothing is known.
+     */
     static String dangerOf(String kind) {
         switch (kind) {
             case "nfs": case "nfs4": case "cifs": case "smb3": case "fuse.sshfs": case "fuse.glusterfs":
@@ -180,7 +193,10 @@ final class KeptLog {
         return found;
     }
 
-    /** What a program prints that is given a text, once it has ended, or is ended after so long; and what it says beside. */
+    /**
+     * What a program prints that is given a text, once it has ended, or is ended after so long; and
+     * what it says beside.
+     */
     static String printed(Coordinator.Starter starter, List<String> words, String given, Duration longest, StringBuilder said) throws Fault.Gone {
         try {
             Process process = starter.start(words);
@@ -206,7 +222,10 @@ final class KeptLog {
 
     // ** its names
 
-    /** Drivers before this one kept the names in a file beside the log, with those that were added to the log's. */
+    /**
+     * Drivers before this one kept the names in a file beside the log, with those that were added
+     * to the log's.
+     */
     private static List<String> withAdded(Path log, List<String> kept) throws Fault.Unavailable {
         Path file = log.resolveSibling(log.getFileName() + "-resources");
         try {
@@ -217,7 +236,10 @@ final class KeptLog {
         }
     }
 
-    /** A manager that was given a name has a log of that name, alone or with what was drawn behind it. */
+    /**
+     * A manager that was given a name has a log of that name, alone or with what was drawn behind
+     * it.
+     */
     private void seeManager(Path log, String given) throws Fault.Unavailable {
         if (!isNamed(manager, given)) {
             throw new Fault.Unavailable("the log " + log + " is that of " + (manager.isEmpty() ? "a manager without a name" : "the manager " + manager)

@@ -6,8 +6,8 @@ public interface Known {
     String identity();
 
     /**
-     * It calls itself so now, and is reached so; null if it has nothing of the kind. To be told on each connection, before anything else is done
-     * on it. Throws if it is another one than it was.
+     * It calls itself so now, and is reached so; null if it has nothing of the kind. To be told on
+     * each connection, before anything else is done on it. Throws if it is another one than it was.
      */
     void see(String identity, String at) throws Fault.Lost;
 }

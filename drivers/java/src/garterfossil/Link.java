@@ -21,8 +21,8 @@ public interface Link {
     boolean isUsable();
 
     /**
-     * Whether the program has got what lies under it, as by {@code Connection.unwrap}: work on that goes past the gate, and is only ended by
-     * closing the connection.
+     * Whether the program has got what lies under it, as by {@code Connection.unwrap}: work on that
+     * goes past the gate, and is only ended by closing the connection.
      */
     default boolean isLetOut() {
         return false;
@@ -32,7 +32,9 @@ public interface Link {
     default void bound(Duration longest) {
     }
 
-    /** Makes it as it was when new, before another transaction uses it. False if that can't be done. */
+    /**
+     * Makes it as it was when new, before another transaction uses it. False if that can't be done.
+     */
     boolean reset();
 
     /** Closes it. What is active on it ends with it, and what is prepared stays so. */

@@ -17,7 +17,10 @@ final class Listing {
         this.fault = fault;
     }
 
-    /** What a resource lists. It only looks: no connections of others are ended, and its own isn't taken for one of the manager's. */
+    /**
+     * What a resource lists. It only looks: no connections of others are ended, and its own isn't
+     * taken for one of the manager's.
+     */
     static Listing of(Resource resource) {
         try {
             Link link = new ResourceManager(0, resource, false).connect(resource.patience());

@@ -3,7 +3,10 @@ package garterfossil;
 import java.lang.management.ManagementFactory;
 import java.lang.management.OperatingSystemMXBean;
 
-/** Whether the machine's processors are busy, as the system says once in a while. Where it doesn't, they are taken to be. */
+/**
+ * Whether the machine's processors are busy, as the system says once in a while. Where it doesn't,
+ * they are taken to be.
+ */
 final class Load {
     private static final double HIGH = 0.75;
 

@@ -19,16 +19,26 @@ import javax.transaction.xa.XAResource;
 /**
  * Runs transactions over several resources, by the coordinator {@code xatm serve}.
  *
- * <p>The log belongs to the resources for ever: an older one would roll back what was decided since, and a new one leaves all that is in doubt
- * as it is. One manager at a time has it. Where the coordinator ends, it is started again, and what was in doubt is ended first.
+ * <p>The log belongs to the resources for ever: an older one would roll back what was decided
+ * since, and a new one leaves all that is in doubt as it is. One manager at a time has it. Where
+ * the coordinator ends, it is started again, and what was in doubt is ended first.
  */
 public final class Manager implements AutoCloseable {
     static final Logger LOG = System.getLogger("garterfossil");
-    /** What the program ends with if a file is no log, or another's; if only a part of a log is there; and if it is shut (docs/SERVE.md). */
+    /**
+     * What the program ends with if a file is no log, or another's; if only a part of a log is
+     * there; and if it is shut (docs/SERVE.md).
+     */
     private static final int NO_LOG = 6, HALF = 7, SHUT = 8;
-    /** So many milliseconds the end of a transaction waits for work that another thread still does in it. */
+    /**
+     * So many milliseconds the end of a transaction waits for work that another thread still does
+     * in it.
+     */
     static final long WORK_PATIENCE = 2_000;
-    /** So long a session that follows another waits for resources that are silent, and with it the transactions that begin meanwhile. */
+    /**
+     * So long a session that follows another waits for resources that are silent, and with it the
+     * transactions that begin meanwhile.
+     */
     private static final Duration AGAIN = Duration.ofSeconds(2);
 
     /** What a manager is made of. */
@@ -47,8 +57,8 @@ public final class Manager implements AutoCloseable {
         }
 
         /**
-         * What the manager's name begins with, as that of a service: 1 to 9 letters, digits, _ and -. Behind it stands what is drawn for each
-         * new log. It stays as long as the log does.
+         * What the manager's name begins with, as that of a service: 1 to 9 letters, digits, _ and
+         * -. Behind it stands what is drawn for each new log. It stays as long as the log does.
          */
         public Builder name(String given) {
             if (!given.matches("[A-Za-z0-9_-]{1," + KeptLog.LONGEST + "}")) {
@@ -80,8 +90,9 @@ public final class Manager implements AutoCloseable {
         }
 
         /**
-         * How many threads of the manager's own help those that commit: each calls one more resource at the same time. As many as transactions
-         * may run, where none is given; with 0 all calls of a transaction are made by the thread that commits, one after the other.
+         * How many threads of the manager's own help those that commit: each calls one more
+         * resource at the same time. As many as transactions may run, where none is given; with 0
+         * all calls of a transaction are made by the thread that commits, one after the other.
          */
         public Builder helpers(int count) {
             if (count < 0) {
@@ -91,25 +102,37 @@ public final class Manager implements AutoCloseable {
             return this;
         }
 
-        /** How long a transaction may take that sets no time-out of its own: 60 seconds where none is given. */
+        /**
+         * How long a transaction may take that sets no time-out of its own: 60 seconds where none
+         * is given.
+         */
         public Builder timeout(Duration duration) {
             timeout = duration;
             return this;
         }
 
-        /** How long a start waits for a log that another manager has, and how long a coordinator may be silent: 20 seconds where none is given. */
+        /**
+         * How long a start waits for a log that another manager has, and how long a coordinator may
+         * be silent: 20 seconds where none is given.
+         */
         public Builder patience(Duration duration) {
             patience = duration;
             return this;
         }
 
-        /** How long {@link Manager#close} waits for transactions that are under way: 10 seconds where none is given. */
+        /**
+         * How long {@link Manager#close} waits for transactions that are under way: 10 seconds
+         * where none is given.
+         */
         public Builder grace(Duration duration) {
             grace = duration;
             return this;
         }
 
-        /** A resource that takes part. Its name has 1 to 64 letters, digits, _ and -, and stays as long as the log does. */
+        /**
+         * A resource that takes part. Its name has 1 to 64 letters, digits, _ and -, and stays as
+         * long as the log does.
+         */
         public Builder resource(Resource resource) {
             if (!resource.name().matches("[A-Za-z0-9_-]{1,64}")) {
                 throw new IllegalArgumentException("the name of a resource has 1 to 64 letters, digits, _ and -, and so not: " + resource.name());
@@ -122,15 +145,19 @@ public final class Manager implements AutoCloseable {
         }
 
         /**
-         * A database that has each decision before any of the resources hears of it, so that a new log can be made of it if this machine is
-         * lost: one that is replicated already. While it can't be reached, nothing is committed.
+         * A database that has each decision before any of the resources hears of it, so that a new
+         * log can be made of it if this machine is lost: one that is replicated already. While it
+         * can't be reached, nothing is committed.
          */
         public Builder mirror(DataSource database) {
             mirror = database;
             return this;
         }
 
-        /** Makes the log anew of the mirror, once the machine that had it is lost: what it says of that. */
+        /**
+         * Makes the log anew of the mirror, once the machine that had it is lost: what it says of
+         * that.
+         */
         public String failOver() throws Fault {
             if (mirror == null) {
                 throw new Fault.Unavailable("there is no mirror to make the log of");
@@ -138,7 +165,10 @@ public final class Manager implements AutoCloseable {
             return Mirror.failOver(mirror, log, starter, program, name, patience);
         }
 
-        /** What is in doubt at the resources of the log. It only looks, also beside a manager that has the log. */
+        /**
+         * What is in doubt at the resources of the log. It only looks, also beside a manager that
+         * has the log.
+         */
         public Doubt status() throws Fault {
             KeptLog kept = kept();
             looksAt(kept);
@@ -152,7 +182,10 @@ public final class Manager implements AutoCloseable {
             return KeptLog.of(log, starter, program, "", resources);
         }
 
-        /** The resources are those of a log. A connection is none of its manager's, which the next session ends. */
+        /**
+         * The resources are those of a log. A connection is none of its manager's, which the next
+         * session ends.
+         */
         private void looksAt(KeptLog kept) throws Fault.Unavailable {
             Identities identities = new Identities(log, kept.manager, false);
             for (Resource resource : resources) {
@@ -172,7 +205,10 @@ public final class Manager implements AutoCloseable {
             return ByHand.of(log, kept, starter, program, listings(), branch, patience);
         }
 
-        /** A branch that is to be ended by hand, of a manager that is gone for good, and its log with it. */
+        /**
+         * A branch that is to be ended by hand, of a manager that is gone for good, and its log
+         * with it.
+         */
         ByHand byHandLeftBy(String manager, String outcome, String branch) throws Fault {
             KeptLog kept = KeptLog.isThere(log) ? kept() : null;
             if (kept == null) {
@@ -183,7 +219,10 @@ public final class Manager implements AutoCloseable {
             return ByHand.leftBy(manager, outcome, kept == null ? null : kept.manager, listings(), branch);
         }
 
-        /** Ends what is in doubt, and nothing else: how many branches and recoveries still wait for a resource after so long. */
+        /**
+         * Ends what is in doubt, and nothing else: how many branches and recoveries still wait for
+         * a resource after so long.
+         */
         public int recover(Duration longest) throws Fault {
             try (Manager manager = start()) {
                 long until = System.nanoTime() + longest.toNanos();
@@ -194,7 +233,10 @@ public final class Manager implements AutoCloseable {
             }
         }
 
-        /** Starts it: recovers each resource that can be reached. The others are recovered as soon as they can be. */
+        /**
+         * Starts it: recovers each resource that can be reached. The others are recovered as soon
+         * as they can be.
+         */
         public Manager start() throws Fault {
             Manager manager = new Manager(this);
             manager.begin();
@@ -208,7 +250,8 @@ public final class Manager implements AutoCloseable {
     final Helpers helpers;
     private final Builder made;
     private final List<ResourceManager> rms = new ArrayList<>();
-    // Time-outs, and what is done each second. That may wait for the coordinator, until its watch ends it.
+    // Time-outs, and what is done each second. That may wait for the coordinator, until its watch
+    // ends it.
     private final ScheduledThreadPoolExecutor clock = new ScheduledThreadPoolExecutor(1, work -> daemon(work, "garterfossil alarm"));
     private final ScheduledThreadPoolExecutor seconds = new ScheduledThreadPoolExecutor(2, work -> daemon(work, "garterfossil seconds"));
     private final ThreadLocal<GlobalTransaction> current = new ThreadLocal<>();
@@ -454,7 +497,10 @@ public final class Manager implements AutoCloseable {
         return fates.await(gtrid, made.patience);
     }
 
-    /** Has work done later, by a thread of its own, since it may wait for a resource. Once the manager is closed it is done at once. */
+    /**
+     * Has work done later, by a thread of its own, since it may wait for a resource. Once the
+     * manager is closed it is done at once.
+     */
     Future<?> later(Runnable work, Duration delay) {
         FutureTask<Void> task = new FutureTask<>(() -> begin(work), null);
         try {
@@ -502,7 +548,9 @@ public final class Manager implements AutoCloseable {
         return List.copyOf(made.resources);
     }
 
-    /** Its name, as the identifiers of its branches have it; empty if the log was made without one. */
+    /**
+     * Its name, as the identifiers of its branches have it; empty if the log was made without one.
+     */
     public String name() {
         return names.manager;
     }
@@ -525,7 +573,10 @@ public final class Manager implements AutoCloseable {
         return transaction;
     }
 
-    /** The transaction of this thread, or null. One that was ended, by whichever thread, is no thread's any more. */
+    /**
+     * The transaction of this thread, or null. One that was ended, by whichever thread, is no
+     * thread's any more.
+     */
     public GlobalTransaction current() {
         GlobalTransaction transaction = current.get();
         if (transaction != null && transaction.isEnded()) {
@@ -551,8 +602,9 @@ public final class Manager implements AutoCloseable {
     }
 
     /**
-     * How many transactions were begun, are open, committed, rolled back, unknown, over their time (timed_out), and had an end that a resource made
-     * by itself (heuristic); for how many seconds they were open; how many sessions the coordinator had; and what is owed.
+     * How many transactions were begun, are open, committed, rolled back, unknown, over their time
+     * (timed_out), and had an end that a resource made by itself (heuristic); for how many seconds
+     * they were open; how many sessions the coordinator had; and what is owed.
      */
     public Map<String, Number> counts() {
         Map<String, Number> found = counts.shown();
@@ -560,7 +612,10 @@ public final class Manager implements AutoCloseable {
         return found;
     }
 
-    /** The last ends that a resource made by itself, also those of which no program was told since it had its answer by then. */
+    /**
+     * The last ends that a resource made by itself, also those of which no program was told since
+     * it had its answer by then.
+     */
     public List<String> heuristicEnds() {
         return counts.heuristicEnds();
     }
@@ -584,7 +639,10 @@ public final class Manager implements AutoCloseable {
         return resourceManager(resource).borrowOutside(patience);
     }
 
-    /** Ends it: no transaction begins any more. Waits for what is under way, and rolls back what is open after {@link Builder#grace}. */
+    /**
+     * Ends it: no transaction begins any more. Waits for what is under way, and rolls back what is
+     * open after {@link Builder#grace}.
+     */
     @Override
     public void close() {
         synchronized (starting) {

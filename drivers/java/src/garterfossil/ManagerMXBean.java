@@ -20,7 +20,10 @@ public interface ManagerMXBean {
     /** Why it isn't; null if it is. */
     String getWhyNot();
 
-    /** How many transactions were begun, are open, committed, rolled back, unknown, over their time, ended by a resource itself, and sessions. */
+    /**
+     * How many transactions were begun, are open, committed, rolled back, unknown, over their time,
+     * ended by a resource itself, and sessions.
+     */
     Map<String, Double> getCounts();
 
     /** How many branches and recoveries wait for a resource that can't be reached. */
@@ -29,7 +32,10 @@ public interface ManagerMXBean {
     /** The transactions that have branches: by which thread, for how long, at which resources. */
     List<String> getOpenTransactions();
 
-    /** Of the resources, by their names: connections in use, those that are idle, how many may be, what is owed, and whether it is recovered (1). */
+    /**
+     * Of the resources, by their names: connections in use, those that are idle, how many may be,
+     * what is owed, and whether it is recovered (1).
+     */
     Map<String, Map<String, Integer>> getResources();
 
     /** The last ends that a resource made by itself. */

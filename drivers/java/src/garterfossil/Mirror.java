@@ -15,8 +15,9 @@ import java.util.concurrent.ConcurrentLinkedQueue;
 import javax.sql.DataSource;
 
 /**
- * The mirror of one session: what the log has decided, in a database that is replicated already. A decision is in it before any xa_commit of
- * it is made, and so a log that is made of it lacks no decision of which a resource has heard.
+ * The mirror of one session: what the log has decided, in a database that is replicated already. A
+ * decision is in it before any xa_commit of it is made, and so a log that is made of it lacks no
+ * decision of which a resource has heard.
  */
 final class Mirror {
     /** So long a log may take that is made: each of its incarnations is a write that is synced. */
@@ -50,11 +51,15 @@ final class Mirror {
     // Of what it holds and the log doesn't: what is surely over, and what may not be.
     private final Set<String> surelyOver = new HashSet<>();
     private final Set<String> unknownToLog = new HashSet<>();
-    // The branches that are owed, by their transactions; and the transactions whose rows may leave. Under the monitor of this object.
+    // The branches that are owed, by their transactions; and the transactions whose rows may leave.
+    // Under the monitor of this object.
     private final Map<String, Set<BranchXid>> owed = new HashMap<>();
     private final List<String> left = new ArrayList<>();
 
-    /** That of the next session over a log that holds this, with the branches of its decisions, and that is to keep these names of resources. */
+    /**
+     * That of the next session over a log that holds this, with the branches of its decisions, and
+     * that is to keep these names of resources.
+     */
     Mirror(DataSource source, Path log, KeptLog kept, List<String> resources, Duration patience) throws Fault.Unavailable {
         if (kept.manager.isEmpty()) {
             throw new Fault.Unavailable("a mirror is for a manager with a name, and this log keeps none: give a new log a name, once nothing is in doubt");
@@ -69,8 +74,9 @@ final class Mirror {
     // ** a session begins
 
     /**
-     * Looks, before the coordinator starts, whether a session may begin over the log. A start that is refused later has raised the log's
-     * incarnation, and after a few of them an older log would pass for a newer one.
+     * Looks, before the coordinator starts, whether a session may begin over the log. A start that
+     * is refused later has raised the log's incarnation, and after a few of them an older log would
+     * pass for a newer one.
      */
     void look(String given, Lister lister) throws Fault {
         try {
@@ -117,7 +123,10 @@ final class Mirror {
             + ": put the right one back, or make it of the mirror (garterfossil.Command failover)");
     }
 
-    /** Of a transaction that it holds and the log doesn't: the row left the log as that left it, unless a resource still lists a branch. */
+    /**
+     * Of a transaction that it holds and the log doesn't: the row left the log as that left it,
+     * unless a resource still lists a branch.
+     */
     private void seeOver(String gtrid, List<String> xids, Lister lister) throws Fault.Unavailable {
         boolean isOver = true;
         for (String text : xids) {
@@ -132,7 +141,10 @@ final class Mirror {
         (isOver ? surelyOver : unknownToLog).add(gtrid);
     }
 
-    /** A session begins: it has what the log has decided. Throws if another machine has taken over since it was looked at. */
+    /**
+     * A session begins: it has what the log has decided. Throws if another machine has taken over
+     * since it was looked at.
+     */
     void begin(long next) throws Fault {
         if (next != kept.incarnation + 1) {
             throw new Fault.Gone("another program has had the log since it was looked at, in session " + (next - 1));
@@ -162,7 +174,10 @@ final class Mirror {
         kept.decisions.forEach(this::owe);
     }
 
-    /** Whether it has decided to commit a transaction of which the log knows nothing, and which may not be over. */
+    /**
+     * Whether it has decided to commit a transaction of which the log knows nothing, and which may
+     * not be over.
+     */
     boolean isUnknownToLog(String gtrid) {
         return unknownToLog.contains(gtrid);
     }
@@ -170,8 +185,9 @@ final class Mirror {
     // ** its decisions
 
     /**
-     * The transaction is decided to commit: those of several threads that come together are by one commit of its database. If it throws,
-     * nobody knows whether the mirror has it, and the session is to end. It stands all the same, as the log has it.
+     * The transaction is decided to commit: those of several threads that come together are by one
+     * commit of its database. If it throws, nobody knows whether the mirror has it, and the session
+     * is to end. It stands all the same, as the log has it.
      */
     void add(String gtrid, List<BranchXid> xids) throws Fault.Lost {
         Decision mine = new Decision(gtrid, xids);
@@ -207,7 +223,9 @@ final class Mirror {
         }
     }
 
-    /** Of a decided transaction these branches are yet to be ended. Its row may leave once none is. */
+    /**
+     * Of a decided transaction these branches are yet to be ended. Its row may leave once none is.
+     */
     synchronized void owe(String gtrid, List<BranchXid> xids) {
         if (xids.isEmpty()) {
             left.add(gtrid);
@@ -252,7 +270,10 @@ final class Mirror {
 
     // ** a machine that is lost
 
-    /** Makes the log anew that isn't here, and of which the mirror knows the manager. What it says of that. */
+    /**
+     * Makes the log anew that isn't here, and of which the mirror knows the manager. What it says
+     * of that.
+     */
     static String failOver(DataSource source, Path log, Coordinator.Starter starter, String program, String given, Duration patience) throws Fault {
         Path here = log.toAbsolutePath();
         MirrorTables any = new MirrorTables(source, "", patience);

@@ -18,11 +18,20 @@ import java.util.concurrent.TimeoutException;
 import java.util.stream.Collectors;
 import javax.sql.DataSource;
 
-/** The tables of a mirror, over one connection to its database: PostgreSQL, or MariaDB. The driver in Python has the same ones. */
+/**
+ * The tables of a mirror, over one connection to its database: PostgreSQL, or MariaDB. The driver
+ * in Python has the same ones.
+ */
 final class MirrorTables {
-    /** By how much a failover raises the incarnation: by more than the starts that the mirror may not have been told of. */
+    /**
+     * By how much a failover raises the incarnation: by more than the starts that the mirror may
+     * not have been told of.
+     */
     static final long MARGIN = 100;
-    /** Texts are compared byte by byte. There is one row for each manager, and one for each of its decisions. */
+    /**
+     * Texts are compared byte by byte. There is one row for each manager, and one for each of its
+     * decisions.
+     */
     private static final List<String> TABLES = List.of(
         "garterfossil_manager (name {16} PRIMARY KEY, log text NOT NULL, rms text NOT NULL, incarnation bigint NOT NULL)",
         "garterfossil_decision (name {16} NOT NULL, gtrid {32} NOT NULL, branches text NOT NULL, PRIMARY KEY (name, gtrid))");
@@ -51,7 +60,10 @@ final class MirrorTables {
 
     // ** the connection
 
-    /** Does work in one transaction. If something fails, the connection is given up, and what was under way with it. */
+    /**
+     * Does work in one transaction. If something fails, the connection is given up, and what was
+     * under way with it.
+     */
     synchronized <T> T once(Work<T> work) throws Fault {
         boolean isDone = false;
         try {
@@ -71,7 +83,10 @@ final class MirrorTables {
         }
     }
 
-    /** PostgreSQL answers a commit whose wait for the standby was cancelled as any other, with a warning beside it. */
+    /**
+     * PostgreSQL answers a commit whose wait for the standby was cancelled as any other, with a
+     * warning beside it.
+     */
     private void seeNoWarning(Connection at) throws SQLException, Fault.Lost {
         SQLWarning warning = isPostgreSql ? at.getWarnings() : null;
         if (warning != null) {
@@ -90,7 +105,8 @@ final class MirrorTables {
             if (isPostgreSql) {
                 run(connection, "SET client_min_messages = warning");
             } else if (isReplicated(connection)) {
-                // A node of Galera shows what another one has committed only a moment later, unless it is told to wait for that.
+                // A node of Galera shows what another one has committed only a moment later, unless
+                // it is told to wait for that.
                 run(connection, "SET SESSION wsrep_sync_wait = 1");
             }
             connection.setAutoCommit(false);
@@ -184,7 +200,10 @@ final class MirrorTables {
         return rows(at, "SHOW VARIABLES LIKE 'wsrep_on'").equals(List.of(List.of("wsrep_on", "ON")));
     }
 
-    /** The incarnation of the manager, which stays as it is until the transaction ends; -1 if the mirror doesn't know it. */
+    /**
+     * The incarnation of the manager, which stays as it is until the transaction ends; -1 if the
+     * mirror doesn't know it.
+     */
     long incarnation(Connection at) throws SQLException {
         List<List<String>> found = rows(at, SEEN, manager);
         return found.isEmpty() ? -1 : Long.parseLong(found.get(0).get(0));
@@ -209,7 +228,10 @@ final class MirrorTables {
         return found;
     }
 
-    /** Adds decisions, of which none has a row, if the manager is in this incarnation. Whether they are all there. */
+    /**
+     * Adds decisions, of which none has a row, if the manager is in this incarnation. Whether they
+     * are all there.
+     */
     boolean insert(Connection at, Map<String, List<BranchXid>> decisions, long incarnation) throws SQLException {
         List<Object> words = new ArrayList<>();
         decisions.forEach((gtrid, xids) -> words.addAll(List.of(gtrid, xids.stream().map(BranchXid::toString).sorted().collect(Collectors.joining(" ")))));
@@ -237,7 +259,10 @@ final class MirrorTables {
         return found;
     }
 
-    /** What the manager's log had: the lines of which {@code xatm log --make} makes it. The session that had it can't decide any more. */
+    /**
+     * What the manager's log had: the lines of which {@code xatm log --make} makes it. The session
+     * that had it can't decide any more.
+     */
     List<String> takeOver() throws Fault {
         return once(at -> {
             long incarnation = incarnation(at) + MARGIN;

@@ -20,7 +20,10 @@ public abstract class PooledResource<R extends PooledResource<R>> implements Res
     /** This one. */
     protected abstract R self();
 
-    /** How many connections there may be at a time, beside one for the recovery: 32 if none is given, of a broker 16. Don't make that less later. */
+    /**
+     * How many connections there may be at a time, beside one for the recovery: 32 if none is
+     * given, of a broker 16. Don't make that less later.
+     */
     public R maxConnections(int count) {
         if (count < 1) {
             throw new IllegalArgumentException("maxConnections: 1 or more, and not " + count);
@@ -35,7 +38,10 @@ public abstract class PooledResource<R extends PooledResource<R>> implements Res
         return self();
     }
 
-    /** How long it may be silent, as a connection is made or in one of XA's calls: 10 seconds if none is given. Then the connection is lost. */
+    /**
+     * How long it may be silent, as a connection is made or in one of XA's calls: 10 seconds if
+     * none is given. Then the connection is lost.
+     */
     public R patience(Duration duration) {
         patience = duration;
         return self();
@@ -76,7 +82,10 @@ public abstract class PooledResource<R extends PooledResource<R>> implements Res
         return known;
     }
 
-    /** The name by which its connections are known as those of the manager and of this resource, with what stands between the parts. */
+    /**
+     * The name by which its connections are known as those of the manager and of this resource,
+     * with what stands between the parts.
+     */
     protected String label(String between) {
         return "garterfossil" + between + (manager.isEmpty() ? "" : manager + between) + name;
     }

@@ -2,7 +2,10 @@ package garterfossil;
 
 import java.time.Duration;
 
-/** How long connections of a pool are waited for, and kept. Each method gives a copy that differs in one thing. */
+/**
+ * How long connections of a pool are waited for, and kept. Each method gives a copy that differs in
+ * one thing.
+ */
 public final class Pooling {
     /** How long work outside of transactions waits for a connection. */
     final Duration wait;
@@ -25,17 +28,26 @@ public final class Pooling {
         this.leak = leak;
     }
 
-    /** Waits for 30 seconds; asks what was idle for 20 seconds, or since another connection was lost; closes none, and warns of none. */
+    /**
+     * Waits for 30 seconds; asks what was idle for 20 seconds, or since another connection was
+     * lost; closes none, and warns of none.
+     */
     public static Pooling usual() {
         return new Pooling(Duration.ofSeconds(30), Duration.ofSeconds(20), NEVER, NEVER, NEVER);
     }
 
-    /** How long work outside of transactions waits for a connection. In a transaction it waits for as long as that may take. */
+    /**
+     * How long work outside of transactions waits for a connection. In a transaction it waits for
+     * as long as that may take.
+     */
     public Pooling waitingFor(Duration duration) {
         return new Pooling(duration, test, idle, life, leak);
     }
 
-    /** After so long a connection that was idle is asked whether it works ({@code Connection.isValid}) before it is used; with zero, each time. */
+    /**
+     * After so long a connection that was idle is asked whether it works ({@code
+     * Connection.isValid}) before it is used; with zero, each time.
+     */
     public Pooling testingAfter(Duration duration) {
         return new Pooling(wait, duration, idle, life, leak);
     }
@@ -50,7 +62,10 @@ public final class Pooling {
         return new Pooling(wait, test, idle, duration, leak);
     }
 
-    /** Where a connection is in use for longer, a warning says by which thread, and where that got it. */
+    /**
+     * Where a connection is in use for longer, a warning says by which thread, and where that got
+     * it.
+     */
     public Pooling warningAfter(Duration duration) {
         return new Pooling(wait, test, idle, life, duration);
     }

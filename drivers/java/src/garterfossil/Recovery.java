@@ -11,8 +11,8 @@ import java.util.concurrent.TimeUnit;
 import javax.transaction.xa.XAResource;
 
 /**
- * Recovers a resource as the coordinator says, in a thread of its own: at the start of a session, and
- * whenever a branch there is owed. So no other thread ever waits for a resource that is away.
+ * Recovers a resource as the coordinator says, in a thread of its own: at the start of a session,
+ * and whenever a branch there is owed. So no other thread ever waits for a resource that is away.
  */
 final class Recovery {
     /** How many identifiers a page lists. */
@@ -25,7 +25,8 @@ final class Recovery {
     private final Coordinator coordinator;
     private final Thread thread;
     private final CountDownLatch first = new CountDownLatch(1);
-    // How often it was due, and how often of these that was seen to: a branch may be left to it while it goes on.
+    // How often it was due, and how often of these that was seen to: a branch may be left to it
+    // while it goes on.
     private volatile long due = 1, seenTo;
     // How many branches are owed there, as far as is known.
     private volatile int owed;
@@ -143,7 +144,10 @@ final class Recovery {
         }
     }
 
-    /** A connection, once those that were lost are gone: what they had under way could happen after a call here. */
+    /**
+     * A connection, once those that were lost are gone: what they had under way could happen after
+     * a call here.
+     */
     private void connect() throws Fault.Lost {
         if (link != null && !rm.hasStrays()) {
             return;
@@ -164,7 +168,10 @@ final class Recovery {
 
     // ** a recovery
 
-    /** Recovers it. What is owed waits for this thread alone: so whatever goes wrong, it goes on, over another connection. */
+    /**
+     * Recovers it. What is owed waits for this thread alone: so whatever goes wrong, it goes on,
+     * over another connection.
+     */
     private void recover() {
         long seen = due;
         int before = owed;
@@ -189,7 +196,10 @@ final class Recovery {
         }
     }
 
-    /** Does what the coordinator says: how many branches are owed there in the end; -1 if it was broken off. */
+    /**
+     * Does what the coordinator says: how many branches are owed there in the end; -1 if it was
+     * broken off.
+     */
     private int conduct() throws Fault {
         gone = 0;
         String[] words = asked("recover");
@@ -274,7 +284,8 @@ final class Recovery {
         // Of what was decided and is over the row is mostly still there.
         Manager.LOG.log(answer == Code.NOTA ? Level.DEBUG : Level.INFO,
             () -> rm + ": " + asked + " of " + of + ", which was in doubt, is answered " + Code.name(answer));
-        // One that isn't there any more was ended by somebody else, if the coordinator has it forgotten.
+        // One that isn't there any more was ended by somebody else, if the coordinator has it
+        // forgotten.
         boolean wasGone = asked.equals("xa_forget") && of.equals(xid) && code == Code.NOTA;
         if (wasGone || Code.isAlone(asked, answer)) {
             session.counts.heuristicEnd(of, rm, wasGone ? call : asked, wasGone ? code : answer);
@@ -301,7 +312,10 @@ final class Recovery {
         }
     }
 
-    /** Sees that what it lists of this session's transactions belongs to one that goes on. They end their branches by themselves. */
+    /**
+     * Sees that what it lists of this session's transactions belongs to one that goes on. They end
+     * their branches by themselves.
+     */
     private void seeReturned(long seen) throws Fault {
         List<BranchXid> over = new ArrayList<>(listed);
         over.removeIf(it -> it.incarnation() != session.incarnation || session.has(it.transaction()));
@@ -328,7 +342,10 @@ final class Recovery {
         return it.isOf(session.name, rm.number);
     }
 
-    /** What others have in doubt stays: those of managers that run, and of logs that are lost. A new log says so, once. */
+    /**
+     * What others have in doubt stays: those of managers that run, and of logs that are lost. A new
+     * log says so, once.
+     */
     private void noteOthers(Set<String> others) {
         if (session.incarnation == 1 && !others.isEmpty() && !areOthersNoted) {
             areOthersNoted = true;

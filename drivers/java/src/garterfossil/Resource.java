@@ -3,15 +3,24 @@ package garterfossil;
 import java.time.Duration;
 import java.util.Set;
 
-/** A database or a message broker that takes part in transactions: how it is reached. Its methods may be called by any thread. */
+/**
+ * A database or a message broker that takes part in transactions: how it is reached. Its methods
+ * may be called by any thread.
+ */
 public interface Resource {
     /** Its name, by which the log knows it: it stays as long as the log does. */
     String name();
 
-    /** The manager has this name, or none (""): {@link #endOthers} ends no connections of a manager of another name. */
+    /**
+     * The manager has this name, or none (""): {@link #endOthers} ends no connections of a manager
+     * of another name.
+     */
     void belongTo(String manager);
 
-    /** What the log knows of it: each connection that is made is to be told to this, before anything else is done on it. */
+    /**
+     * What the log knows of it: each connection that is made is to be told to this, before anything
+     * else is done on it.
+     */
     default void knownBy(Known known) {
     }
 
@@ -19,8 +28,8 @@ public interface Resource {
     Link connect() throws Fault.Lost;
 
     /**
-     * Ends all connections that this manager ever had to the resource, except those of these numbers, and waits until they are gone:
-     * what they had under way can't happen any more.
+     * Ends all connections that this manager ever had to the resource, except those of these
+     * numbers, and waits until they are gone: what they had under way can't happen any more.
      */
     void endOthers(Set<Long> kept) throws Fault.Lost;
 
@@ -37,7 +46,10 @@ public interface Resource {
         return Pooling.usual();
     }
 
-    /** A session begins: {@link #endOthers} ends what other pools have, too, as far as that was there before. */
+    /**
+     * A session begins: {@link #endOthers} ends what other pools have, too, as far as that was
+     * there before.
+     */
     default void startAnew() {
     }
 

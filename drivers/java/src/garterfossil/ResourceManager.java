@@ -47,7 +47,8 @@ final class ResourceManager {
     private final Set<Long> kept = ConcurrentHashMap.newKeySet();
     // Those of them that are lent for work outside of transactions.
     private final Set<Long> outside = ConcurrentHashMap.newKeySet();
-    // Connections that are no one's any more may be there: those of earlier managers, and later those that were lost.
+    // Connections that are no one's any more may be there: those of earlier managers, and later
+    // those that were lost.
     private volatile boolean hasStrays;
 
     ResourceManager(int number, Resource resource) {
@@ -341,7 +342,10 @@ final class ResourceManager {
         }
     }
 
-    /** Gives all connections up: a session begins, and what the last one had under way must not happen any more. */
+    /**
+     * Gives all connections up: a session begins, and what the last one had under way must not
+     * happen any more.
+     */
     void startAnew() {
         ArrayDeque<Idle> old;
         synchronized (this) {

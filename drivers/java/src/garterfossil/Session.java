@@ -14,9 +14,15 @@ import java.util.concurrent.locks.LockSupport;
 import java.util.function.BooleanSupplier;
 import java.util.stream.Collectors;
 
-/** A session with the coordinator, which begins with the recovery of each resource that can be reached. */
+/**
+ * A session with the coordinator, which begins with the recovery of each resource that can be
+ * reached.
+ */
 final class Session {
-    /** As it ends: so long it waits for the rollback of what is open, and for what is owed to resources. */
+    /**
+     * As it ends: so long it waits for the rollback of what is open, and for what is owed to
+     * resources.
+     */
     private static final Duration TO_END = Duration.ofSeconds(5), TO_PAY = Duration.ofSeconds(2);
     /** So many branches that were rolled back are known. */
     private static final int UNDONE = 10_000;
@@ -27,7 +33,8 @@ final class Session {
     /** A thread of the coordinator, for one transaction at a time. */
     final class Slot {
         final int number;
-        // The thread's next transaction; or the reply that has it, behind an end of this outcome. Neither before its first.
+        // The thread's next transaction; or the reply that has it, behind an end of this outcome.
+        // Neither before its first.
         private String next;
         private Coordinator.Reply last, joined;
         private Outcome expected;
@@ -64,7 +71,10 @@ final class Session {
             }
         }
 
-        /** Branches began there. The coordinator is told now, if the calls of the first phase wait behind that. */
+        /**
+         * Branches began there. The coordinator is told now, if the calls of the first phase wait
+         * behind that.
+         */
         void join(List<Integer> rms, boolean isNow) throws Fault.Gone {
             joined = coordinator.post("join " + number + rms.stream().map(rm -> " " + rm).collect(Collectors.joining()));
             if (isNow) {
@@ -84,13 +94,18 @@ final class Session {
             return coordinator.told(coordinator.post(move + " " + number));
         }
 
-        /** How the calls that were told were answered. With others, if that may lead to a decision. */
+        /**
+         * How the calls that were told were answered. With others, if that may lead to a decision.
+         */
         Told tell(String answers, boolean isVote) throws Fault {
             String move = "tell " + number + answers;
             return coordinator.told(isVote ? coordinator.gather(move) : coordinator.post(move));
         }
 
-        /** The same as the transaction is over by these answers: the reply is looked at before the thread's next one begins. */
+        /**
+         * The same as the transaction is over by these answers: the reply is looked at before the
+         * thread's next one begins.
+         */
         void tellLast(String answers, Outcome outcome) {
             last = coordinator.post("tell " + number + answers);
             expected = outcome;
@@ -116,9 +131,11 @@ final class Session {
     private final Mirror mirror;
     private final Load load = new Load();
     private final Set<GlobalTransaction> live = ConcurrentHashMap.newKeySet();
-    // Prepared branches that this session rolled back: a resource may forget that in a crash of its own.
+    // Prepared branches that this session rolled back: a resource may forget that in a crash of its
+    // own.
     private final Recent<BranchXid> undone = new Recent<>(UNDONE);
-    // Whether a transaction with a row was over since the coordinator was asked last what is due: then rows leave that may.
+    // Whether a transaction with a row was over since the coordinator was asked last what is due:
+    // then rows leave that may.
     private volatile boolean hasRows;
     private volatile String fatal;
     private Object oldest;
@@ -146,7 +163,10 @@ final class Session {
         return Math.min(MOST, 2 * threads);
     }
 
-    /** Recovers what can be reached in that time, each resource in a thread of its own. These go on with the rest. */
+    /**
+     * Recovers what can be reached in that time, each resource in a thread of its own. These go on
+     * with the rest.
+     */
     void recover(Duration patience) throws Fault {
         recoveries.forEach(Recovery::start);
         long until = System.nanoTime() + patience.toNanos();
@@ -188,7 +208,10 @@ final class Session {
             + " s. Give the manager more threads; a REQUIRES_NEW in a transaction needs a second one while the first waits");
     }
 
-    /** The thread that was used last is used last: until then what it told is written with what others ask. */
+    /**
+     * The thread that was used last is used last: until then what it told is written with what
+     * others ask.
+     */
     void giveBack(Slot slot) {
         free.add(slot);
         places.release();
@@ -233,7 +256,10 @@ final class Session {
 
     // ** what must not be
 
-    /** A resource lists a branch that no session over this log began: nobody is to begin one before somebody has looked. */
+    /**
+     * A resource lists a branch that no session over this log began: nobody is to begin one before
+     * somebody has looked.
+     */
     void strange(ResourceManager rm, String xid) throws Fault.Gone {
         shut("the log isn't that of " + rm + ", which lists " + xid + " of a later session than any that the log knows. Was its file"
             + " lost, or another one put in its place? Start with the right one: this one would roll back what is decided");
@@ -249,7 +275,10 @@ final class Session {
         }
     }
 
-    /** A resource lists branches of this session that were over. Only a rollback may have been forgotten. */
+    /**
+     * A resource lists branches of this session that were over. Only a rollback may have been
+     * forgotten.
+     */
     void returned(ResourceManager rm, List<BranchXid> listed) throws Fault.Gone {
         if (listed.stream().allMatch(undone::contains)) {
             Manager.LOG.log(Level.WARNING, () -> rm + " lists again what was rolled back: the next session sees to it");
@@ -277,7 +306,10 @@ final class Session {
         return fatal;
     }
 
-    /** Looks once in a while whether the coordinator replies, and ends it if it doesn't any more. It waits for no reply. */
+    /**
+     * Looks once in a while whether the coordinator replies, and ends it if it doesn't any more. It
+     * waits for no reply.
+     */
     void watch(long patience) throws Fault.Gone {
         coordinator.seeRuns();
         coordinator.readWhatCame();
@@ -290,7 +322,10 @@ final class Session {
         }
     }
 
-    /** Does once in a while what nobody waits for: what waits is written, and rows leave the log that may. */
+    /**
+     * Does once in a while what nobody waits for: what waits is written, and rows leave the log
+     * that may.
+     */
     void tick() {
         load.look();
         if (hasRows) {
@@ -307,7 +342,10 @@ final class Session {
         }
     }
 
-    /** Whether the processors are busy with other transactions: then a second thread for one costs more than it gains. */
+    /**
+     * Whether the processors are busy with other transactions: then a second thread for one costs
+     * more than it gains.
+     */
     boolean isBusy() {
         return open() > PROCESSORS && load.isHigh();
     }
@@ -368,7 +406,10 @@ final class Session {
         }
     }
 
-    /** The coordinator is gone: what is open is given up, before the next session looks at the resources. */
+    /**
+     * The coordinator is gone: what is open is given up, before the next session looks at the
+     * resources.
+     */
     void abandon() {
         recoveries.forEach(Recovery::stop);
         long until = System.nanoTime() + TO_END.toNanos();

@@ -5,7 +5,10 @@ import java.util.List;
 import java.util.Map;
 import java.util.regex.Pattern;
 
-/** What the coordinator replies to a move of a thread: the calls that are to be made next, or the outcome (docs/MOVES.md). */
+/**
+ * What the coordinator replies to a move of a thread: the calls that are to be made next, or the
+ * outcome (docs/MOVES.md).
+ */
 final class Told {
     private static final Map<String, Outcome> OUTCOMES = Map.of("committed", Outcome.COMMITTED, "rolled-back", Outcome.ROLLED_BACK,
         "unknown", Outcome.UNKNOWN);
@@ -17,9 +20,15 @@ final class Told {
     final String reply;
     /** The call, or the outcome. */
     final String verb;
-    /** Where the call is to be made; of an outcome that is rolled back why, and where, if a branch is the reason. */
+    /**
+     * Where the call is to be made; of an outcome that is rolled back why, and where, if a branch
+     * is the reason.
+     */
     final List<Integer> rms = new ArrayList<>();
-    /** The resource managers with a branch yet to be ended; and those that ended one otherwise, each with how. */
+    /**
+     * The resource managers with a branch yet to be ended; and those that ended one otherwise, each
+     * with how.
+     */
     final List<Integer> owed = new ArrayList<>(), mixed = new ArrayList<>();
     /** The thread's next transaction, or null. */
     final String next;

@@ -100,7 +100,8 @@ public class BrokerTest {
             throw new JMSSecurityException("the user may not");
         }
         List<TextMessage> messages = new ArrayList<>();
-        // As at ActiveMQ, outside of a branch there is something to be seen, and it isn't given out.
+        // As at ActiveMQ, outside of a branch there is something to be seen, and it isn't given
+        // out.
         identities.forEach(it -> messages.add(isInBranch() ? message(it) : null));
         return of(QueueBrowser.class, Map.of("getEnumeration", (proxy, method, words) -> Collections.enumeration(messages)));
     }
@@ -180,7 +181,8 @@ public class BrokerTest {
         begin();
         session();
         transaction.commit();
-        // Once to see that it is gone, and once to have it; and so the recovery, which ends the branch that was lost.
+        // Once to see that it is gone, and once to have it; and so the recovery, which ends the
+        // branch that was lost.
         assertTrue("made " + made, made.size() <= 5);
     }
 

@@ -18,7 +18,10 @@ import org.junit.Rule;
 import org.junit.Test;
 import org.junit.rules.TemporaryFolder;
 
-/** Threads whose moves are gathered, while the one that acts for all of them fails: each wakes, and none is told another's reply. */
+/**
+ * Threads whose moves are gathered, while the one that acts for all of them fails: each wakes, and
+ * none is told another's reply.
+ */
 public class CommitsTest {
     private static final OutOfMemoryError NO_MEMORY = new OutOfMemoryError("a test's");
 

@@ -15,7 +15,10 @@ import org.junit.Rule;
 import org.junit.Test;
 import org.junit.rules.TemporaryFolder;
 
-/** One thread reads, or writes, for all: where it fails, none of the others waits for ever, or takes what is another's reply. */
+/**
+ * One thread reads, or writes, for all: where it fails, none of the others waits for ever, or takes
+ * what is another's reply.
+ */
 public class CoordinatorTest {
     private static final OutOfMemoryError NO_MEMORY = new OutOfMemoryError("a test's");
 

@@ -146,7 +146,8 @@ public class DataSourceTest {
             String used = last();
             if (isTimeOut) {
                 World.eventually(() -> transaction.outcome() == Outcome.ROLLED_BACK);
-                // Behind xa_rollback its connection would be an ordinary one, and the program has it still. So it is closed first.
+                // Behind xa_rollback its connection would be an ordinary one, and the program has
+                // it still. So it is closed first.
                 World.eventually(() -> manager.owing() == 0);
                 assertFalse(database.resource.callsByLink.contains(used + " rollback"));
                 assertThrows(Fault.RolledBack.class, transaction::commit);

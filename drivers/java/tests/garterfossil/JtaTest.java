@@ -384,7 +384,8 @@ public class JtaTest {
 
     @Test
     public void aTimeOutOverAnotherPoolsConnection() throws Exception {
-        // No gate keeps the program from it: behind xa_rollback each statement would be committed by itself.
+        // No gate keeps the program from it: behind xa_rollback each statement would be committed
+        // by itself.
         StandInResource.StandInLink link = (StandInResource.StandInLink) world.a.connect();
         Owned own = new Owned(link);
         jta.setTransactionTimeout(1);

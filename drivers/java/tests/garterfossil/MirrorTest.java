@@ -96,14 +96,16 @@ public class MirrorTest {
         String gtrid = leftAtB();
         String other = "0".repeat(15) + "1" + "0".repeat(15) + "9";
         mirror.decisions.clear();
-        // The one left the log, and the mirror wasn't told; the other one's row the log has, as nobody could tell the mirror.
+        // The one left the log, and the mirror wasn't told; the other one's row the log has, as
+        // nobody could tell the mirror.
         mirror.decisions.put(manager.name() + " " + other, BranchXid.of(manager.name(), other, 1, 0).toString());
         world.b.isDown = false;
         List<Set<String>> seen = Collections.synchronizedList(new ArrayList<>());
         world.b.before = () -> seen.add(mirror.decided());
         manager = builder().start();
         nothingIsLeft();
-        // Nothing is asked of a resource before that, except what it lists: to see that the other one is over.
+        // Nothing is asked of a resource before that, except what it lists: to see that the other
+        // one is over.
         assertTrue(seen.toString(), seen.contains(Set.of(gtrid)));
         assertEquals(1, world.b.committed.size());
         assertEquals(2L, mirror.managers.get(manager.name()).get(2));
@@ -119,7 +121,8 @@ public class MirrorTest {
         Fault error = assertThrows(Fault.Unavailable.class, this::overBoth);
         assertTrue(error.getMessage(), error.getMessage().startsWith("the mirror can't be used now: "));
         mirror.isUp = true;
-        // However often it was asked for meanwhile, a session that can't begin uses up no incarnation.
+        // However often it was asked for meanwhile, a session that can't begin uses up no
+        // incarnation.
         World.eventually(() -> world.a.committed.size() == 1 && world.b.committed.size() == 1);
         nothingIsLeft();
         assertEquals(2L, mirror.managers.get(manager.name()).get(2));

@@ -227,7 +227,8 @@ public class RecoveryTest {
     public void anOlderLogBesideBranchesOfALaterSession() throws Exception {
         world.a.branches.put(world.own(4, 1), StandInResource.State.PREPARED);
         world.manager.close();
-        // Each start raises the log's incarnation, so that it would pass for a newer one after some.
+        // Each start raises the log's incarnation, so that it would pass for a newer one after
+        // some.
         for (int count = 0; count < 5; count++) {
             Fault.Unavailable error = assertThrows(Fault.Unavailable.class, () -> world.builder().start());
             assertTrue(error.getMessage(), error.getMessage().contains("isn't that of a"));
@@ -542,7 +543,8 @@ public class RecoveryTest {
     public void aCoordinatorThatIsSilent() throws Exception {
         world.manager.close();
         world.manager = world.builder().patience(Duration.ofSeconds(1)).start();
-        // Its row is to leave the log: the coordinator is asked what is due, and says nothing either.
+        // Its row is to leave the log: the coordinator is asked what is due, and says nothing
+        // either.
         world.overBoth().commit();
         GlobalTransaction transaction = world.overBoth();
         world.put("silent", "tell");
@@ -604,7 +606,8 @@ public class RecoveryTest {
             FutureTask<Fault> committing = new FutureTask<>(() -> assertThrows(Fault.RolledBack.class, transaction::commit));
             new Thread(committing).start();
             World.eventually(() -> !Files.exists(world.folder.resolve("silent")));
-            // One begins the next session, while the other has its transaction, and waits for that session.
+            // One begins the next session, while the other has its transaction, and waits for that
+            // session.
             FutureTask<Session> next = new FutureTask<>(() -> {
                 Session up = before;
                 while (up == before) {
@@ -799,7 +802,10 @@ public class RecoveryTest {
         world.manager.close();
     }
 
-    /** Rows of an earlier session, each with a prepared branch at b, and at a too if it is over both. */
+    /**
+     * Rows of an earlier session, each with a prepared branch at b, and at a too if it is over
+     * both.
+     */
     private void rowsOfAnEarlierSession(BranchXid... atB) throws Exception {
         StringBuilder rows = new StringBuilder();
         for (BranchXid xid : atB) {
@@ -815,7 +821,8 @@ public class RecoveryTest {
         BranchXid one = BranchXid.of(world.manager.name(), "0000000000000001" + "0000000000000008", 1, 1);
         BranchXid other = BranchXid.of(world.manager.name(), "0000000000000001" + "0000000000000009", 1, 1);
         rowsOfAnEarlierSession(one, other);
-        // The first that is committed, as a page lists it, is rolled back by its resource, which lists it until it is asked to forget it.
+        // The first that is committed, as a page lists it, is rolled back by its resource, which
+        // lists it until it is asked to forget it.
         world.b.answer("commit", XAException.XA_HEURRB);
         world.manager = world.builder().start();
         World.eventually(() -> world.manager.owing() == 0 && world.rows().isEmpty());

@@ -18,7 +18,8 @@ public class ResourceManagerTest {
         resource.beforeConnect = () -> World.await(mayGoOn);
         assertThrows(Fault.Lost.class, () -> rm.connect(Duration.ofMillis(200)));
         assertEquals(1, resource.calls.size());
-        // The session ends: what it had under way has to be gone before the next one looks at the resource.
+        // The session ends: what it had under way has to be gone before the next one looks at the
+        // resource.
         rm.startAnew();
         mayGoOn.countDown();
         rm.connect(Duration.ofSeconds(5));

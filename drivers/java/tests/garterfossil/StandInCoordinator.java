@@ -34,16 +34,19 @@ import java.util.concurrent.locks.LockSupport;
 import java.util.stream.Collectors;
 
 /**
- * A stand-in for {@code xatm serve --moves}: it replies as docs/MOVES.md says, and keeps its rows in files of a folder.
+ * A stand-in for {@code xatm serve --moves}: it replies as docs/MOVES.md says, and keeps its rows
+ * in files of a folder.
  *
- * <p>It writes each line that it reads to the file `requests` of its folder. Where `slow` is there, a decision takes 20 ms. The file
- * `stop-at` has the beginning of a move at which its memory fails, once; `wrong-at` one to which it replies wrongly, once, and how, behind a
- * line feed. Where the file `die-at` has a word, it ends at the first move that
- * begins with it, instead of a reply, and removes the file; {@code decided} is a decision to commit that it makes and doesn't tell. It begins
- * with the line of the protocol where the file `protocol` has its words. Where `refusal` is there, it ends with the status that this has, and
- * says what stands behind that. The files `names` and
- * `rows` have what {@code xatm log} prints of its log, and `in-use` is there if that says that a program has it; what {@code xatm log --make}
- * is given is in `made`. From the first move that begins with the word of the file `silent` on, or from its start for `restarted`, it says nothing,
+ * <p>It writes each line that it reads to the file `requests` of its folder. Where `slow` is there,
+ * a decision takes 20 ms. The file `stop-at` has the beginning of a move at which its memory fails,
+ * once; `wrong-at` one to which it replies wrongly, once, and how, behind a line feed. Where the
+ * file `die-at` has a word, it ends at the first move that begins with it, instead of a reply, and
+ * removes the file; {@code decided} is a decision to commit that it makes and doesn't tell. It
+ * begins with the line of the protocol where the file `protocol` has its words. Where `refusal` is
+ * there, it ends with the status that this has, and says what stands behind that. The files `names`
+ * and `rows` have what {@code xatm log} prints of its log, and `in-use` is there if that says that
+ * a program has it; what {@code xatm log --make} is given is in `made`. From the first move that
+ * begins with the word of the file `silent` on, or from its start for `restarted`, it says nothing,
  * and the file is removed.
  */
 final class StandInCoordinator extends Process {
@@ -63,14 +66,18 @@ final class StandInCoordinator extends Process {
     private final Map<String, List<String>> found;
     private final Map<Integer, Transaction> transactions = new HashMap<>();
     private final Map<Integer, Recovering> recoveries = new HashMap<>();
-    // The calls by which branches of this session are to be ended; and the branches of rows that are.
+    // The calls by which branches of this session are to be ended; and the branches of rows that
+    // are.
     private final Map<String, String> debts = new LinkedHashMap<>();
     private final Set<String> settled = new HashSet<>();
     private long sequence;
     private boolean isSilent, isStopped;
     /** Before each reply. */
     volatile Runnable before = () -> { };
-    /** What the driver's write, or read, of such a text ends in: once a half is written, or all is read. */
+    /**
+     * What the driver's write, or read, of such a text ends in: once a half is written, or all is
+     * read.
+     */
     volatile Map.Entry<String, Error> writing, reading;
     /** What its next try to end this ends in. */
     volatile Error ending;
@@ -159,7 +166,10 @@ final class StandInCoordinator extends Process {
         thread.start();
     }
 
-    /** A new log keeps the names that it is made with, and one that was there those that come after them. What it says against others. */
+    /**
+     * A new log keeps the names that it is made with, and one that was there those that come after
+     * them. What it says against others.
+     */
     private String keptNames(List<String> words) throws IOException {
         Path names = folder.resolve("names");
         List<String> lines = new ArrayList<>();
@@ -528,7 +538,10 @@ final class StandInCoordinator extends Process {
         }
     }
 
-    /** A pipe between threads gives nothing once the thread that wrote last has ended, until another one writes. */
+    /**
+     * A pipe between threads gives nothing once the thread that wrote last has ended, until another
+     * one writes.
+     */
     private InputStream requests() {
         return new FilterInputStream(fromDriver) {
             @Override

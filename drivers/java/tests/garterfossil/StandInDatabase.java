@@ -16,7 +16,10 @@ import java.util.concurrent.atomic.AtomicInteger;
 import javax.sql.XAConnection;
 import javax.sql.XADataSource;
 
-/** A stand-in for a database with a JDBC driver: it notes each statement, and by which connection it was done. */
+/**
+ * A stand-in for a database with a JDBC driver: it notes each statement, and by which connection it
+ * was done.
+ */
 final class StandInDatabase {
     /** What lies under a connection, as the driver's own. */
     interface Plain {

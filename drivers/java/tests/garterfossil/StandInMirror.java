@@ -19,9 +19,15 @@ import java.util.TreeMap;
 import java.util.concurrent.ConcurrentHashMap;
 import javax.sql.DataSource;
 
-/** A stand-in for a mirror's database: it knows the statements that the driver makes there, by how they begin. */
+/**
+ * A stand-in for a mirror's database: it knows the statements that the driver makes there, by how
+ * they begin.
+ */
 final class StandInMirror {
-    /** What it has of each manager: the log, the resources and the incarnation; and the decisions, by the manager's name and the transaction. */
+    /**
+     * What it has of each manager: the log, the resources and the incarnation; and the decisions,
+     * by the manager's name and the transaction.
+     */
     final Map<String, List<Object>> managers = new ConcurrentHashMap<>();
     final Map<String, String> decisions = new ConcurrentHashMap<>();
     volatile boolean isUp = true;

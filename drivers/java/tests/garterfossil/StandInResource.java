@@ -13,7 +13,10 @@ import javax.transaction.xa.XAException;
 import javax.transaction.xa.XAResource;
 import javax.transaction.xa.Xid;
 
-/** A stand-in for a database: it keeps branches by XA's branch state table, and answers otherwise where a test says so. */
+/**
+ * A stand-in for a database: it keeps branches by XA's branch state table, and answers otherwise
+ * where a test says so.
+ */
 final class StandInResource implements Resource {
     /** Answers as a lost connection does, once what was asked for is done, or before. */
     static final int LOST_BEFORE = 1001, LOST_AFTER = 1002;

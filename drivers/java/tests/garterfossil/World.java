@@ -75,7 +75,10 @@ final class World extends ExternalResource {
         return transaction;
     }
 
-    /** A transaction whose connection to a resource is lost as it is prepared: so that resource is recovered. */
+    /**
+     * A transaction whose connection to a resource is lost as it is prepared: so that resource is
+     * recovered.
+     */
     void loseOneAt(StandInResource resource) throws Exception {
         GlobalTransaction transaction = overBoth();
         resource.answer("prepare", StandInResource.LOST_BEFORE);

@@ -11,7 +11,10 @@ import java.sql.ResultSet;
 import java.sql.SQLException;
 import java.sql.Statement;
 
-/** The statements of a connection as a program has it, and what they give out: none of them leads past its gate. */
+/**
+ * The statements of a connection as a program has it, and what they give out: none of them leads
+ * past its gate.
+ */
 final class Children {
     private final ConnectionHandle handle;
 

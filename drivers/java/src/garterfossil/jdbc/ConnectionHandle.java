@@ -16,7 +16,10 @@ import java.util.Collections;
 import java.util.IdentityHashMap;
 import java.util.Set;
 
-/** A connection as a program has it. All its work goes through a gate, which is shut as the transaction ends. */
+/**
+ * A connection as a program has it. All its work goes through a gate, which is shut as the
+ * transaction ends.
+ */
 final class ConnectionHandle implements InvocationHandler {
     static final Gate.Work NOTHING = () -> { };
 
@@ -151,7 +154,10 @@ final class ConnectionHandle implements InvocationHandler {
         }
     }
 
-    /** Sees that work on it is of the thread's transaction, if that has one: else it would stay, or not, whatever becomes of that. */
+    /**
+     * Sees that work on it is of the thread's transaction, if that has one: else it would stay, or
+     * not, whatever becomes of that.
+     */
     void seeOwn() throws SQLException {
         GlobalTransaction current = manager.current();
         if (current == null || current == transaction) {

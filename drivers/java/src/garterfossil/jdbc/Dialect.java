@@ -83,7 +83,8 @@ enum Dialect {
         @Override
         boolean isGivenUp(Connection connection) throws SQLException {
             try {
-                // The driver knows it from the last answer of the server, so that it needn't be asked.
+                // The driver knows it from the last answer of the server, so that it needn't be
+                // asked.
                 Method asked = stateMethod(connection.getClass().getClassLoader());
                 return asked.invoke(connection.unwrap(asked.getDeclaringClass())).toString().equals("FAILED");
             } catch (ReflectiveOperationException error) {
@@ -115,7 +116,8 @@ enum Dialect {
     MARIADB {
         // Each connection holds a named lock, by which the next run of the manager knows it.
         private static final int LOCKS = 512;
-        // 10.1 has blocks of statements outside of procedures (BEGIN NOT ATOMIC). MySQL, which this is for too, has none.
+        // 10.1 has blocks of statements outside of procedures (BEGIN NOT ATOMIC). MySQL, which this
+        // is for too, has none.
         private static final int FIRST_WITH_BLOCKS = 1001;
 
         @Override
@@ -190,7 +192,10 @@ enum Dialect {
             }
         }
     },
-    /** A database in this process, or one whose connections nothing here can end: they end as the process does. */
+    /**
+     * A database in this process, or one whose connections nothing here can end: they end as the
+     * process does.
+     */
     OTHER {
         @Override
         long number(Connection connection, String label) {
@@ -207,7 +212,10 @@ enum Dialect {
         }
     };
 
-    /** The name of one of the locks at MariaDB, which takes at most 192 letters there, and doesn't know capital ones from others. */
+    /**
+     * The name of one of the locks at MariaDB, which takes at most 192 letters there, and doesn't
+     * know capital ones from others.
+     */
     static String lock(String label, int slot) {
         String digits = HexFormat.of().formatHex(label.getBytes(StandardCharsets.US_ASCII));
         String text = digits.length() < 160 ? digits : String.format("%s~%08x", digits.substring(0, 150), label.hashCode());
@@ -219,12 +227,17 @@ enum Dialect {
         return product.contains("postgresql") ? POSTGRESQL : product.contains("mariadb") || product.contains("mysql") ? MARIADB : OTHER;
     }
 
-    /** What the database calls itself, which no other one does: the same as what was kept of it, if it is the same; null if there is nothing. */
+    /**
+     * What the database calls itself, which no other one does: the same as what was kept of it, if
+     * it is the same; null if there is nothing.
+     */
     String identity(Connection connection, String kept) {
         return null;
     }
 
-    /** How the database is set so that it may not keep what it voted for, as somebody is to read it. */
+    /**
+     * How the database is set so that it may not keep what it voted for, as somebody is to read it.
+     */
     List<String> weaknesses(Connection connection) {
         return List.of();
     }
@@ -251,12 +264,18 @@ enum Dialect {
         return new JdbcXaResource(owner, this, inner, connection);
     }
 
-    /** Whether the database has given the transaction of the connection up, and would answer otherwise as it is prepared. */
+    /**
+     * Whether the database has given the transaction of the connection up, and would answer
+     * otherwise as it is prepared.
+     */
     boolean isGivenUp(Connection connection) throws SQLException {
         return false;
     }
 
-    /** Ends the connections of this label, except those that are kept, and waits until they are gone. */
+    /**
+     * Ends the connections of this label, except those that are kept, and waits until they are
+     * gone.
+     */
     void endOthers(Connection connection, String label, long own, Set<Long> kept) throws SQLException, Fault.Lost {
         long until = System.nanoTime() + 20_000_000_000L;
         while (true) {

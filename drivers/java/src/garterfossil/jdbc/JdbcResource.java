@@ -17,8 +17,9 @@ import javax.sql.XADataSource;
 /**
  * A database, by its driver's XADataSource, with a pool of connections.
  *
- * <p>The manager ends connections that an earlier session left, and knows them by its own name and the resource's: at PostgreSQL they
- * are in the application_name, and at MariaDB in a named lock (GET_LOCK) that each connection holds.
+ * <p>The manager ends connections that an earlier session left, and knows them by its own name and
+ * the resource's: at PostgreSQL they are in the application_name, and at MariaDB in a named lock
+ * (GET_LOCK) that each connection holds.
  */
 public final class JdbcResource extends PooledResource<JdbcResource> {
     private final XADataSource source;
@@ -47,7 +48,10 @@ public final class JdbcResource extends PooledResource<JdbcResource> {
         return new PooledDataSource(of, this, source);
     }
 
-    /** XAConnections for a pool that isn't the manager's: their XAResources may be enlisted, since they say whose they are. */
+    /**
+     * XAConnections for a pool that isn't the manager's: their XAResources may be enlisted, since
+     * they say whose they are.
+     */
     public XADataSource xaDataSource() {
         return owned.proxy();
     }
@@ -57,7 +61,10 @@ public final class JdbcResource extends PooledResource<JdbcResource> {
         return connection();
     }
 
-    /** Sees that a new connection is one to the database that it always was; and once, that this keeps what it promises. */
+    /**
+     * Sees that a new connection is one to the database that it always was; and once, that this
+     * keeps what it promises.
+     */
     void see(Connection connection) throws SQLException, Fault.Lost {
         Dialect kind = Dialect.of(connection);
         Known it = known();

@@ -10,10 +10,12 @@ import javax.transaction.xa.XAResource;
 import javax.transaction.xa.Xid;
 
 /**
- * A database driver's XAResource, which says whose it is, and doesn't prepare what the database has given up: a driver may answer XA_OK to
- * the prepare of a transaction in which a statement failed, and the database has rolled it back by then.
+ * A database driver's XAResource, which says whose it is, and doesn't prepare what the database has
+ * given up: a driver may answer XA_OK to the prepare of a transaction in which a statement failed,
+ * and the database has rolled it back by then.
  *
- * <p>Each call takes so long at most: a database that is silent would keep the transaction's other databases waiting.
+ * <p>Each call takes so long at most: a database that is silent would keep the transaction's other
+ * databases waiting.
  */
 class JdbcXaResource implements OwnedXaResource {
     /** A call of XA. */
@@ -88,7 +90,10 @@ class JdbcXaResource implements OwnedXaResource {
         });
     }
 
-    /** Sets how long the connection waits for an answer: what that was before. Some drivers know no bound. */
+    /**
+     * Sets how long the connection waits for an answer: what that was before. Some drivers know no
+     * bound.
+     */
     private int setLongest(int millis) {
         try {
             int before = connection.getNetworkTimeout();
@@ -122,7 +127,8 @@ class JdbcXaResource implements OwnedXaResource {
         try {
             inner.commit(xid, isOnePhase);
         } catch (XAException error) {
-            // By XA the branch is rolled back then. MariaDB says so of whatever went wrong in its commit.
+            // By XA the branch is rolled back then. MariaDB says so of whatever went wrong in its
+            // commit.
             boolean isNoAnswer = error.errorCode == XAException.XAER_RMERR && dialect == Dialect.MARIADB;
             throw isNoAnswer ? failed(XAException.XAER_RMFAIL, new SQLException(error)) : error;
         }

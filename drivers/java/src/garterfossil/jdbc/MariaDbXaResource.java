@@ -11,9 +11,15 @@ import javax.transaction.xa.XAException;
 import javax.transaction.xa.XAResource;
 import javax.transaction.xa.Xid;
 
-/** An XAResource of MariaDB, at which XA END and XA PREPARE are one statement: the second isn't made where the first fails. */
+/**
+ * An XAResource of MariaDB, at which XA END and XA PREPARE are one statement: the second isn't made
+ * where the first fails.
+ */
 final class MariaDbXaResource extends JdbcXaResource implements PreparesAtEnd {
-    /** XAER_RMFAIL, which it answers to XA END after a deadlock; XA_RBROLLBACK, XA_RBTIMEOUT and XA_RBDEADLOCK. */
+    /**
+     * XAER_RMFAIL, which it answers to XA END after a deadlock; XA_RBROLLBACK, XA_RBTIMEOUT and
+     * XA_RBDEADLOCK.
+     */
     private static final int RMFAIL = 1399, RBROLLBACK = 1402, RBTIMEOUT = 1613, RBDEADLOCK = 1614;
 
     private final Connection connection;
@@ -37,8 +43,9 @@ final class MariaDbXaResource extends JdbcXaResource implements PreparesAtEnd {
     }
 
     /**
-     * MariaDB keeps nothing of a prepared branch that only read, once the connection that prepared it is gone: it lists it until somebody ends
-     * it, and answers by XA_RBROLLBACK then. There was nothing to roll back, so it is committed as well.
+     * MariaDB keeps nothing of a prepared branch that only read, once the connection that prepared
+     * it is gone: it lists it until somebody ends it, and answers by XA_RBROLLBACK then. There was
+     * nothing to roll back, so it is committed as well.
      */
     @Override
     public void commit(Xid xid, boolean isOnePhase) throws XAException {
@@ -60,7 +67,10 @@ final class MariaDbXaResource extends JdbcXaResource implements PreparesAtEnd {
         return false;
     }
 
-    /** Rolls back what MariaDB has given up: the vote. What it was that failed is known by the code alone. */
+    /**
+     * Rolls back what MariaDB has given up: the vote. What it was that failed is known by the code
+     * alone.
+     */
     private int rolledBack(Xid xid, SQLException error) throws XAException {
         int vote = vote(error.getErrorCode());
         if (vote != XAException.XAER_RMFAIL) {

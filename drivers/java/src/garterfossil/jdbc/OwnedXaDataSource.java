@@ -9,7 +9,10 @@ import java.util.concurrent.ConcurrentHashMap;
 import javax.sql.XAConnection;
 import javax.sql.XADataSource;
 
-/** Connections for a pool that isn't the manager's: their XAResources say to which resource they belong. */
+/**
+ * Connections for a pool that isn't the manager's: their XAResources say to which resource they
+ * belong.
+ */
 final class OwnedXaDataSource {
     private final JdbcResource owner;
     private final XADataSource source;
@@ -70,7 +73,10 @@ final class OwnedXaDataSource {
         }
     }
 
-    /** The connection, whose transaction isn't the program's to end while it has a branch: other drivers see to that themselves. */
+    /**
+     * The connection, whose transaction isn't the program's to end while it has a branch: other
+     * drivers see to that themselves.
+     */
     private static Connection guarded(Connection plain, PostgreSqlXaResource resource) {
         return (Connection) Proxy.newProxyInstance(OwnedXaDataSource.class.getClassLoader(), new Class<?>[] {Connection.class}, (proxy, method, words) -> {
             String name = method.getName();

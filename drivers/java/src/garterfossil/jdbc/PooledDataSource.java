@@ -13,8 +13,8 @@ import javax.sql.DataSource;
 import javax.sql.XADataSource;
 
 /**
- * Connections to a database. In a transaction each is the transaction's own and takes part in it, and closing it leaves that as it is;
- * outside it is an ordinary one, in autocommit.
+ * Connections to a database. In a transaction each is the transaction's own and takes part in it,
+ * and closing it leaves that as it is; outside it is an ordinary one, in autocommit.
  */
 final class PooledDataSource implements DataSource {
     private final Manager manager;

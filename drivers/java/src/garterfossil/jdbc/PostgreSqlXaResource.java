@@ -12,8 +12,9 @@ import javax.transaction.xa.XAResource;
 import javax.transaction.xa.Xid;
 
 /**
- * An XAResource of PostgreSQL, by its statements. That of PostgreSQL's driver names prepared branches in its own way, so that no other
- * program over the same log would find them. xa_end is kept here: PostgreSQL has none.
+ * An XAResource of PostgreSQL, by its statements. That of PostgreSQL's driver names prepared
+ * branches in its own way, so that no other program over the same log would find them. xa_end is
+ * kept here: PostgreSQL has none.
  */
 final class PostgreSqlXaResource extends JdbcXaResource {
     private static final String NO_SUCH_BRANCH = "42704";
@@ -83,7 +84,9 @@ final class PostgreSqlXaResource extends JdbcXaResource {
         });
     }
 
-    /** Ends the branch of the connection. Where PostgreSQL says that it doesn't, it has rolled back. */
+    /**
+     * Ends the branch of the connection. Where PostgreSQL says that it doesn't, it has rolled back.
+     */
     private void endBy(Work end) throws XAException {
         try {
             end.it();

@@ -6,8 +6,9 @@ import java.util.Optional;
 import javax.transaction.xa.Xid;
 
 /**
- * The names of prepared branches at PostgreSQL. They are the coordinator's texts of the identifiers, as in {@code 7:<digits>:<digits>}, so
- * that whatever works over the same log finds them. Drivers before this one had them named by PostgreSQL's own driver, in base64.
+ * The names of prepared branches at PostgreSQL. They are the coordinator's texts of the
+ * identifiers, as in {@code 7:<digits>:<digits>}, so that whatever works over the same log finds
+ * them. Drivers before this one had them named by PostgreSQL's own driver, in base64.
  */
 final class PreparedNames {
     private PreparedNames() {

@@ -9,7 +9,10 @@ import java.util.List;
 import java.util.Optional;
 import java.util.UUID;
 
-/** What databases say of themselves: which one it is, and what it may not keep. The driver in Python has the same texts of the first. */
+/**
+ * What databases say of themselves: which one it is, and what it may not keep. The driver in Python
+ * has the same texts of the first.
+ */
 final class Traits {
     private static final int NO_SUCH_TABLE = 1146;
     private static final String SERVER = "the server", VIEW = "garterfossil_identity";
@@ -25,7 +28,10 @@ final class Traits {
             + " FROM pg_control_system(), pg_database WHERE datname = current_database()").orElse(null);
     }
 
-    /** What a server calls itself changes with its machine. So it is only taken where the database can't have a name of its own. */
+    /**
+     * What a server calls itself changes with its machine. So it is only taken where the database
+     * can't have a name of its own.
+     */
     static String ofMariaDb(Connection connection, String kept) {
         Optional<String> own = kept == null || !kept.startsWith(SERVER) ? ownOfMariaDb(connection) : Optional.empty();
         if (own.isPresent()) {
@@ -35,7 +41,10 @@ final class Traits {
             .map(uid -> SERVER + " " + uid + " of MariaDB").orElse(null);
     }
 
-    /** What is in the view that is made in the database at its first use. None if it can't be made: there is no database, or no privilege. */
+    /**
+     * What is in the view that is made in the database at its first use. None if it can't be made:
+     * there is no database, or no privilege.
+     */
     private static Optional<String> ownOfMariaDb(Connection connection) {
         String asked = "SELECT id FROM " + VIEW;
         try {

@@ -19,9 +19,10 @@ import javax.transaction.xa.XAException;
 import javax.transaction.xa.XAResource;
 
 /**
- * What a broker is known by again. JMS has nothing of the kind, and what ActiveMQ calls itself is drawn anew at each of its starts. So it is a
- * message of the driver's own, in a queue of its own, which stays there: it is only looked at. Outside of a branch a session of XA neither sends
- * nor looks at anything, so each has a branch of its own, which is never prepared.
+ * What a broker is known by again. JMS has nothing of the kind, and what ActiveMQ calls itself is
+ * drawn anew at each of its starts. So it is a message of the driver's own, in a queue of its own,
+ * which stays there: it is only looked at. Outside of a branch a session of XA neither sends nor
+ * looks at anything, so each has a branch of its own, which is never prepared.
  */
 final class BrokerIdentity {
     static final String QUEUE = "garterfossil.identity";
@@ -29,7 +30,10 @@ final class BrokerIdentity {
     private BrokerIdentity() {
     }
 
-    /** That of the broker of a connection, which is made at its first use, if none was kept; null if the user may not do that. */
+    /**
+     * That of the broker of a connection, which is made at its first use, if none was kept; null if
+     * the user may not do that.
+     */
     static String of(XAConnection connection, String kept) throws JMSException {
         XASession session = connection.createXASession();
         try {
@@ -111,7 +115,10 @@ final class BrokerIdentity {
             || error.getLinkedException() instanceof SecurityException;
     }
 
-    /** Where the broker is reached, as far as its factory tells: ActiveMQ's has a URL, whose end may have a password. */
+    /**
+     * Where the broker is reached, as far as its factory tells: ActiveMQ's has a URL, whose end may
+     * have a password.
+     */
     static String placeOf(XAConnectionFactory factory) {
         try {
             return String.valueOf(factory.getClass().getMethod("getBrokerURL").invoke(factory)).replaceFirst("\\?.*", "");

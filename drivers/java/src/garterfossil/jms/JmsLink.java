@@ -42,7 +42,10 @@ final class JmsLink implements Link {
         resource = (XAResource) Proxy.newProxyInstance(getClass().getClassLoader(), new Class<?>[] {XAResource.class}, this::bounded);
     }
 
-    /** A call of XA, which takes as long as the link is bound: a client may wait without end for a broker that is silent. */
+    /**
+     * A call of XA, which takes as long as the link is bound: a client may wait without end for a
+     * broker that is silent.
+     */
     private Object bounded(Object proxy, Method method, Object[] words) throws Throwable {
         try {
             return Apart.within(longest, () -> method.invoke(session.getXAResource(), words), late -> { });

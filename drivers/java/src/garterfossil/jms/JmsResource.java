@@ -17,8 +17,9 @@ import javax.jms.XAConnectionFactory;
 /**
  * A message broker, by its client's XAConnectionFactory, with a pool of connections.
  *
- * <p>Each connection has a client identifier of its own, of which a broker lets one in at a time (JMS 1.1, section 4.3.2): so a
- * connection that an earlier manager left is seen to be gone before a new one of its identifier is used.
+ * <p>Each connection has a client identifier of its own, of which a broker lets one in at a time
+ * (JMS 1.1, section 4.3.2): so a connection that an earlier manager left is seen to be gone before
+ * a new one of its identifier is used.
  */
 public final class JmsResource extends PooledResource<JmsResource> {
     private static final long PATIENCE = TimeUnit.SECONDS.toNanos(40);
@@ -27,7 +28,8 @@ public final class JmsResource extends PooledResource<JmsResource> {
     // The identifiers that are in use, by their numbers.
     private final BitSet used = new BitSet();
     private ConnectionFactory outside;
-    // Whether all identifiers were seen to be free since the session began, and those that were given back since then.
+    // Whether all identifiers were seen to be free since the session began, and those that were
+    // given back since then.
     private boolean areSeen;
     private final BitSet left = new BitSet();
 
@@ -46,7 +48,9 @@ public final class JmsResource extends PooledResource<JmsResource> {
         return this;
     }
 
-    /** What makes the sessions outside of any transaction; there are none where this isn't given. */
+    /**
+     * What makes the sessions outside of any transaction; there are none where this isn't given.
+     */
     public JmsResource outside(ConnectionFactory plain) {
         outside = plain;
         return this;
@@ -108,7 +112,10 @@ public final class JmsResource extends PooledResource<JmsResource> {
         }
     }
 
-    /** A connection that has its identifier, once an older one of the same is gone; to the broker that it always was, if that is to be seen. */
+    /**
+     * A connection that has its identifier, once an older one of the same is gone; to the broker
+     * that it always was, if that is to be seen.
+     */
     private XAConnection connection(int number, boolean isToBeSeen) throws JMSException, Fault.Lost {
         String client = label("-") + "-" + number;
         long until = System.nanoTime() + PATIENCE;
@@ -150,7 +157,10 @@ public final class JmsResource extends PooledResource<JmsResource> {
         }
     }
 
-    /** Sees that each identifier is free that isn't kept: then no connection of an earlier manager is there. In a session, of those that were left. */
+    /**
+     * Sees that each identifier is free that isn't kept: then no connection of an earlier manager
+     * is there. In a session, of those that were left.
+     */
     @Override
     public void endOthers(Set<Long> kept) throws Fault.Lost {
         BitSet unseen = unseen();

@@ -17,8 +17,8 @@ import javax.jms.TopicSession;
 import javax.jms.TopicSubscriber;
 
 /**
- * A session outside of any transaction. It does no work while its thread has one: what it sends and receives would be no part of that, and
- * so be lost or doubled where that is rolled back.
+ * A session outside of any transaction. It does no work while its thread has one: what it sends and
+ * receives would be no part of that, and so be lost or doubled where that is rolled back.
  */
 final class OutsideSession {
     private static final List<Class<?>> FACES = List.of(Session.class, QueueSession.class, TopicSession.class, MessageConsumer.class,

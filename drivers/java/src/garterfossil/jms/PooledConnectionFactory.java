@@ -15,8 +15,9 @@ import javax.jms.JMSException;
 import javax.jms.Session;
 
 /**
- * Connections to a broker. A session that is made in a transaction takes part in it; outside of any it is an ordinary one, of another
- * factory. No class implements the interface, since that has more methods from JMS 2.0 on, which the jar may run over.
+ * Connections to a broker. A session that is made in a transaction takes part in it; outside of any
+ * it is an ordinary one, of another factory. No class implements the interface, since that has more
+ * methods from JMS 2.0 on, which the jar may run over.
  */
 final class PooledConnectionFactory {
     private final Manager manager;

@@ -16,7 +16,10 @@ import javax.jms.QueueBrowser;
 import javax.jms.Session;
 import javax.jms.TransactionInProgressException;
 
-/** A session as a program has it in a transaction. All its work goes through a gate, which is shut as the transaction ends. */
+/**
+ * A session as a program has it in a transaction. All its work goes through a gate, which is shut
+ * as the transaction ends.
+ */
 final class SessionHandle {
     private static final Gate.Work NOTHING = () -> { };
 

@@ -131,7 +131,10 @@ public final class JtaTransaction implements Transaction {
         }
     }
 
-    /** The XAResource takes part. It belongs to a resource of the manager, which is known by its name. */
+    /**
+     * The XAResource takes part. It belongs to a resource of the manager, which is known by its
+     * name.
+     */
     @Override
     public boolean enlistResource(XAResource xaResource) throws RollbackException, SystemException {
         requireOpen();
@@ -147,8 +150,9 @@ public final class JtaTransaction implements Transaction {
     }
 
     /**
-     * The work on the XAResource is over, well (TMSUCCESS) or not (TMFAIL). Its branch ends with the transaction, and until then it
-     * may be enlisted again. TMSUSPEND isn't supported: this XA has no xa_start that goes on with a branch (TMRESUME).
+     * The work on the XAResource is over, well (TMSUCCESS) or not (TMFAIL). Its branch ends with
+     * the transaction, and until then it may be enlisted again. TMSUSPEND isn't supported: this XA
+     * has no xa_start that goes on with a branch (TMRESUME).
      */
     @Override
     public boolean delistResource(XAResource xaResource, int flag) throws SystemException {

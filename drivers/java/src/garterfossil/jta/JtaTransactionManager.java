@@ -16,7 +16,10 @@ import javax.transaction.Transaction;
 import javax.transaction.TransactionManager;
 import javax.transaction.UserTransaction;
 
-/** JTA's TransactionManager and UserTransaction (JTA 1.2, sections 3.1 and 3.2). A thread has one transaction at a time. */
+/**
+ * JTA's TransactionManager and UserTransaction (JTA 1.2, sections 3.1 and 3.2). A thread has one
+ * transaction at a time.
+ */
 public final class JtaTransactionManager implements TransactionManager, UserTransaction {
     private final Manager manager;
     private final ThreadLocal<Integer> timeout = new ThreadLocal<>();
@@ -76,7 +79,10 @@ public final class JtaTransactionManager implements TransactionManager, UserTran
         return transaction == null ? null : JtaTransaction.of(manager, transaction);
     }
 
-    /** For the transactions that this thread begins from now on: so many seconds, or with 0 the manager's own time-out. */
+    /**
+     * For the transactions that this thread begins from now on: so many seconds, or with 0 the
+     * manager's own time-out.
+     */
     @Override
     public void setTransactionTimeout(int seconds) throws SystemException {
         if (seconds < 0) {

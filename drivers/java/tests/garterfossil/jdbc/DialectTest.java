@@ -14,7 +14,10 @@ import org.junit.Test;
 
 /** How MariaDB knows the manager's connections. */
 public class DialectTest {
-    /** A connection to PostgreSQL whose application_name is this: what was set instead is added to the list. */
+    /**
+     * A connection to PostgreSQL whose application_name is this: what was set instead is added to
+     * the list.
+     */
     private static Connection named(String name, List<String> set) {
         ResultSet rows = of(ResultSet.class, (method, words) -> method.equals("next") ? (Object) true : method.equals("getLong") ? (Object) 7L : null);
         PreparedStatement statement = of(PreparedStatement.class, (method, words) -> {
@@ -45,7 +48,8 @@ public class DialectTest {
 
     @Test
     public void namesOfLocksAreShortEnough() {
-        // The longest names of a manager and of a resource. MariaDB 10.11 refuses a lock's name of 193 letters (error 1059).
+        // The longest names of a manager and of a resource. MariaDB 10.11 refuses a lock's name of
+        // 193 letters (error 1059).
         String label = "garterfossil " + "m".repeat(16) + " " + "r".repeat(64), other = label.substring(1) + "x";
         assertTrue(Dialect.lock(label, 511).length() <= 192);
         assertNotEquals(Dialect.lock(label, 0), Dialect.lock(other, 0));

@@ -115,7 +115,8 @@ public class MariaDbXaResourceTest {
 
     @Test
     public void aFatalErrorIsNoAnswer() {
-        // XA has it that the branch was rolled back then (1401, XAER_RMERR). It may as well have been committed.
+        // XA has it that the branch was rolled back then (1401, XAER_RMERR). It may as well have
+        // been committed.
         for (boolean isOnePhase : new boolean[] {false, true}) {
             XAException error = assertThrows(XAException.class, () -> answering(XAException.XAER_RMERR, false).commit(xid, isOnePhase));
             assertEquals(XAException.XAER_RMFAIL, error.errorCode);

@@ -21,7 +21,10 @@ import org.junit.Test;
 
 /** How branches are named at PostgreSQL, and what it may answer to their end. */
 public class PostgreSqlXaResourceTest {
-    /** The names of one branch: the coordinator's text (docs/SERVE.md), and what PostgreSQL's own driver makes of it. */
+    /**
+     * The names of one branch: the coordinator's text (docs/SERVE.md), and what PostgreSQL's own
+     * driver makes of it.
+     */
     private static final String NAME = "7:73686f700000000000000001000000000000000f:0000000100000000", OLDER = "7_c2hvcAAAAAAAAAABAAAAAAAAAA8=_AAAAAQAAAAA=";
 
     private final List<String> done = new ArrayList<>();
