@@ -5,8 +5,7 @@ from __future__ import annotations
 import functools
 import os
 import threading
-from types import TracebackType
-from typing import TYPE_CHECKING, Optional, Type
+from typing import TYPE_CHECKING, Optional
 
 from . import current, lease
 from .adapters.base import Options
@@ -59,9 +58,7 @@ class Block:
         if self._is_given_up:
             lease.REAPER.give_up(self._lease)
 
-    def __exit__(
-        self, kind: Optional[Type[BaseException]], error: Optional[BaseException], trace: Optional[TracebackType]
-    ) -> None:
+    def __exit__(self, _: object, error: Optional[BaseException], __: object) -> None:
         try:
             held, entry = self._lease, self._entry
             assert held is not None and entry is not None

@@ -5,11 +5,11 @@ from __future__ import annotations
 import contextlib
 import os
 import time
-from types import TracebackType
-from typing import TYPE_CHECKING, Any, Callable, Generator, Iterator, Optional, Type
+from typing import TYPE_CHECKING, Any, Callable, Generator, Iterator
 
 from .adapters.base import Connection, Parameters, Result
-from .errors import ConnectionLost, EndRefused, TimedOut, TransactionOver
+from .aside import aside, is_interrupt
+from .errors import ConnectionLost, EndRefused, HeuristicEnd, TimedOut, TransactionOver
 from .xid import Xid
 
 if TYPE_CHECKING:
@@ -92,9 +92,13 @@ class Branch:
         if self._is_late:
             raise TimedOut("the transaction has outlasted its timeout")
         try:
-            return self._line.work(self._connection, self.xid, step)
-        except ConnectionLost as error:
-            if self._is_late:
+            return self._connection.work(self.xid, step)
+        except BaseException as error:
+            # After an interrupt nobody knows what the connection would say next.
+            is_unknown = isinstance(error, (ConnectionLost, HeuristicEnd)) or is_interrupt(error)
+            if is_unknown and self._connection.is_active(self.xid) and self._line.connection is self._connection:
+                aside(self._line.lose)
+            if isinstance(error, ConnectionLost) and self._is_late:
                 raise TimedOut(f"the transaction has outlasted its timeout in a statement: {error}") from error
             raise
 
@@ -105,7 +109,8 @@ class Branch:
 
     def _refuse_ends(self, statement: Any) -> None:
         text = statement if type(statement) is str else self._connection.text_of(statement)
-        self._connection.TEXTS.refuse_ends(text)
+        if self._connection.TEXTS.refuse_ends(text):
+            self._connection.is_changed = True
 
 
 class BranchCursor:
@@ -153,12 +158,7 @@ class BranchCursor:
         return guarded
 
     def __iter__(self) -> Iterator[Any]:
-        rows = self._branch._work(lambda: iter(self._cursor))
-        while True:
-            row = self._branch._work(lambda: next(rows, END))
-            if row is END:
-                return
-            yield row
+        return _steps(self._branch, self._cursor)
 
     def __next__(self) -> Any:
         row = self.fetchone()
@@ -169,9 +169,7 @@ class BranchCursor:
     def __enter__(self) -> BranchCursor:
         return self
 
-    def __exit__(
-        self, kind: Optional[Type[BaseException]], error: Optional[BaseException], trace: Optional[TracebackType]
-    ) -> None:
+    def __exit__(self, *_: object) -> None:
         self.close()
 
 
@@ -192,12 +190,7 @@ class BranchPart:
         return lambda *words, **options: self._branch._work(lambda: value(*words, **options))
 
     def __iter__(self) -> Iterator[Any]:
-        steps = self._branch._work(lambda: iter(self._part))
-        while True:
-            step = self._branch._work(lambda: next(steps, END))
-            if step is END:
-                return
-            yield step
+        return _steps(self._branch, self._part)
 
     def __next__(self) -> Any:
         step = self._branch._work(lambda: next(self._part, END))
@@ -208,10 +201,18 @@ class BranchPart:
     def __enter__(self) -> BranchPart:
         return BranchPart(self._branch, self._branch._work(self._part.__enter__))
 
-    def __exit__(
-        self, kind: Optional[Type[BaseException]], error: Optional[BaseException], trace: Optional[TracebackType]
-    ) -> bool:
-        return bool(self._branch._work(lambda: self._part.__exit__(kind, error, trace)))
+    def __exit__(self, *raised: Any) -> bool:
+        return bool(self._branch._work(lambda: self._part.__exit__(*raised)))
+
+
+def _steps(branch: Branch, given: Any) -> Iterator[Any]:
+    """What something gives one after the other, each in a step of the work on a branch."""
+    steps = branch._work(lambda: iter(given))
+    while True:
+        step = branch._work(lambda: next(steps, END))
+        if step is END:
+            return
+        yield step
 
 
 def is_lazy(given: Any) -> bool:
@@ -253,9 +254,7 @@ class BranchConnection:
     def __enter__(self) -> BranchConnection:
         raise EndRefused("the block of a module's connection ends a transaction: use that of the transaction manager")
 
-    def __exit__(
-        self, kind: Optional[Type[BaseException]], error: Optional[BaseException], trace: Optional[TracebackType]
-    ) -> None:
+    def __exit__(self, *_: object) -> None:
         """There is no block."""
 
     def _refused(self, name: str) -> Any:

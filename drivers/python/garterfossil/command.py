@@ -3,6 +3,7 @@
 from __future__ import annotations
 
 import argparse
+import contextlib
 import logging
 import sys
 from typing import Any, Callable, Dict, Iterator, List, Mapping, Optional, Sequence, Tuple
@@ -12,10 +13,10 @@ from .calls import Call
 from .codes import Code
 from .configuration import Configuration
 from .coordinator import Coordinator, serve_command
-from .doubt import IN_USE, Listing, Log, incarnation_in, listings_of, logs_of, manager_in, place_of, settled_listings_of
+from .doubt import IN_USE, Listing, call_for, listings_of, logs_of, manager_of_log, objection, place_of, settled_listings_of
 from .errors import LogInUse, SetupError, XaError
 from .failover import fail_over
-from .logs import logs_of_workers
+from .logs import Log, Names, logs_of_workers
 from .metrics import Metric, in_json, in_prometheus
 from .xid import Xid
 
@@ -78,7 +79,7 @@ def _parser() -> argparse.ArgumentParser:
 
 def _recover(configuration: Configuration) -> None:
     """Starts and closes the manager over each log that no program has."""
-    for path in logs_of_workers(configuration.log) or [configuration.log]:
+    for path in logs_of_workers(configuration.log):
         try:
             configuration.manager(path).close()
         except LogInUse as error:
@@ -102,21 +103,21 @@ def _status(configuration: Configuration, form: str) -> int:
 
 def _shown(configuration: Configuration, logs: Mapping[str, Log], found: List[Listing]) -> Dict[str, Any]:
     """The same as objects, for programs."""
-    by_manager = {log.names.manager: log for log in logs.values()}
+    by_manager = {manager_of_log(log): log for log in logs.values()}
 
     def branch(one: Listing, xid: Xid) -> Dict[str, Any]:
-        log = by_manager[manager_in(xid)]
-        waits_for = None if log.objection(xid) is not None else log.call_for(xid)
+        log = by_manager[xid.manager]
+        waits_for = None if objection(log, xid) is not None else call_for(log, xid)
         return {"branch": str(xid), "seconds": one.ages.get(xid), "waits_for": waits_for}
 
     return {
         "logs": [
             {
                 "path": path,
-                "manager": log.names.manager or None,
-                "decided": sorted(log.decided),
+                "manager": manager_of_log(log) or None,
+                "decided": sorted(log.decisions),
                 "heuristics": list(log.heuristics),
-                "incarnation": log.incarnation,
+                "incarnation": log.incarnation or None,
                 "fault": log.fault,
             }
             for path, log in logs.items()
@@ -127,7 +128,7 @@ def _shown(configuration: Configuration, logs: Mapping[str, Log], found: List[Li
                 "name": configuration.names[rm] if configuration.names else None,
                 "fault": one.fault,
                 "in_doubt": [branch(one, xid) for xid in one.own],
-                "of_others": {name: sum(manager_in(xid) == name for xid in one.others) for name in map(manager_in, one.others)},
+                "of_others": {name: sum(xid.manager == name for xid in one.others) for name in (xid.manager for xid in one.others)},
             }
             for rm, one in enumerate(found)
         ],
@@ -154,7 +155,7 @@ def _metrics(configuration: Configuration, logs: Mapping[str, Log], found: List[
         Metric("of_others", "Branches of other managers.", "gauge", at_each(lambda one: len(one.others))),
         Metric("reachable", "1 if the database can be asked.", "gauge", at_each(lambda one: int(one.fault is None))),
         Metric("log_in_use", "1 while a program has the log.", "gauge", of_each(lambda log: int(log.fault == IN_USE))),
-        Metric("log_decided", "Decisions in the log.", "gauge", of_each(lambda log: len(log.decided))),
+        Metric("log_decided", "Decisions in the log.", "gauge", of_each(lambda log: len(log.decisions))),
         Metric("log_heuristics", "Records of heuristic ends in the log.", "gauge", of_each(lambda log: len(log.heuristics))),
     ]
 
@@ -163,14 +164,14 @@ def _lines(configuration: Configuration, logs: Mapping[str, Log], found: List[Li
     """What is in doubt, for a reader."""
     for path, log in logs.items():
         yield from _lines_of_log(path, log)
-    by_manager = {log.names.manager: log for log in logs.values()}
+    by_manager = {manager_of_log(log): log for log in logs.values()}
     for rm, one in enumerate(found):
         yield f"database {rm}, {configuration.label(rm)}: {one.fault or f'{len(one.own)} in doubt'}"
         for xid in one.own:
-            yield from _lines_of(configuration, by_manager[manager_in(xid)], rm, xid, one.ages.get(xid))
-        for name in sorted({manager_in(xid) for xid in one.others}):
-            yield from _lines_of_others(name, [xid for xid in one.others if manager_in(xid) == name], one)
-    decided = frozenset(gtrid for log in logs.values() for gtrid in log.decided)
+            yield from _lines_of(configuration, by_manager[xid.manager], rm, xid, one.ages.get(xid))
+        for name in sorted({xid.manager for xid in one.others}):
+            yield from _lines_of_others(name, [xid for xid in one.others if xid.manager == name], one)
+    decided = frozenset(gtrid for log in logs.values() for gtrid in log.decisions)
     left = decided - {xid.transaction for one in found for xid in one.own}
     if left and any(one.fault for one in found):
         yield f"{len(left)} of the decisions have no branch at the databases that answered"
@@ -179,11 +180,11 @@ def _lines(configuration: Configuration, logs: Mapping[str, Log], found: List[Li
 
 
 def _lines_of_log(path: str, log: Log) -> Iterator[str]:
-    whose = f"log {path}, of the manager {log.names.manager}" if log.names.manager else f"log {path}"
+    whose = f"log {path}, of the manager {manager_of_log(log)}" if manager_of_log(log) else f"log {path}"
     if log.fault == IN_USE:
         yield f"{whose}: {IN_USE}: it ends its branches by itself, so stop it before anything is ended by hand"
     else:
-        yield f"{whose}: {log.fault or f'{len(log.decided)} decided, {len(log.heuristics)} ended by a database itself'}"
+        yield f"{whose}: {log.fault or f'{len(log.decisions)} decided, {len(log.heuristics)} ended by a database itself'}"
     yield from (f"  {line}: compare it with the other databases (docs/LOG.md)" for line in log.heuristics)
 
 
@@ -205,15 +206,15 @@ def _time(seconds: float) -> str:
 
 
 def _lines_of(configuration: Configuration, log: Log, rm: int, xid: Xid, age: Optional[float]) -> Iterator[str]:
-    objection = log.objection(xid)
+    why_not = objection(log, xid)
     since = f"; prepared for {_time(age)}" if age is not None else ""
     if log.fault == IN_USE:
         yield f"  {xid}: the program that has the log is to end it{since}"
         return
-    if objection is not None:
-        yield f"  {xid}: what it waits for isn't known: {objection}{since}"
+    if why_not is not None:
+        yield f"  {xid}: what it waits for isn't known: {why_not}{since}"
         return
-    name = log.call_for(xid)
+    name = call_for(log, xid)
     why = "it is decided to commit" if name == "xa_commit" else "it isn't decided to commit"
     yield f"  {xid}: waits for {name}, since {why}{since}; by hand:"
     yield f"      {configuration.databases[rm].by_hand(Call(name, xid))}"
@@ -228,11 +229,11 @@ def _end(configuration: Configuration, text: str, is_sure: bool) -> int:
     path, log = _log_of(logs, _branch(text))
     if log.fault is not None:
         raise SetupError(f"the log {path} can't be read, so nothing is ended: {log.fault}")
-    rm, xid = _database_and_branch(configuration, text, [log.names.manager])
-    call = Call(log.call_for(xid), xid)
+    rm, xid = _database_and_branch(configuration, text, [manager_of_log(log)])
+    call = Call(call_for(log, xid), xid)
     print(f"database {rm}: {configuration.databases[rm].by_hand(call)}")
-    with _LogHold(configuration, path, log) as incarnation:
-        if incarnation_in(xid) >= incarnation:
+    with _held(configuration, path, log) as incarnation:
+        if xid.incarnation >= incarnation:
             raise SetupError(f"the log {path} is older than the branch {xid}, so nothing is ended: put the right one back")
         return _end_at(configuration, rm, call, is_sure)
 
@@ -241,7 +242,7 @@ def _end_left(configuration: Configuration, given: argparse.Namespace) -> int:
     """Ends a branch of a manager that is gone for good, and its log with it, as an operator says."""
     if given.outcome is None:
         raise SetupError("--left-by needs --outcome commit or --outcome rollback: no log says how it ends")
-    own = {log.names.manager for log in logs_of(configuration).values()}
+    own = {manager_of_log(log) for log in logs_of(configuration).values()}
     if given.left_by in own:
         raise SetupError(f"{given.left_by or 'the manager without a name'} is the manager of this file: its log says how its branches end")
     rm, xid = _database_and_branch(configuration, given.branch, [given.left_by])
@@ -255,11 +256,11 @@ def _end_at(configuration: Configuration, rm: int, call: Call, is_sure: bool) ->
     if not is_sure and not _agrees():
         print("nothing was done")
         return 1
-    place = place_of(configuration, manager_in(call.branch), rm)
+    place = place_of(configuration, call.xid.manager, rm)
     connection = configuration.databases[rm].connect(place)
     try:
         with connection.timed(place.patience):
-            code = connection.do(call).code
+            code = connection.do(call.name[3:], call.xid)
     finally:
         connection.close()
     print("it is ended" if code is Code.OK else f"it was over already: {code.name}")
@@ -276,9 +277,9 @@ def _branch(text: str) -> Xid:
 def _log_of(logs: Mapping[str, Log], xid: Xid) -> Tuple[str, Log]:
     """The log of the manager of a branch: the only one, or the worker's."""
     for path, log in logs.items():
-        if len(logs) == 1 or log.names.manager == manager_in(xid):
+        if len(logs) == 1 or manager_of_log(log) == xid.manager:
             return path, log
-    raise SetupError(f"none of the logs is that of {manager_in(xid) or 'a manager without a name'}, whose branch {xid} is")
+    raise SetupError(f"none of the logs is that of {xid.manager or 'a manager without a name'}, whose branch {xid} is")
 
 
 def _database_and_branch(configuration: Configuration, text: str, managers: List[str]) -> Tuple[int, Xid]:
@@ -299,21 +300,15 @@ def _agrees() -> bool:
         return False
 
 
-class _LogHold:
-    """Keeps the log for itself, by a coordinator that is asked for nothing."""
-
-    def __init__(self, configuration: Configuration, path: str, log: Log):
-        self._command = serve_command(configuration.program, path, log.names, threads=1, databases=len(configuration.databases))
-        self._coordinator: Optional[Coordinator] = None
-
-    def __enter__(self) -> int:
-        """Holds it: the incarnation, which is later than those of all branches."""
-        self._coordinator = Coordinator.start(self._command, 1.0)
-        return self._coordinator.incarnation
-
-    def __exit__(self, *_: object) -> None:
-        if self._coordinator is not None:
-            self._coordinator.quit()
+@contextlib.contextmanager
+def _held(configuration: Configuration, path: str, log: Log) -> Iterator[int]:
+    """Keeps the log for itself, by a coordinator that is asked for nothing: its incarnation, which is later than those of all branches."""
+    words = serve_command(configuration.program, path, log.names or Names(), threads=1, databases=len(configuration.databases))
+    coordinator = Coordinator.start(words, 1.0)
+    try:
+        yield coordinator.incarnation
+    finally:
+        coordinator.quit()
 
 
 # ** failover

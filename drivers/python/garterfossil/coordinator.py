@@ -16,20 +16,16 @@ import weakref
 from typing import Deque, List, Optional, Sequence, Tuple
 
 from .errors import CoordinatorGone, LogInUse, NotNow, SetupError
-from .logs import Names, fault_of_log, is_disk_full, is_log_in_use
+from .logs import MOMENT, REFUSED, Names, is_disk_full
 
 log = logging.getLogger("garterfossil")
 
-#: The coordinator ends so where another one has the log, or the log can't be opened. The status is told as 0 where the program takes
-#: those of all its children itself, as gunicorn does while `post_fork` runs.
-IN_USE, LOG_STATUSES = 5, (2, 5, 0)
 #: It ends so where it doesn't know the words that it is started with.
 WRONG_WORDS = 3
 OLDER = "the coordinator {} is older than this driver: program= is to be the xatm that it came with"
-#: What it says of a log that is another's, or of which only a part is there, before the path and the reason.
-REFUSED_LOG = "xatm: log: "
-#: What the file doesn't tell.
-OTHER_FAULTS = "it is of another version, or damaged, or the disk is full"
+#: What it says if another one has the log. (Its status is told as 0 where the program takes those of
+#: all its children itself, as gunicorn does while `post_fork` runs.)
+IN_USE = "in use by another process"
 #: In seconds: the least for which a reply is waited for, the least for the greeting, and the longest for the end of the process.
 SHORTEST, LONGEST_GREETING, LONGEST_END = 2.0, 30.0, 10.0
 #: The first line of a session: the incarnation, and how many decisions and heuristic ends the log has.
@@ -78,17 +74,7 @@ class Coordinator:
         self._path = path
         # No reply is waited for longer: the greeting may take longer than others, as with a log that holds much.
         self._patience = max(patience, SHORTEST)
-        # Of a socket the system itself sees that no reply is waited for too long, by the same call that reads it.
-        self._replies, theirs = socket.socketpair()
-        try:
-            self._process = subprocess.Popen(
-                command, bufsize=0, stdin=subprocess.PIPE, stdout=theirs.fileno(), stderr=subprocess.PIPE, start_new_session=True
-            )
-        except OSError as error:
-            self._replies.close()
-            raise SetupError(f"the program {command[0]} can't be run, which program= may give: {error}") from error
-        finally:
-            theirs.close()
+        self._process, self._replies = _started(command)
         stdin, stderr = self._process.stdin, self._process.stderr
         assert stdin is not None and stderr is not None
         self._moves, self._errors = stdin, stderr
@@ -129,21 +115,17 @@ class Coordinator:
             try:
                 return cls(command, patience, path)
             except CoordinatorGone as gone:
+                said, waited = str(gone).partition("; ")[2], time.monotonic() - begun
                 if gone.status == WRONG_WORDS:
                     raise SetupError(OLDER.format(command[0]) + f" ({gone})") from gone
-                if REFUSED_LOG in str(gone):
-                    # The coordinator has said why.
-                    raise SetupError(str(gone)) from gone
-                if gone.status not in LOG_STATUSES:
+                if not said.startswith("xatm: "):
                     raise
-                waited = time.monotonic() - begun
-                is_used = path is None or gone.status == IN_USE or is_log_in_use(path)
-                if is_used and waited >= patience:
-                    raise LogInUse(f"the log {path} is in use by another program: {gone}") from gone
-                # One that has just ended has let the log go meanwhile.
-                fault = None if is_used or path is None else fault_of_log(path) or (waited >= 1 and OTHER_FAULTS)
-                if fault:
-                    raise SetupError(f"the log {path}: {fault} ({gone})") from gone
+                if IN_USE in said:
+                    # One that has just ended has let the log go meanwhile.
+                    if waited >= patience:
+                        raise LogInUse(f"the log {path} is in use by another program: {said}") from gone
+                elif REFUSED in said or waited >= MOMENT:
+                    raise SetupError(said) from gone
             time.sleep(0.1)
 
     @property
@@ -309,9 +291,11 @@ class Coordinator:
         if not line.isascii():
             raise self._killed(f"it replied what is no text of ASCII: {line!r}")
         words = line.split(AND)
-        if line == "stopped" or len(words) != len(replies):
+        if line == "stopped":
             full = "; the disk of the log is full" if self._path is not None and is_disk_full(self._path) else ""
-            raise self._killed(f"its log failed, or its memory: it replied {line!r}{full}")
+            raise self._gone(f"its log failed, or its memory: it replied {line!r}{full}")
+        if len(words) != len(replies):
+            raise self._killed(f"it replied {line!r} to {len(replies)} moves")
         for reply, said in zip(replies, words):
             reply.words = said
 
@@ -417,6 +401,20 @@ class Coordinator:
         self._moves.close()
         self._replies.close()
         self._errors.close()
+
+
+def _started(command: Sequence[str]) -> Tuple[subprocess.Popen[bytes], socket.socket]:
+    """The process of a command, and what it replies on: of a socket the system itself sees that no reply is waited for too long, by the
+    same call that reads it."""
+    ours, theirs = socket.socketpair()
+    try:
+        pipe, out = subprocess.PIPE, theirs.fileno()
+        return subprocess.Popen(command, bufsize=0, stdin=pipe, stdout=out, stderr=pipe, start_new_session=True), ours
+    except OSError as error:
+        ours.close()
+        raise SetupError(f"the program {command[0]} can't be run, which program= may give: {error}") from error
+    finally:
+        theirs.close()
 
 
 #: Those that the process has.

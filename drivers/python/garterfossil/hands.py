@@ -6,8 +6,9 @@ from __future__ import annotations
 
 import functools
 import logging
+import re
 import time
-from typing import TYPE_CHECKING, Callable, Dict, List, Mapping, NamedTuple, Optional, Sequence, Set, Tuple
+from typing import TYPE_CHECKING, Callable, Dict, Iterable, List, Mapping, NamedTuple, Optional, Sequence, Set, Tuple
 
 from .adapters.base import Connection, Options
 from .aside import side_by_side
@@ -26,17 +27,8 @@ if TYPE_CHECKING:
 
 log = logging.getLogger("garterfossil")
 
-#: The calls of XA behind each verb, and how the last of them may be answered, beside a rollback
-#: with its reason: all else is no answer.
-CALLS = {
-    "prepare": ("xa_end TMSUCCESS", "xa_prepare"),
-    "commit-at-once": ("xa_end TMSUCCESS", "xa_commit TMONEPHASE"),
-    "commit": ("xa_commit",),
-    "rollback": ("xa_rollback",),
-    "undo": ("xa_end TMFAIL", "xa_rollback"),
-    "forget": ("xa_forget",),
-}
 HEURISTIC = {Code.HEURHAZ, Code.HEURCOM, Code.HEURRB, Code.HEURMIX}
+#: How a call may be answered, beside a rollback with its reason: all else is no answer.
 ANSWERS = {
     "prepare": {Code.OK, Code.RDONLY},
     "commit-at-once": {Code.OK},
@@ -48,8 +40,10 @@ ANSWERS = {
 #: What may answer a decided commit, and how a branch was ended otherwise.
 NOT_ODD = (Code.OK, Code.RETRY, Code.HEURCOM, None)
 ODD = {Code.NOTA: Code.HEURHAZ, **{code: code for code in HEURISTIC}}
-#: A recovery asks for so many identifiers at a time, and makes a call that has no answer now again
-#: for so many seconds.
+#: How a transaction ended: why, at which databases a branch is owed its end, and where it ended otherwise.
+ENDED = re.compile(r"([a-z-]+)(?: (\d+) (\d+))?(?: owed((?: \d+)+))?(?: mixed((?: \d+ \d+)+))?(?: next .*)?")
+#: A recovery tells so many identifiers at a time, and makes a call that has no answer now again for
+#: so many seconds.
 PAGE, STUCK, PAUSE = 32, 1.0, 0.05
 
 
@@ -71,18 +65,15 @@ class Told(NamedTuple):
 
     @classmethod
     def parse(cls, reply: str) -> Told:
-        """What a reply tells."""
-        outcome, *words = reply.partition(" next ")[0].split(" ")
-        parts: Dict[str, List[int]] = {"why": [], "owed": [], "mixed": []}
-        part = "why"
-        for word in words:
-            if word in parts:
-                part = word
-            else:
-                parts[part].append(int(word))
-        code, rm = parts["why"] or (None, None)
-        mixed = {number: Code(how) for number, how in zip(parts["mixed"][::2], parts["mixed"][1::2])}
-        return cls(TOLD[outcome], None if code is None else Code(code), rm, parts["owed"], mixed)
+        """What a reply tells. Raises ValueError or KeyError, if there is no such reply."""
+        found = ENDED.fullmatch(reply)
+        if found is None:
+            raise ValueError(reply)
+        outcome, code, rm, owed, mixed = found.groups()
+        numbers = [int(word) for word in (mixed or "").split()]
+        odd = {number: Code(how) for number, how in zip(numbers[::2], numbers[1::2])}
+        why = (None, None) if code is None else (Code(int(code)), int(rm))
+        return cls(TOLD[outcome], *why, [int(word) for word in (owed or "").split()], odd)
 
 
 class Part:
@@ -98,6 +89,8 @@ class Part:
         self.error: Optional[BaseException] = None
         #: What is odd about how it ended.
         self.oddity: Optional[str] = None
+        # When its call was sent that is under way.
+        self._sent = 0.0
 
     @property
     def is_lost(self) -> bool:
@@ -107,64 +100,59 @@ class Part:
     def start(self) -> None:
         """xa_start: work may begin. Raises XaError, and then there is no branch."""
         try:
-            code = self.connection.do(Call("xa_start", self.xid)).code
-        except Unanswered as error:
+            if self.connection.do("start", self.xid) is not Code.OK:
+                raise XaError(f"{self.line.rm.label} has a branch {self.xid} already, of another log")
+        except BaseException as error:
             self.line.lose()
-            raise ConnectionLost(f"xa_start has no answer: {error}") from error
-        except BaseException:
-            self.line.lose()
+            if isinstance(error, Unanswered):
+                raise ConnectionLost(f"xa_start has no answer: {error}") from error
             raise
-        if code is not Code.OK:
-            self.line.lose()
-            raise XaError(f"{self.line.rm.label} has a branch {self.xid} already, of another log")
 
     def send(self, verb: str) -> bool:
         """Sends a call ahead of its answer, if the database's module can: whether nothing more is
         to be done but to wait."""
-        if self.is_lost or not self.connection.SENDS or verb not in ("prepare", "commit"):
-            return self.is_lost
+        self.branch._is_over = True
+        self._sent = time.monotonic()
         try:
-            *before, last = self._calls(verb)
-            for call in before:
-                self.connection.do(call)
-            self.connection.send(last)
+            return self.is_lost or self.connection.send(verb, self.xid)
         except Exception as error:
             self._lose(error)
-        return True
+            return True
 
-    def make(self, verb: str, was_sent: bool = False) -> Optional[Code]:
+    def make(self, verb: str) -> Optional[Code]:
         """Makes a call: how it is answered. None if it isn't, and then the connection is given
         up."""
-        calls = self._calls(verb)
-        is_last_made = False
         try:
             if self.is_lost:
                 raise ConnectionLost(f"the connection to {self.line.rm.label} was lost")
-            code = Code.OK
-            for call in calls[-1:] if was_sent else calls:
-                is_last_made = call is calls[-1]
-                code = self.connection.do(call).code
+            code = self.connection.do(verb, self.xid)
             if not is_answer(verb, code):
-                raise ConnectionLost(f"{calls[-1]} was answered {code.name}")
+                raise ConnectionLost(f"{verb} of {self.xid} was answered {code.name}")
             self._note(verb, code)
+            self.line.rm.note_call(time.monotonic() - self._sent)
             return code
         except BaseException as error:
+            # What was never committed ends with its connection.
+            is_undone = verb == "commit-at-once" and self.connection.is_at_work
             self._lose(error)
             if not isinstance(error, Exception):
                 raise
-            # What was never committed ends with its connection.
-            return Code.RBCOMMFAIL if verb == "commit-at-once" and not is_last_made else None
+            return Code.RBCOMMFAIL if is_undone else None
 
-    def _calls(self, verb: str) -> List[Call]:
-        self.branch._is_over = True
-        return [Call(name, self.xid, tuple(flags)) for name, *flags in (call.split(" ") for call in CALLS[verb])]
+    def end_read(self, is_committed: bool) -> None:
+        """The outcome is told, for which a branch that only read has waited."""
+        try:
+            if not self.is_lost:
+                self.connection.end_read(self.xid, is_committed)
+        except Exception as error:
+            self._lose(error)
 
     def _note(self, verb: str, code: Code) -> None:
         rm = self.line.rm
         if verb == "prepare" and code is Code.OK:
-            rm.prepared.add(self.xid)
+            rm.prepared[self.xid] = time.monotonic()
         elif verb in ("commit", "rollback"):
-            rm.prepared.discard(self.xid)
+            rm.prepared.pop(self.xid, None)
         if verb == "rollback" and (code is Code.OK or code.is_rollback):
             rm.note_undone(self.xid)
         if code is Code.RETRY:
@@ -175,17 +163,17 @@ class Part:
         if not isinstance(error, XaError):
             log.warning("%s: %s", self.line.rm.label, error)
         self.error = self.error or error
-        self.line.rm.prepared.discard(self.xid)
+        self.line.rm.prepared.pop(self.xid, None)
         if not self.is_lost:
             self.line.lose()
 
 
 def make_all(verb: str, parts: Sequence[Part]) -> List[Optional[Code]]:
     """Makes a call at each of these, side by side: the answers, in their order."""
-    sent = {id(part) for part in parts if part.send(verb)}
-    others = [part for part in parts if id(part) not in sent]
-    made = dict(zip(map(id, others), side_by_side([functools.partial(part.make, verb) for part in others])))
-    return [part.make(verb, was_sent=True) if id(part) in sent else made[id(part)] for part in parts]
+    sent = [part.send(verb) for part in parts]
+    others = [functools.partial(part.make, verb) for part, is_sent in zip(parts, sent) if not is_sent]
+    made = iter(side_by_side(others))
+    return [part.make(verb) if is_sent else next(made) for part, is_sent in zip(parts, sent)]
 
 
 class Hands:
@@ -233,19 +221,21 @@ class Hands:
             first()
             told = self._finish()
             self._session.note_told(self._gtrid, self._thread, self._reply, told, self.parts)
-            return told
         except CoordinatorGone as gone:
-            if self.fate is Outcome.COMMITTED:
-                log.warning("%s is committed, and ended by the next session: %s", self._gtrid, gone)
-                return Told(Outcome.COMMITTED, mixed=self._odd)
-            self._ask_later()
-            if self.fate is not Outcome.ROLLED_BACK:
-                raise OutcomeUnknown(f"{self._gtrid}: {gone}", self._gtrid) from gone
-            raise
+            if self.fate is not Outcome.COMMITTED:
+                self._ask_later()
+                if self.fate is not Outcome.ROLLED_BACK:
+                    raise OutcomeUnknown(f"{self._gtrid}: {gone}", self._gtrid) from gone
+                raise
+            log.warning("%s is committed, and ended by the next session: %s", self._gtrid, gone)
+            told = Told(Outcome.COMMITTED, mixed=self._odd)
         except BaseException:
             self._session.coordinator.kill()
             self._ask_later()
             raise
+        for part in self.parts.values():
+            part.end_read(told.outcome is Outcome.COMMITTED)
+        return told
 
     def _ask_later(self) -> None:
         if self.fate is None:
@@ -254,19 +244,11 @@ class Hands:
     def _finish(self) -> Told:
         while True:
             assert self._reply is not None
-            words = self._session.coordinator.wait(self._reply)
-            try:
-                told, verb, parts = self._understood(words)
-            except (IndexError, KeyError, ValueError) as error:
-                raise self._session.coordinator.not_understood(words, self._reply.move) from error
+            told, verb, parts = self._understood(self._session.coordinator.wait(self._reply), self._reply.move)
             if told is not None:
                 self.fate = told.outcome
                 return told
             answers = self._make(verb, parts)
-            if verb == "prepare" and all(code in (Code.OK, Code.RDONLY) for code in answers):
-                # Unless the coordinator never hears of it.
-                self._session.coordinator.see_up()
-                self.fate = None
             # Nothing else can be told behind these, and so nobody waits for it.
             is_over = verb in ("commit", "commit-at-once") and all(code is Code.OK for code in answers)
             said = ["lost" if code is None else str(int(code)) for code in answers]
@@ -274,20 +256,24 @@ class Hands:
             if is_over:
                 return Told(Outcome.COMMITTED)
 
-    def _understood(self, words: str) -> Tuple[Optional[Told], str, List[Part]]:
+    def _understood(self, words: str, to: str) -> Tuple[Optional[Told], str, List[Part]]:
         """The outcome that a reply tells, or else the call, and the branches at which it is to be
-        made. Raises IndexError, KeyError or ValueError, if there is no such reply."""
+        made."""
         verb, *rms = words.split(" ")
-        if verb in TOLD:
-            told = Told.parse(words)
-            named = [*told.owed, *told.mixed, *([] if told.rm is None else [told.rm])]
-            return told, verb, [self.parts[rm] for rm in named]
-        parts = [self.parts[int(rm)] for rm in rms]
-        if verb not in CALLS or not parts:
-            raise KeyError(verb)
-        return None, verb, parts
+        try:
+            if verb in TOLD:
+                told = Told.parse(words)
+                named = [*told.owed, *told.mixed, *([] if told.rm is None else [told.rm])]
+                return told, verb, [self.parts[rm] for rm in named]
+            parts = [self.parts[int(rm)] for rm in rms]
+            if verb not in ANSWERS or not parts:
+                raise KeyError(verb)
+            return None, verb, parts
+        except (KeyError, ValueError) as error:
+            raise self._session.coordinator.not_understood(words, to) from error
 
     def _make(self, verb: str, parts: Sequence[Part]) -> List[Optional[Code]]:
+        coordinator = self._session.coordinator
         if verb == "commit":
             # Before a database hears of it.
             self._session.note_decision(self._gtrid, [part.xid for part in parts])
@@ -296,93 +282,90 @@ class Hands:
             self.fate = Outcome.ROLLED_BACK
         else:
             # What nobody would end isn't begun.
-            self._session.coordinator.see_up()
+            coordinator.see_up()
             self.fate = Outcome.UNKNOWN if verb == "commit-at-once" else self.fate
         answers = make_all(verb, parts)
-        if verb == "commit":
+        if verb == "prepare" and all(code in (Code.OK, Code.RDONLY) for code in answers):
+            # Unless the coordinator never hears of it.
+            coordinator.see_up()
+            self.fate = None
+        elif verb == "commit":
             odd = [(part, code) for part, code in zip(parts, answers) if code not in NOT_ODD]
             self._odd = {part.line.rm.number: ODD.get(code, Code.HEURRB) for part, code in odd if code is not None}
-        if verb == "commit-at-once" and answers[0] is not None:
+        elif verb == "commit-at-once" and answers[0] is not None:
             self.fate = Outcome.COMMITTED if answers[0] is Code.OK else Outcome.ROLLED_BACK
         return answers
 
 
 class Recovery:
-    """The same for what is in doubt at a database, over a connection of its own. `left_out` are
-    branches that no page is to list."""
+    """The same for what is in doubt at a database, over a connection of its own. Of what is listed
+    there the coordinator hears."""
 
-    def __init__(self, session: Session, rm: ResourceManager, connection: Connection, left_out: Set[Xid]):
-        self._session, self._rm, self._connection, self._left_out = session, rm, connection, left_out
+    def __init__(self, session: Session, rm: ResourceManager, connection: Connection, listed: Iterable[Xid]):
+        self._session, self._rm, self._connection, self._listed = session, rm, connection, sorted(listed)
         #: Why something can't be ended now.
         self.error: Optional[Exception] = None
+        # Branches of decided transactions that aren't there any more.
+        self._missing: List[Xid] = []
 
     def run(self) -> str:
         """Does what the coordinator tells, until it says how that ended."""
         ask, number = self._session.coordinator.ask, self._rm.number
         reply = ask(f"recover {number}")
-        listed: Optional[List[Xid]] = None
         while True:
             verb, *words = reply.split(" ")
             if verb == "recover":
-                listed = self._listed() if listed is None else listed[PAGE:]
-                reply = ask(f"end {number} lost" if listed is None else " ".join([f"page {number}", *map(str, listed[:PAGE])]))
+                page, self._listed = self._listed[:PAGE], self._listed[PAGE:]
+                reply = ask(" ".join([f"page {number}", *map(str, page)]))
             elif verb in ("xa_commit", "xa_rollback", "xa_forget"):
                 code = self._made(self._call(reply))
                 reply = ask(f"end {number} {'lost' if code is None else int(code)}")
             elif verb in ("recovered", "later") or verb == "strange" and words:
+                if self._missing:
+                    how = "%s has %d branches no more that are decided to commit, as %s: an earlier session has ended them, or somebody else"
+                    log.warning(how, self._rm.label, len(self._missing), self._missing[0])
                 return reply
             else:
                 raise self._session.coordinator.not_understood(reply, f"a recovery of {number}")
 
     def _call(self, reply: str) -> Call:
-        verb, *xids = reply.split(" ")
+        verb, _, xid = reply.partition(" ")
         try:
-            return Call(verb, Xid.parse(xids[0]))
-        except (IndexError, ValueError) as error:
-            number = self._rm.number
-            raise self._session.coordinator.not_understood(reply, f"a recovery of {number}") from error
-
-    def _listed(self) -> Optional[List[Xid]]:
-        try:
-            with self._connection.timed(self._session.patience):
-                return sorted(xid for xid in self._connection.listed() if xid not in self._left_out)
-        except Exception as error:
-            self.error = error
-            return None
+            return Call(verb, Xid.parse(xid))
+        except ValueError as error:
+            raise self._session.coordinator.not_understood(reply, f"a recovery of {self._rm.number}") from error
 
     def _made(self, call: Call) -> Optional[Code]:
         """Makes a call: how it is answered, or None. One that can't be made now is made again for a
         moment; then a commit is put off, and a rollback left out for a while, so that they hold up
         no others."""
         until = time.monotonic() + STUCK
+        verb = call.name[3:]
         while True:
             try:
-                code = self._connection.do(call).code
-            except Unanswered as error:
-                self.error = error
-                if time.monotonic() < until:
-                    time.sleep(PAUSE)
-                    continue
-                if call.name == "xa_commit":
-                    return Code.RETRY
-                self._rm.put_off(call.branch)
-                return None
+                code = self._connection.do(verb, call.xid)
+                if not is_answer(verb, code):
+                    raise ConnectionLost(f"{call} was answered {code.name}")
+                log.info("recovery of %s: %s answered %s", self._rm.label, call, code.name)
+                self._note(call, code)
+                return code
             except Exception as error:
                 self.error = error
-                self._rm.put_off(call.branch)
-                return None
-            log.info("recovery of %s: %s answered %s", self._rm.label, call, code.name)
-            if not is_answer(call.name[3:], code):
-                self.error = ConnectionLost(f"{call} was answered {code.name}")
-                return None
-            self._note(call, code)
-            return code
+                if not isinstance(error, Unanswered) or verb != "commit" and time.monotonic() >= until:
+                    self._rm.put_off(call.xid)
+                    return None
+                if time.monotonic() >= until:
+                    return Code.RETRY
+            time.sleep(PAUSE)
 
     def _note(self, call: Call, code: Code) -> None:
+        label = self._rm.label
         if code.is_heuristic or call.name == "xa_commit" and code.is_rollback:
-            log.error("%s: %s answered %s: somebody has ended it by hand; compare the databases", self._rm.label, call, code.name)
+            log.error("%s: %s answered %s: somebody has ended it by hand; compare the databases", label, call, code.name)
             self._session.outcomes.note_odd()
+        elif call.name == "xa_commit" and code is Code.NOTA:
+            self._missing.append(call.xid)
         elif call.name == "xa_rollback" and code is not Code.NOTA:
-            self._rm.note_undone(call.branch)
+            self._rm.note_undone(call.xid)
         if code is not Code.RETRY:
-            self._session.settle([call.branch])
+            self._session.settle([call.xid])

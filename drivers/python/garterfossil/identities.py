@@ -43,10 +43,12 @@ class Identities:
         self._incarnation = 0
         self._shut: Optional[str] = None
         found = self._read()
+        #: Whether what stands beside the log is of this one.
+        self.are_kept = found is not None and not is_new and found["manager"] == manager
         if found is None:
             if not is_new:
                 log.warning("%s is missing, and is made anew: nobody knows whether the databases are those that the log had", self.path)
-        elif is_new or found["manager"] != manager:
+        elif not self.are_kept:
             gone = found["manager"] or "a manager without a name"
             same = "it is to be put back if anything is prepared" if found["manager"] == manager else "what it had prepared is left alone"
             log.warning("the log of %s is gone from %s: %s (`python -m garterfossil status`)", gone, path, same)

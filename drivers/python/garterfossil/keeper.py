@@ -6,10 +6,10 @@ from __future__ import annotations
 import logging
 import threading
 import time
-from typing import TYPE_CHECKING, Dict, Tuple
+from typing import TYPE_CHECKING, Callable, Dict, Optional, Tuple
 
-from .errors import CoordinatorGone, Overdue, SetupError, XaError
-from .recovery import recover
+from .errors import CoordinatorGone
+from .recovery import attempt
 from .resource_manager import GLANCE, ResourceManager
 
 if TYPE_CHECKING:
@@ -48,11 +48,8 @@ class Keeper:
             if self._is_over or not rm.is_recovery_due and rm.number not in self._working:
                 return
             if rm.number not in self._working:
-                thread = threading.Thread(target=self._work, args=[rm], name=f"garterfossil {rm.label}", daemon=True)
-                try:
-                    thread.start()
-                except RuntimeError:
-                    # There is no thread to be had now, as at the interpreter's end: whoever comes next asks again.
+                thread = _started(rm.label, self._work, rm)
+                if thread is None:
                     return
                 self._working[rm.number] = thread, time.monotonic()
             thread, begun = self._working[rm.number]
@@ -63,7 +60,7 @@ class Keeper:
     def _work(self, rm: ResourceManager) -> None:
         try:
             while not self._stop.is_set() and not self._session.coordinator.is_gone and self._is_due(rm):
-                if not self.try_to_recover(rm):
+                if not rm.can_be_reached() or self._stop.is_set() or attempt(self._session, rm) is not None:
                     self._stop.wait(RECOVERY_PAUSE)
         finally:
             with self._lock:
@@ -81,14 +78,8 @@ class Keeper:
         session does."""
         with self._lock:
             self._row = time.monotonic()
-            if self._is_idle_awaited or self._is_over:
-                return
-            try:
-                threading.Thread(target=self._ask_when_idle, name="garterfossil idle", daemon=True).start()
-            except RuntimeError:
-                # As above: it stays in the log until the next one.
-                return
-            self._is_idle_awaited = True
+            if not self._is_idle_awaited and not self._is_over:
+                self._is_idle_awaited = _started("idle", self._ask_when_idle) is not None
 
     def _ask_when_idle(self) -> None:
         while True:
@@ -105,26 +96,18 @@ class Keeper:
             # The next session finds the row.
             log.warning("%s", error)
 
-    def try_to_recover(self, rm: ResourceManager) -> bool:
-        """Recovers the database, if it can be reached. Whether that was done."""
-        if not rm.can_be_reached() or self._stop.is_set():
-            return False
-        try:
-            recover(self._session, rm)
-            return True
-        except SetupError as error:
-            rm.say_once(f"the recovery is put off: {error}")
-        except CoordinatorGone as error:
-            log.warning("%s", error)
-        except Overdue:
-            # A transaction goes on, and the session is to be ended without one.
-            pass
-        except XaError as error:
-            log.warning("the recovery of %s is put off: %s", rm.label, error)
-        return False
-
     def finish(self) -> None:
         """Lets no recovery begin any more."""
         with self._lock:
             self._is_over = True
         self._stop.set()
+
+
+def _started(name: str, work: Callable[..., None], *words: object) -> Optional[threading.Thread]:
+    """A thread that works on something. None if there is none to be had now, as at the interpreter's end: whoever comes next asks again."""
+    thread = threading.Thread(target=work, args=words, name=f"garterfossil {name}", daemon=True)
+    try:
+        thread.start()
+    except RuntimeError:
+        return None
+    return thread

@@ -2,15 +2,13 @@
 
 from __future__ import annotations
 
-from typing import Callable, Optional, TypeVar
+import logging
+from typing import Optional
 
 from .adapters.base import Connection
-from .aside import aside, is_interrupt
-from .errors import ConnectionLost, HeuristicEnd, TransactionOver
 from .resource_manager import ResourceManager
-from .xid import Xid
 
-T = TypeVar("T")
+log = logging.getLogger("garterfossil")
 
 
 class Line:
@@ -33,27 +31,26 @@ class Line:
         if connection is not None:
             self.rm.drop(connection)
 
-    def let_go(self) -> None:
-        """A transaction is over on the line. A branch that it left there, as after an interrupt, is
-        lost."""
-        if self.connection is not None and self.connection.has_branch:
+    def see_there(self) -> None:
+        """Gives the connection up if the database has ended it while nothing was done on it."""
+        if self.connection is not None and not self.connection.is_there():
+            log.info("%s has ended a connection while it was idle", self.rm.label)
             self.lose()
+
+    def let_go(self, is_last: bool) -> None:
+        """A transaction is over on the line. A branch that it left there, as after an interrupt, is
+        lost. What it has changed in the session, no other one meets; and in a coordinator's session
+        that is over there is none."""
+        if is_last:
+            self.close()
+        elif self.connection is not None and self.connection.has_branch:
+            self.lose()
+        elif self.connection is not None and self.connection.is_changed:
+            connection, self.connection = self.connection, None
+            self.rm.release(connection)
 
     def close(self) -> None:
         """Closes the connection, in a session that is over."""
         connection, self.connection = self.connection, None
         if connection is not None:
             connection.close()
-
-    def work(self, connection: Connection, xid: Xid, step: Callable[[], T]) -> T:
-        """Does a step of the work on the branch that was begun on this connection."""
-        if self.connection is not connection:
-            raise TransactionOver(f"the branch at {self.rm.label} is over: its connection was lost, or closed")
-        try:
-            return connection.work(xid, step)
-        except BaseException as error:
-            # After an interrupt nobody knows what the connection would say next.
-            is_unknown = isinstance(error, (ConnectionLost, HeuristicEnd)) or is_interrupt(error)
-            if is_unknown and connection.is_active(xid) and self.connection is connection:
-                aside(self.lose)
-            raise

@@ -11,36 +11,18 @@ import re
 import signal
 import threading
 import time
-from types import TracebackType
-from typing import (
-    TYPE_CHECKING,
-    Any,
-    AsyncContextManager,
-    Callable,
-    ContextManager,
-    Dict,
-    Iterator,
-    List,
-    Mapping,
-    Optional,
-    Sequence,
-    Tuple,
-    Type,
-    TypeVar,
-    Union,
-)
+from typing import TYPE_CHECKING, Any, AsyncContextManager, Callable, ContextManager, Dict, Iterator, List, Mapping, Optional, Sequence
+from typing import Tuple, TypeVar, Union
 
 from . import current
 from .adapters.base import Database, Options
 from .aside import ASIDE, aside
 from .block import Block
-from .counts import Counts
 from .databases import NAME, Databases
 from .errors import CoordinatorGone, LogInUse, NestedTransaction, NotNow, Overdue, SetupError, TransactionOver, XaError
-from .coordinator import serve_command
 from .hands import PAUSE
-from .logs import Names, free_log, is_new_log, kept_log, names_for, see_place
-from .metrics import in_prometheus, of_counts
+from .logs import free_log, is_new_log, see_place
+from .metrics import in_json, in_prometheus, of_counts, shown
 from .outcomes import Outcome, Outcomes
 from .session import Session, Settings
 from .transaction import Transaction
@@ -59,6 +41,15 @@ MOST_THREADS = 1024
 NO_OPTIONS = Options()
 #: The first pause before work is tried again, in seconds, and the longest.
 FIRST_PAUSE, LAST_PAUSE = 0.02, 1.0
+
+
+def _see_options(name: Optional[str], threads: int, patience: float) -> None:
+    if not 1 <= threads <= MOST_THREADS:
+        raise ValueError(f"threads: 1 to {MOST_THREADS}, not {threads}")
+    if not patience > 0:
+        raise ValueError(f"patience: more than 0 seconds, not {patience}")
+    if name and not NAME.fullmatch(name):
+        raise ValueError(f"name: 1 to 16 letters, digits, _ and -, not {name!r}")
 
 
 class TransactionManager:
@@ -100,40 +91,24 @@ class TransactionManager:
         ended: Optional[Callable[[Transaction], None]] = None,
         mirror: Optional[Database] = None,
     ):
-        if not 1 <= threads <= MOST_THREADS:
-            raise ValueError(f"threads: 1 to {MOST_THREADS}, not {threads}")
-        if not patience > 0:
-            raise ValueError(f"patience: more than 0 seconds, not {patience}")
-        if name and not NAME.fullmatch(name):
-            raise ValueError(f"name: 1 to 16 letters, digits, _ and -, not {name!r}")
-        all_databases = Databases(databases)
+        _see_options(name, threads, patience)
         # A worker has its log as long as this is open.
         path, self._worker = free_log(os.fspath(log))
         see_place(path)
-
-        def settings() -> Settings:
-            if command is not None:
-                names = Names(name or "", tuple(all_databases.names))
-                return Settings(command, all_databases, path, threads, patience, names, mirror, program if mirror is not None else None)
-            kept = kept_log(program, path, patience)
-            names = names_for(kept, name, all_databases.names)
-            words = serve_command(program, path, names, threads, len(all_databases))
-            return Settings(words, all_databases, path, threads, patience, names, mirror, program, name is None, kept)
-
-        self._settings = settings()
+        self._settings = Settings(Databases(databases), path, threads, patience, name, program, command, mirror)
         self._timeout = timeout
         self._ended = ended
         self._process = os.getpid()
         self._lock = threading.Lock()
         self._session: Optional[Session] = None
+        self._name = name or ""
         # When a session was last tried in vain, and why.
         self._tried = 0.0, ""
         self._is_closed = False
         self._outcomes = Outcomes()
-        self._counts = Counts()
         self._looks: List[Callable[[Transaction], None]] = []
         try:
-            self._begin_first(settings, name is None)
+            aside(self._begin_first)
         except XaError:
             if self._worker is not None:
                 self._worker.close()
@@ -144,16 +119,15 @@ class TransactionManager:
             ASIDE.post(self._close)
             raise
 
-    def _begin_first(self, settings: Callable[[], Settings], is_name_drawn: bool) -> None:
-        begin = functools.partial(self._current, is_first=True)
+    def _begin_first(self) -> None:
+        was_new = is_new_log(self.log)
         try:
-            aside(begin)
+            self._current(is_first=True)
         except SetupError:
             # The coordinator of a program that was killed may have made the log since its names were looked for.
-            before, self._settings = self._settings.names, settings()
-            if not is_name_drawn or self._settings.names == before or is_new_log(self.log):
+            if not was_new or is_new_log(self.log) or self._settings.name is not None:
                 raise
-            aside(begin)
+            self._current(is_first=True)
 
     def __repr__(self) -> str:
         state = "closed" if self._is_closed else "open"
@@ -163,15 +137,13 @@ class TransactionManager:
     def __enter__(self) -> TransactionManager:
         return self
 
-    def __exit__(
-        self, kind: Optional[Type[BaseException]], error: Optional[BaseException], trace: Optional[TracebackType]
-    ) -> None:
+    def __exit__(self, *_: object) -> None:
         self.close()
 
     @property
     def name(self) -> str:
         """The manager's name, which stands in the identifiers of its branches; empty, if it has none."""
-        return self._settings.names.manager
+        return self._name
 
     @property
     def log(self) -> str:
@@ -238,19 +210,20 @@ class TransactionManager:
         """How many transactions have `begun` and are `open`, how many were `committed` and `rolled_back`, or are `unknown`, how many of
         them ended otherwise in a database (`heuristic`), how many ends of branches are `owed` to databases, and for how many
         `seconds` transactions were open, all together."""
-        session, counts = self._session, self._counts.shown()
-        counts["heuristic"] += self._outcomes.odd
-        return {**counts, "owed": 0 if session is None else session.owed_count()}
-
-    def metrics(self) -> str:
-        """The counts, and what stands at each database, as Prometheus reads them. Begins nothing, and waits for nothing."""
         session = self._session
+        return {**self._outcomes.counts(), "owed": 0 if session is None else session.owed_count()}
+
+    def metrics(self, form: str = "prometheus") -> str:
+        """The counts, and what stands at each database, as Prometheus reads them, or as `json`. Begins nothing, and waits for nothing."""
+        session = self._session
+        counts: Dict[str, float] = {**self.counts(), "threads": self._settings.threads, "incarnation": 0, "waiting": 0}
         names = self._settings.databases.names or [str(number) for number in range(len(self._settings.databases))]
-        at: List[Dict[str, int]] = [{"owed": 0, "prepared": 0, "recovery_due": 0} for _ in names] if session is None else session.standing()
-        counts = self.counts()
-        counts["threads"], counts["incarnation"] = self._settings.threads, 0 if session is None else session.coordinator.incarnation
-        databases: List[Dict[str, Any]] = [{"name": name, **one} for name, one in zip(names, at)]
-        return in_prometheus(of_counts(counts, self.name, databases))
+        at: List[Dict[str, float]] = [{} for _ in names]
+        if session is not None:
+            at = session.standing()
+            counts.update(incarnation=session.coordinator.incarnation, waiting=session.threads.waiting)
+        found = of_counts(counts, self.name, self._outcomes.rolled_back(), [{"name": name, **one} for name, one in zip(names, at)])
+        return in_json(shown(found)) if form == "json" else in_prometheus(found)
 
     @property
     def current(self) -> Optional[Transaction]:
@@ -373,10 +346,8 @@ class TransactionManager:
                 session = self._session
                 if session is None or session.coordinator.is_gone:
                     session = self._current()
-                session.see_to_recoveries()
-                thread = session.threads.take(until, is_given_up)
-                gtrid = self._begin_on(session, thread)
-                self._counts.begin()
+                thread, gtrid = session.begin(until, is_given_up)
+                self._outcomes.begin()
                 return session, thread, gtrid
             except LogInUse:
                 raise
@@ -387,21 +358,9 @@ class TransactionManager:
                     log.warning("%s", gone)
                 time.sleep(PAUSE)
 
-    def _begin_on(self, session: Session, thread: int) -> str:
-        """A transaction on a thread."""
-        gtrid = None
-        try:
-            session.let_go_of_ended(thread)
-            gtrid = session.begin(thread)
-            return gtrid
-        finally:
-            if gtrid is None:
-                session.let_go(thread)
-
     def count_end(self, transaction: Transaction) -> None:
         """A transaction has ended."""
-        self._counts.end(transaction, time.monotonic() - transaction.begun)
-        self._outcomes.note(transaction.gtrid, transaction.outcome)
+        self._outcomes.end(transaction, time.monotonic() - transaction.begun)
 
     def note_end(self, transaction: Transaction) -> None:
         """It has, and the program's function is called for that."""
@@ -428,13 +387,11 @@ class TransactionManager:
                 tried, why = self._tried
                 if tried > asked:
                     raise CoordinatorGone(why)
-                self._session = self._new_session(is_first)
+                begun = time.monotonic()
+                try:
+                    self._session = Session(self._settings, self._outcomes, is_first)
+                    self._name = self._session.names.manager
+                except CoordinatorGone as gone:
+                    self._tried = begun, str(gone)
+                    raise
             return self._session
-
-    def _new_session(self, is_first: bool) -> Session:
-        begun = time.monotonic()
-        try:
-            return Session(self._settings, self._outcomes, is_first)
-        except CoordinatorGone as gone:
-            self._tried = begun, str(gone)
-            raise

@@ -18,11 +18,6 @@ class Metric(NamedTuple):
     kind: str
     samples: Sequence[Tuple[Mapping[str, str], Number]]
 
-    @classmethod
-    def one(cls, name: str, text: str, value: Number, kind: str = "gauge") -> Metric:
-        """A number without labels."""
-        return cls(name, text, kind, [({}, value)])
-
 
 def in_prometheus(metrics: Sequence[Metric]) -> str:
     """The text that Prometheus reads (its exposition format 0.0.4)."""
@@ -43,27 +38,43 @@ def _escaped(text: str) -> str:
 
 
 def in_json(found: Any) -> str:
-    """The same as a text of JSON."""
+    """What was found as a text of JSON."""
     return json.dumps(found, indent=1, sort_keys=True)
 
 
-def of_counts(counts: Mapping[str, Number], manager: str, databases: Sequence[Dict[str, Any]]) -> List[Metric]:
+def shown(metrics: Sequence[Metric]) -> Dict[str, List[Dict[str, Union[str, Number]]]]:
+    """The same as objects: by the name of each metric its values, with their labels."""
+    return {metric.name: [{**labels, "value": value} for labels, value in metric.samples] for metric in metrics}
+
+
+def of_counts(
+    counts: Mapping[str, Number], manager: str, rolled_back: Mapping[str, int], databases: Sequence[Mapping[str, Any]]
+) -> List[Metric]:
     """The metrics of a manager that is at work: its counts, and what stands at each database."""
     ended = [({"outcome": name}, counts[name]) for name in ("committed", "rolled_back", "unknown")]
+    reasons = [({"code": code}, count) for code, count in rolled_back.items()]
     metrics = [
         Metric("manager", "The manager, by its name.", "gauge", [({"name": manager}, 1)]),
         Metric("transactions_total", "Transactions that ended, by how.", "counter", ended),
-        Metric.one("transactions_begun_total", "Transactions that began.", counts["begun"], "counter"),
-        Metric.one("heuristic_total", "Transactions of which a branch ended otherwise.", counts["heuristic"], "counter"),
-        Metric.one("transaction_seconds_total", "For how long transactions were open, all together.", counts["seconds"], "counter"),
-        Metric.one("open", "Transactions that are open.", counts["open"]),
-        Metric.one("threads", "Transactions that may be open at once.", counts["threads"]),
-        Metric.one("incarnation", "The number of the session, among those of the log.", counts["incarnation"]),
+        Metric("rolled_back_total", "Those that were rolled back, by XA's reason.", "counter", reasons),
     ]
-    for name, text in (
-        ("owed", "Ends of branches that the database was not told yet, or has not acknowledged."),
-        ("prepared", "Branches that this session has prepared, and that are not ended."),
-        ("recovery_due", "1 while the database is to be recovered."),
+    for name, count, kind, text in (
+        ("transactions_begun_total", "begun", "counter", "Transactions that began."),
+        ("heuristic_total", "heuristic", "counter", "Transactions of which a branch ended otherwise."),
+        ("transaction_seconds_total", "seconds", "counter", "For how long transactions were open, all together."),
+        ("open", "open", "gauge", "Transactions that are open."),
+        ("threads", "threads", "gauge", "Transactions that may be open at once."),
+        ("waiting", "waiting", "gauge", "Transactions that wait until they may begin."),
+        ("incarnation", "incarnation", "gauge", "The number of the session, among those of the log."),
     ):
-        metrics.append(Metric(f"database_{name}", text, "gauge", [({"database": one["name"]}, one[name]) for one in databases]))
+        metrics.append(Metric(name, text, kind, [({}, counts[count])]))
+    for name, kind, text in (
+        ("owed", "gauge", "Ends of branches that the database was not told yet, or has not acknowledged."),
+        ("prepared", "gauge", "Branches that this session has prepared, and that are not ended."),
+        ("prepared_seconds", "gauge", "For how long the oldest of these is prepared."),
+        ("recovery_due", "gauge", "1 while the database is to be recovered."),
+        ("calls_total", "counter", "Calls that bring branches to their ends."),
+        ("call_seconds_total", "counter", "How long these took, all together."),
+    ):
+        metrics.append(Metric(f"database_{name}", text, kind, [({"database": one["name"]}, one.get(name, 0)) for one in databases]))
     return metrics

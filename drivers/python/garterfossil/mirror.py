@@ -13,7 +13,7 @@ from typing import Dict, Iterator, List, Mapping, Optional, Sequence, Set, Tuple
 from .adapters.base import Connection, Database, Place
 from .databases import MOST
 from .errors import ConnectionLost, CoordinatorGone, SetupError, XaError
-from .logs import KeptLog, Names
+from .logs import Log, Names
 from .xid import Xid
 
 log = logging.getLogger("garterfossil")
@@ -175,7 +175,7 @@ class Mirror:
         # Of what the mirror holds and the log doesn't, what is surely over.
         self._over: Set[str] = set()
 
-    def look(self, kept: KeptLog, listings: Sequence[Optional[Sequence[Xid]]], is_name_drawn: bool) -> None:
+    def look(self, kept: Log, listings: Sequence[Optional[Sequence[Xid]]], is_name_drawn: bool) -> None:
         """Looks, before the coordinator starts, whether a session may begin over the log, of which this is known, and over databases
         that list these branches. A start that is refused behind that has raised the log's incarnation, and after a few of them an older log
         would pass for a newer one. Raises SetupError if the log is older than the mirror, and CoordinatorGone if the mirror can't be
@@ -204,7 +204,7 @@ class Mirror:
             )
 
     def _see_decisions(
-        self, mirrored: Mapping[str, Sequence[str]], kept: KeptLog, listings: Sequence[Optional[Sequence[Xid]]]
+        self, mirrored: Mapping[str, Sequence[str]], kept: Log, listings: Sequence[Optional[Sequence[Xid]]]
     ) -> Set[str]:
         """Of what the mirror holds and the log doesn't, the transactions that are surely over: their rows left the log as they left it, and
         only the mirror wasn't told. Raises SetupError if a database still lists a branch of one: then the log is the older one."""
@@ -291,26 +291,21 @@ class Mirror:
         """Each branch of the transaction has acknowledged, or is known to be over: its row may leave, with those of some others."""
         with self._lock:
             self._left.append(gtrid)
-            if len(self._left) < AT_ONCE:
-                return
-            gtrids, self._left = self._left, []
-        self.remove(gtrids)
+            are_enough = len(self._left) >= AT_ONCE
+        if are_enough:
+            self.finish()
 
     def finish(self) -> None:
-        """Has all of them leave."""
+        """Has all of them leave. A row that stays costs a failover some calls, and no more."""
         with self._lock:
             gtrids, self._left = self._left, []
-        if gtrids:
-            self.remove(gtrids)
-
-    def remove(self, gtrids: Sequence[str]) -> None:
-        """The rows of these transactions leave. One that stays here costs a failover some calls, and no more."""
-        marks = ", ".join(["%s"] * len(gtrids))
+        if not gtrids:
+            return
+        statement = f"DELETE FROM garterfossil_decision WHERE name = %s AND gtrid IN ({', '.join(['%s'] * len(gtrids))})"
         with self._taking:
             try:
                 with self._removing.at_work() as connection:
-                    words = [self._names.manager, *gtrids]
-                    connection.run(f"DELETE FROM garterfossil_decision WHERE name = %s AND gtrid IN ({marks})", words)
+                    connection.run(statement, [self._names.manager, *gtrids])
             except Exception as error:
                 log.warning("rows stay in the mirror: %s", error)
 

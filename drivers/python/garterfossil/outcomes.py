@@ -8,6 +8,7 @@ from typing import TYPE_CHECKING, Dict, Set
 
 if TYPE_CHECKING:
     from .coordinator import Coordinator
+    from .transaction import Transaction
 
 #: So many outcomes that were told are kept in mind.
 MOST_TOLD = 10000
@@ -34,8 +35,9 @@ def _fate(coordinator: Coordinator, gtrid: str) -> Outcome:
 
 
 class Outcomes:
-    """The outcomes that were told, and those that a later session tells: of a transaction that was
-    being decided as its session ended the very next one knows how it ended."""
+    """How transactions ended: how many each way, the outcomes that were told, and those that a
+    later session tells: of a transaction that was being decided as its session ended the very next
+    one knows how it ended."""
 
     def __init__(self) -> None:
         self._lock = threading.Lock()
@@ -43,8 +45,49 @@ class Outcomes:
         self._found: Dict[str, Outcome] = {}
         # What the last transactions were told, the oldest first.
         self._told: Dict[str, Outcome] = {}
-        # How many branches a recovery found ended by somebody else.
-        self._odd = 0
+        # How many began, and ended each way; of how many a branch ended otherwise, or was found so by a recovery; for how many
+        # seconds they were open; and for which reasons they were rolled back.
+        self._begun = self._heuristic = 0
+        self._ended = dict.fromkeys((Outcome.COMMITTED, Outcome.ROLLED_BACK, Outcome.UNKNOWN), 0)
+        self._seconds = 0.0
+        self._codes: Dict[str, int] = {}
+
+    def begin(self) -> None:
+        """A transaction has begun."""
+        with self._lock:
+            self._begun += 1
+
+    def end(self, transaction: Transaction, seconds: float) -> None:
+        """It was told how it ended, and was open for so many seconds."""
+        outcome = transaction.outcome
+        with self._lock:
+            self._ended[outcome] += 1
+            self._heuristic += transaction.is_heuristic
+            self._seconds += seconds
+            for code in transaction.codes if outcome is Outcome.ROLLED_BACK else ():
+                self._codes[code.name] = self._codes.get(code.name, 0) + 1
+            if outcome is not Outcome.UNKNOWN:
+                self._told[transaction.gtrid] = outcome
+                if len(self._told) > MOST_TOLD:
+                    del self._told[next(iter(self._told))]
+
+    def note_odd(self) -> None:
+        """A recovery found a branch that somebody else had ended, of a transaction that was told
+        its outcome before."""
+        with self._lock:
+            self._heuristic += 1
+
+    def counts(self) -> Dict[str, float]:
+        """The counts by their names."""
+        with self._lock:
+            ended = {outcome.value.replace(" ", "_"): count for outcome, count in self._ended.items()}
+            running = self._begun - sum(self._ended.values())
+            return {"begun": self._begun, "open": running, **ended, "heuristic": self._heuristic, "seconds": self._seconds}
+
+    def rolled_back(self) -> Dict[str, int]:
+        """How many were rolled back for each reason that has a code."""
+        with self._lock:
+            return dict(self._codes)
 
     def ask(self, gtrid: str) -> None:
         """The session of the transaction has ended while it decided that."""
@@ -59,26 +102,6 @@ class Outcomes:
         with self._lock:
             self._asked -= asked
             self._found.update(found)
-
-    def note(self, gtrid: str, outcome: Outcome) -> None:
-        """A transaction was told that it ended so."""
-        with self._lock:
-            if outcome is not Outcome.UNKNOWN:
-                self._told[gtrid] = outcome
-                if len(self._told) > MOST_TOLD:
-                    del self._told[next(iter(self._told))]
-
-    def note_odd(self) -> None:
-        """A recovery found a branch that somebody else had ended, of a transaction that was told
-        its outcome before."""
-        with self._lock:
-            self._odd += 1
-
-    @property
-    def odd(self) -> int:
-        """How many such branches were found."""
-        with self._lock:
-            return self._odd
 
     def of(self, gtrid: str, coordinator: Coordinator) -> Outcome:
         """How it ended, if that was found. Of one of another run of the program only that it is

@@ -5,10 +5,10 @@ from __future__ import annotations
 
 import logging
 import time
-from typing import TYPE_CHECKING, List, Set
+from typing import TYPE_CHECKING, Optional, Set, Tuple
 
 from .adapters.base import Connection
-from .errors import ConnectionLost, CoordinatorGone, SetupError
+from .errors import ConnectionLost, CoordinatorGone, Overdue, SetupError, XaError
 from .hands import Recovery
 from .resource_manager import GLANCE, ResourceManager
 from .xid import Xid
@@ -17,6 +17,20 @@ if TYPE_CHECKING:
     from .session import Session
 
 log = logging.getLogger("garterfossil")
+
+
+def attempt(session: Session, rm: ResourceManager) -> Optional[XaError]:
+    """Recovers a database, if that can be done now. Else why not, which is logged."""
+    try:
+        recover(session, rm)
+        return None
+    except SetupError as error:
+        rm.say_once(f"the recovery is put off: {error}")
+        return error
+    except XaError as error:
+        if not isinstance(error, Overdue):
+            log.warning("the recovery of %s is put off: %s", rm.label, error)
+        return error
 
 
 def recover(session: Session, rm: ResourceManager) -> None:
@@ -33,9 +47,8 @@ def _recover(session: Session, rm: ResourceManager) -> None:
         # What is noted from now on is for the next recovery.
         rm.is_recovery_due = False
         put_off, owed = rm.put_off_now(), session.owed_at(rm)
-        see_known(session, rm, connection)
-        forgotten = see_over(session, rm, connection)
-        hands = Recovery(session, rm, connection, {*put_off, *forgotten})
+        listed, forgotten = look(session, rm, connection)
+        hands = Recovery(session, rm, connection, listed - put_off - forgotten)
         end = hands.run()
         if end.startswith("strange "):
             raise stop(session, f"{rm.label} lists {end.split(' ')[1]}, which no session over this log began")
@@ -68,46 +81,39 @@ def begin_anew(session: Session, rm: ResourceManager, forgotten: Set[Xid]) -> No
     raise CoordinatorGone(f"the session is ended: {rm.label} has forgotten the rollback of {sorted(forgotten)[0]}")
 
 
-def listed_at(session: Session, connection: Connection) -> List[Xid]:
-    """The manager's branches that the database lists."""
-    with connection.timed(session.patience):
-        return connection.listed()
-
-
-def see_known(session: Session, rm: ResourceManager, connection: Connection) -> None:
-    """Sees that the log may know all that the database lists as the manager's: if it doesn't, it is
-    another one, and all that is behind it would be ended wrongly. Raises SetupError."""
-    unknown = [xid for xid in listed_at(session, connection) if not session.knows(xid)]
-    if unknown:
-        raise SetupError(
-            f"{rm.label} lists {len(unknown)} branches that this log knows nothing of, as {unknown[0]}: another log is used with"
-            " it, or this one is older than they are, or than the mirror"
-        )
-
-
-def see_over(session: Session, rm: ResourceManager, connection: Connection) -> Set[Xid]:
-    """Sees that the database lists no branch that this session has ended there. It may have
-    forgotten in a crash that it rolled one back, as MariaDB does: those are what is returned, and
-    no page is to list them. Anything else is for somebody to look at."""
-    listed = listed_at(session, connection)
+def look(session: Session, rm: ResourceManager, connection: Connection) -> Tuple[Set[Xid], Set[Xid]]:
+    """What the database lists, and what of that it has forgotten in a crash, as MariaDB does: that
+    this session rolled it back. Raises SetupError for what only somebody can explain, and is to
+    look at: that it is over, by all that the database answered before."""
+    listed = _listed_at(session, connection)
     # A transaction that has a branch by now, and isn't open any more behind the list, is over; what
     # is listed once more stays.
     over = _over(session, rm, listed)
     if over:
-        over &= set(listed_at(session, connection))
+        over &= _listed_at(session, connection)
         over -= session.owed_at(rm)
     if session.coordinator.is_gone:
         # What its transactions left is for the next one: nobody has ended it.
         raise CoordinatorGone("the coordinator is gone")
-    undone = rm.undone
-    odd = sorted(over - undone)
+    earlier = {xid for xid in listed if xid.incarnation < session.coordinator.incarnation}
+    of_mirror = sorted(xid for xid in listed if xid.transaction in session.unknown_to_log)
+    if of_mirror:
+        raise SetupError(f"{rm.label} lists {of_mirror[0]}, which the mirror has decided, and of which this log knows nothing: it is older")
+    odd = sorted({*over - rm.undone, *(xid for xid in earlier if session.was_over(xid))})
     if odd:
-        raise stop(session, f"{rm.label} lists {odd[0]} as prepared, which this session has ended there: it isn't as it was")
-    return over | {xid for xid in listed if xid in undone and incarnation_of(xid) < session.coordinator.incarnation}
+        by_hand = f". Its transaction was committed, so by hand: {rm.by_hand(odd[0])}" if session.committed.has(odd[0].transaction) else ""
+        raise stop(session, f"{rm.label} lists {odd[0]} as prepared, which is over: it isn't as it was, or the log isn't{by_hand}")
+    return listed, over | earlier & rm.undone
 
 
-def _over(session: Session, rm: ResourceManager, listed: List[Xid]) -> Set[Xid]:
-    mine = {xid for xid in listed if incarnation_of(xid) == session.coordinator.incarnation}
+def _listed_at(session: Session, connection: Connection) -> Set[Xid]:
+    """The manager's branches that the database lists."""
+    with connection.timed(session.patience):
+        return set(connection.listed())
+
+
+def _over(session: Session, rm: ResourceManager, listed: Set[Xid]) -> Set[Xid]:
+    mine = {xid for xid in listed if xid.incarnation == session.coordinator.incarnation}
     live = session.live() if mine else set()
     return {xid for xid in mine - session.owed_at(rm) if xid.transaction not in live}
 
@@ -121,16 +127,11 @@ def stop(session: Session, why: str) -> SetupError:
     return SetupError(why)
 
 
-def incarnation_of(xid: Xid) -> int:
-    """The session that began the transaction of a branch of the manager's."""
-    return int.from_bytes(xid.gtrid[-16:-8], "big")
-
-
 def see_not_later(rm: ResourceManager, incarnation: int, path: str) -> None:
     """Sees, before a session, that a database lists no branch of a session that the log at a path
     hasn't had. Raises SetupError: no coordinator is started then, so that it is refused however
     often the program is started again."""
-    later = [xid for xid in rm.listed or () if incarnation_of(xid) > incarnation]
+    later = [xid for xid in rm.listed or () if xid.incarnation > incarnation]
     if not later:
         return
     if incarnation == 0:

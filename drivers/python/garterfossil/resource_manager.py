@@ -8,6 +8,7 @@ import time
 from typing import Dict, List, Optional, Set
 
 from .adapters.base import Connection, Database, Place
+from .calls import Call
 from .errors import ConnectionLost
 from .identities import Identities
 from .xid import Xid
@@ -32,8 +33,8 @@ class ResourceManager:
         self.is_recovery_due = True
         #: Held by the recovery that is under way.
         self.is_recovered = threading.Lock()
-        #: The branches that this session has prepared, and that are neither ended nor owed.
-        self.prepared: Set[Xid] = set()
+        #: The branches that this session has prepared, and that are neither ended nor owed, each with when that was.
+        self.prepared: Dict[Xid, float] = {}
         self._database = database
         self._lock = threading.Lock()
         self._kept: Set[int] = set()
@@ -42,6 +43,9 @@ class ResourceManager:
         # When it was last seen that there is no connection to be had, and why.
         self._failed = 0.0
         self._failure = ""
+        # How many calls were made that bring branches to their ends, and how many seconds they took.
+        self._counting = threading.Lock()
+        self._calls, self._call_seconds = 0, 0.0
         # What was logged last of why it can't be used.
         self._said = ""
         # Prepared branches that this session has rolled back, the oldest first; and those that can't be ended now, each with until when it
@@ -122,6 +126,23 @@ class ResourceManager:
         with self._lock:
             self._has_strays = True
             self._kept.discard(connection.number)
+
+    def by_hand(self, xid: Xid) -> str:
+        """The statement by which an operator commits a branch."""
+        return self._database.by_hand(Call("xa_commit", xid))
+
+    def standing(self) -> Dict[str, float]:
+        """How many branches are prepared, for how many seconds the oldest is, and whether a recovery is due."""
+        moments = list(self.prepared.values())
+        oldest = time.monotonic() - min(moments) if moments else 0.0
+        found = {"prepared": len(moments), "prepared_seconds": oldest, "recovery_due": int(self.is_recovery_due)}
+        return {**found, "calls_total": self._calls, "call_seconds_total": self._call_seconds}
+
+    def note_call(self, seconds: float) -> None:
+        """A call that brings a branch to its end took so many seconds."""
+        with self._counting:
+            self._calls += 1
+            self._call_seconds += seconds
 
     # ** recovery
 

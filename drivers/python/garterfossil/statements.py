@@ -3,7 +3,7 @@
 from __future__ import annotations
 
 import re
-from typing import Iterator, Optional, Pattern, Set
+from typing import Dict, Iterator, Optional, Pattern
 
 from .errors import EndRefused
 
@@ -17,6 +17,8 @@ ENDS = re.compile(
     r"|SET\b.*\bAUTOCOMMIT\b",
     re.IGNORECASE | re.DOTALL,
 )
+#: What stays in the session after the transaction.
+STAYS = re.compile(rf"(?:SET|RESET|USE)\b(?!{BETWEEN}(?:LOCAL|TRANSACTION|CONSTRAINTS|STATEMENT)\b)", re.IGNORECASE | re.DOTALL)
 #: What ends a part of a block of statements.
 END_OF_BLOCK = re.compile(r"END\b", re.IGNORECASE)
 #: What stands before the first word.
@@ -34,34 +36,39 @@ NESTED = re.compile(r"/\*|\*/")
 class Texts:
     """The texts of statements, as a kind of database reads them: `quoted` matches all of a text in quotes or of another word in which no
     statement ends, and `comment` all of a comment. If comments `nest`, those between /* and */ are looked through apart from that. What
-    `block` matches begins a block of statements, whose parts END ends."""
+    `block` matches begins a block of statements, whose parts END ends; if comments nest, one END ends it all."""
 
     def __init__(self, quoted: str, comment: str, nest: bool = False, block: Optional[str] = None):
-        self._block = None if block is None else re.compile(block, re.IGNORECASE)
+        self._block = None if block is None else re.compile(block, re.IGNORECASE | re.DOTALL)
         self._comment: Pattern[str] = re.compile(comment, re.DOTALL)
         self._nest = nest
-        # Texts of which it was seen that they end nothing: programs say the same again and again.
-        self._seen: Set[str] = set()
+        # Texts of which it was seen that they end nothing, and whether what they do stays: programs say the same again and again.
+        self._seen: Dict[str, bool] = {}
         nested = r"|(?P<nested>/\*)" if nest else ""
         self._parts: Pattern[str] = re.compile(f"(?P<skipped>{quoted}|{comment}){nested}|;", re.DOTALL)
 
-    def refuse_ends(self, text: str) -> None:
-        """Raises EndRefused if one of the statements in the text ends a transaction or begins one."""
-        if len(text) > LONG:
-            self._look_at(text)
-        elif text not in self._seen:
-            self._look_at(text)
-            if len(self._seen) >= MOST_SEEN:
-                self._seen.clear()
-            self._seen.add(text)
+    def refuse_ends(self, text: str) -> bool:
+        """Raises EndRefused if one of the statements in the text ends a transaction or begins one.
+        Whether one of them does what stays in the session after the transaction."""
+        stays = self._seen.get(text)
+        if stays is None:
+            stays = self._look_at(text)
+            if len(text) <= LONG:
+                if len(self._seen) >= MOST_SEEN:
+                    self._seen.clear()
+                self._seen[text] = stays
+        return stays
 
-    def _look_at(self, text: str) -> None:
-        is_in_block = False
+    def _look_at(self, text: str) -> bool:
+        is_in_block = stays = False
         for statement in self._statements(text):
             is_in_block = is_in_block or self._block is not None and bool(self._block.match(statement))
             if ENDS.match(statement) and not (is_in_block and END_OF_BLOCK.match(statement)):
                 first = statement.split("\n", 1)[0]
                 raise EndRefused(f"it would end the branch's transaction, which ends with its block: {first[:80]}")
+            stays = stays or bool(STAYS.match(statement))
+            is_in_block = is_in_block and not (self._nest and END_OF_BLOCK.match(statement))
+        return stays
 
     def _statements(self, text: str) -> Iterator[str]:
         """The statements of a text, each from its first word on."""
@@ -115,6 +122,7 @@ POSTGRESQL = Texts(
     rf"|[{LETTER}][{LETTER}0-9$]*|\$(?P<tag>(?:[{LETTER}][{LETTER}0-9]*)?)\$.*?\$(?P=tag)\$",
     r"--[^\n\r]*",
     nest=True,
+    block=r"CREATE\b.*\bBEGIN\s+ATOMIC\b",
 )
 #: MariaDB: what stands in a comment that begins with an exclamation mark is a statement all the same.
 MARIADB = Texts(

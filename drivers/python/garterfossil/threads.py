@@ -42,9 +42,9 @@ class Threads:
         return bool(self._free) and not self._whole_is_wanted
 
     @property
-    def are_waited_for(self) -> bool:
-        """Whether somebody waits for one."""
-        return self._takers > 0
+    def waiting(self) -> int:
+        """How many wait for one."""
+        return self._takers
 
     def give_back(self, thread: int) -> None:
         """The thread is free again."""

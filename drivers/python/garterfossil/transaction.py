@@ -7,8 +7,7 @@ import logging
 import os
 import threading
 import time
-from types import TracebackType
-from typing import TYPE_CHECKING, Callable, List, Optional, Set, Type, Union
+from typing import TYPE_CHECKING, Callable, List, Optional, Set, Union
 
 from .adapters.base import Options
 from .aside import aside
@@ -27,7 +26,7 @@ from .errors import (
 )
 from .hands import Hands, Part, Told
 from .outcomes import Outcome
-from .xid import FORMAT, Xid
+from .recovery import stop
 
 if TYPE_CHECKING:
     from .session import Session
@@ -68,9 +67,9 @@ class Transaction:
         self._hands = Hands(session, thread, gtrid)
         self._looks: List[Callable[[], None]] = []
         # Why it can only be rolled back, where that isn't a branch's own matter.
-        self._fault: Optional[XaError] = None
-        # Why it was rolled back, as far as that has codes.
-        self._codes: Set[Code] = set()
+        self._fault: Optional[RolledBack] = None
+        #: Why it was rolled back, as far as that has codes.
+        self.codes: Set[Code] = set()
 
     def __repr__(self) -> str:
         return f"<Transaction {self.gtrid}, {self.outcome.value}, at {len(self._hands.parts)} databases>"
@@ -98,27 +97,21 @@ class Transaction:
 
     def _begin_branch(self, number: int) -> None:
         try:
-            part = Part(self._session.line(self._thread, number), self._xid(number), self._options, self._limit)
+            part = Part(*self._session.part(self._thread, self.gtrid, number), self._options, self._limit)
             # From now on it has to be ended, however far its beginning comes.
             self._hands.parts[number] = part
             part.start()
             self._hands.join()
         except BaseException as error:
-            self._fault = XaError(f"no branch at {self._session.databases.label(number)}: {error}")
+            self._fault = RolledBack(f"no branch at {self._session.databases.label(number)}: {error}")
             self._fault.__cause__ = error
             raise
-
-    def _xid(self, number: int) -> Xid:
-        bqual = self._thread.to_bytes(4, "big") + number.to_bytes(4, "big")
-        return Xid(FORMAT, self._session.name + bytes.fromhex(self.gtrid), bqual)
 
     def __enter__(self) -> Transaction:
         return self
 
-    def __exit__(
-        self, kind: Optional[Type[BaseException]], error: Optional[BaseException], trace: Optional[TracebackType]
-    ) -> None:
-        if error is None and self.outcome is Outcome.OPEN:
+    def __exit__(self, _: object, error: Optional[BaseException], __: object) -> None:
+        if error is None:
             self.look_before_commit()
         aside(functools.partial(self.leave, error))
 
@@ -155,31 +148,27 @@ class Transaction:
     def _commit(self) -> None:
         with self._steps:
             self._require_open()
-            self._commit_now()
+            refusal = self._refusal()
+            if refusal is not None:
+                self._roll_back()
+                raise self._with_odd(refusal)
+            try:
+                told = self._hands.commit()
+            except CoordinatorGone as error:
+                self._note_end(Told(Outcome.ROLLED_BACK))
+                raise RolledBack(str(error)) from error
+            except BaseException:
+                self.outcome = self._hands.fate or Outcome.UNKNOWN
+                raise
+            self._note_end(told)
+            self._raise_unless_committed(told)
 
-    def _commit_now(self) -> None:
-        try:
-            self._require_no_fault()
-        except RolledBack as error:
-            self._roll_back()
-            if self.is_heuristic:
-                error.args = (f"{error}; {self._odd('rolled back')}",)
-            raise
-        except XaError as error:
-            raise self._rolled_back_for(error) from error
-        try:
-            told = self._hands.commit()
-        except CoordinatorGone as error:
-            self._note_end(Told(Outcome.ROLLED_BACK))
-            raise RolledBack(str(error)) from error
-        except BaseException:
-            self.outcome = self._hands.fate or Outcome.UNKNOWN
-            raise
-        self._note_end(told)
+    def _raise_unless_committed(self, told: Told) -> None:
         if told.outcome is Outcome.UNKNOWN:
-            raise self._unknown(told)
+            reason = next((part.error for part in self._hands.parts.values() if part.error is not None), None)
+            raise OutcomeUnknown(f"{self.gtrid}: {reason or 'nobody knows how it ended'}", self.gtrid) from reason
         if told.outcome is Outcome.ROLLED_BACK:
-            raise self._no(told)
+            raise self._with_odd(self._no(told))
         if self.is_heuristic:
             raise HeuristicEnd(self._odd("committed"))
 
@@ -212,7 +201,7 @@ class Transaction:
     def is_worth_trying_again(self) -> bool:
         """Whether it was rolled back, and for a reason of a moment, as a deadlock or a connection that was lost: then the same work may
         go well the next time."""
-        return self.outcome is Outcome.ROLLED_BACK and bool(self._codes) and all(code in PASSING for code in self._codes)
+        return self.outcome is Outcome.ROLLED_BACK and bool(self.codes) and all(code in PASSING for code in self.codes)
 
     def was_left_for_a_moment(self, error: Optional[BaseException]) -> bool:
         """Whether an exception that left the block is a database's own, of a reason that is of a moment, or comes from one. (At
@@ -228,32 +217,27 @@ class Transaction:
 
     # ** why it ends
 
-    def _require_no_fault(self) -> None:
-        """Raises an XaError if it can only be rolled back."""
+    def _refusal(self) -> Optional[RolledBack]:
+        """Why it can only be rolled back, if so."""
         if self._fault is not None:
-            raise self._fault
+            return self._fault
         if self._is_late:
-            raise RolledBack(f"the transaction has outlasted its {self._timeout} seconds", code=Code.RBTIMEOUT)
+            return RolledBack(f"the transaction has outlasted its {self._timeout} seconds", code=Code.RBTIMEOUT)
         for part in self._hands.parts.values():
-            fault = self._fault_of(part)
-            if fault is not None:
-                raise self._refusal(part, fault, self._code_of(part))
-
-    def _fault_of(self, part: Part) -> Optional[str]:
-        """Why the branch can only be rolled back, if so."""
-        if part.is_lost:
-            return f"the connection to {part.line.rm.label} was lost"
-        fault = part.connection.fault
-        return None if fault is None else f"work at {part.line.rm.label} failed: {fault.name}"
+            code, label = self._code_of(part), part.line.rm.label
+            if code is not None:
+                text = f"the connection to {label} was lost" if part.is_lost else f"work at {label} failed: {code.name}"
+                return self._reason(part, text, code)
+        return None
 
     def _code_of(self, part: Part) -> Optional[Code]:
-        """The code of that, if it has one."""
+        """Why a branch can only be rolled back, if so."""
         if part.is_lost:
             return Code.RBPROTO if part.connection.is_ended_by_statement else Code.RBCOMMFAIL
         return part.connection.fault
 
-    def _refusal(self, part: Part, text: str, code: Optional[Code]) -> RolledBack:
-        """Why the transaction is rolled back: what the database said is its cause."""
+    def _reason(self, part: Part, text: str, code: Code) -> RolledBack:
+        """What is raised if a branch is the reason: what the database said is its cause."""
         reason = part.connection.reason or part.error
         said = "" if reason is None else f": {(str(reason).strip().splitlines() or [type(reason).__name__])[0]}"
         error = RolledBack(f"{text}{said}", database=part.line.rm.number, code=code)
@@ -262,21 +246,12 @@ class Transaction:
 
     def _no(self, told: Told) -> RolledBack:
         """What is raised if the coordinator tells that it is rolled back."""
-        odd = f"; {self._odd('rolled back')}" if self.is_heuristic else ""
         if told.rm is None or told.code is None:
-            return RolledBack(f"{self.gtrid} is rolled back{odd}")
+            return RolledBack(f"{self.gtrid} is rolled back")
         part = self._hands.parts[told.rm]
         label = part.line.rm.label
-        text = f"the connection to {label} was lost" if part.error is not None else f"{label} voted {told.code.name}"
-        error = self._refusal(part, text, told.code)
-        error.args = (f"{error}{odd}",)
-        return error
-
-    def _unknown(self, told: Told) -> OutcomeUnknown:
-        reasons = [part.error for part in self._hands.parts.values() if part.error is not None]
-        error = OutcomeUnknown(f"{self.gtrid}: {reasons[0] if reasons else 'nobody knows how it ended'}", self.gtrid)
-        error.__cause__ = reasons[0] if reasons else None
-        return error
+        text = f"{label} voted {told.code.name}" if part.error is None else f"the connection to {label} was lost"
+        return self._reason(part, text, told.code)
 
     # ** its end
 
@@ -284,11 +259,11 @@ class Transaction:
         """Ends each branch by a rollback. Nothing of it is in the log."""
         self.outcome = Outcome.ROLLED_BACK
         parts = list(self._hands.parts.values())
-        self._codes = {code for code in map(self._code_of, parts) if code is not None}
+        self.codes = {code for code in map(self._code_of, parts) if code is not None}
         if self._fault is not None and isinstance(self._fault.__cause__, ConnectionLost):
-            self._codes.add(Code.RBCOMMFAIL)
+            self.codes.add(Code.RBCOMMFAIL)
         if self._is_late:
-            self._codes.add(Code.RBTIMEOUT)
+            self.codes.add(Code.RBTIMEOUT)
         try:
             told = self._hands.roll_back()
         except CoordinatorGone as error:
@@ -300,22 +275,24 @@ class Transaction:
         """Notes how it ended, and whether a branch has ended otherwise, or may have."""
         self.outcome = told.outcome
         if told.code is not None:
-            self._codes.add(told.code)
+            self.codes.add(told.code)
         if self._session.coordinator.is_gone and told.outcome is Outcome.ROLLED_BACK:
-            self._codes.add(Code.RBCOMMFAIL)
+            self.codes.add(Code.RBCOMMFAIL)
         for part in self._hands.parts.values():
             if part.connection.is_ended_by_statement:
                 part.oddity = f"{part.xid}: a statement of the program has ended it, and what it had done may stand"
+            if part.connection.is_double:
+                stop(self._session, f"{part.line.rm.label} has a branch {part.xid} already, of a copy of this log that is at work")
         for rm, how in told.mixed.items():
             self._hands.parts[rm].oddity = f"{self._hands.parts[rm].xid}: {how.name}, {HOW[how is Code.HEURHAZ]}"
         self.is_heuristic = any(part.oddity for part in self._hands.parts.values())
         if self.is_heuristic:
             log.error("%s: look at what each database holds, and do by hand what is missing", self._odd(told.outcome.value))
 
-    def _rolled_back_for(self, error: XaError) -> RolledBack:
-        """Rolls it back because of an error: what is to be raised."""
-        self._roll_back()
-        return RolledBack(f"{error}; {self._odd('rolled back')}" if self.is_heuristic else str(error))
+    def _with_odd(self, error: RolledBack) -> RolledBack:
+        if self.is_heuristic:
+            error.args = (f"{error}; {self._odd('rolled back')}",)
+        return error
 
     def _odd(self, how: str) -> str:
         odd = [f"{part.line.rm.label}: {part.oddity}" for part in self._hands.parts.values() if part.oddity]

@@ -21,12 +21,10 @@ class Xid:
         if self.format < 0 or not 1 <= len(self.gtrid) <= 64 or not 1 <= len(self.bqual) <= 64:
             raise ValueError(f"no identifier of a branch: {self}")
 
-    def __eq__(self, other: object) -> bool:
-        if self is other:
-            return True
-        if not isinstance(other, Xid):
-            return NotImplemented
-        return (self.format, self.gtrid, self.bqual) == (other.format, other.gtrid, other.bqual)
+    @classmethod
+    def of(cls, manager: str, gtrid: str, thread: int, rm: int) -> Xid:
+        """The branch at a resource manager of a transaction that a thread of a manager began."""
+        return cls(FORMAT, manager.encode("ascii") + bytes.fromhex(gtrid), thread.to_bytes(4, "big") + rm.to_bytes(4, "big"))
 
     @classmethod
     def parse(cls, text: str) -> Xid:
@@ -52,3 +50,18 @@ class Xid:
         """The transaction, as requests name it: 32 hexadecimal digits for one of the coordinator's own. The coordinator's name, if
         it has one, stands in front of these in the identifier."""
         return self.gtrid[-16:].hex()
+
+    @property
+    def incarnation(self) -> int:
+        """The session of its manager that began the transaction."""
+        return int.from_bytes(self.gtrid[-16:-8], "big")
+
+    @property
+    def rm(self) -> int:
+        """The number of its resource manager."""
+        return int.from_bytes(self.bqual[4:], "big")
+
+    @property
+    def manager(self) -> str:
+        """The name of its manager."""
+        return self.gtrid[:-16].decode("ascii", "replace")

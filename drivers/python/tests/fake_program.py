@@ -28,7 +28,7 @@ def main(words):
 
 
 def serve(words):
-    """The names of a new log are kept, and others refused."""
+    """The names of a new log are kept, as are those that come at the end, and others refused."""
     log = words[words.index("--log") + 1]
     name = words[words.index("--name") + 1] if "--name" in words else ""
     names = [name, *(words[at + 1] for at, word in enumerate(words) if word == "--rm")]
@@ -36,10 +36,14 @@ def serve(words):
         with open(log, "w") as it:
             json.dump({"incarnation": 0, "rows": {}, "requests": [], "names": names}, it)
     with open(log) as it:
-        kept = json.load(it).get("names", [""])
-    if kept != names:
+        found = json.load(it)
+    kept = found.get("names", [""])
+    if kept[0] != names[0] or any(old != new for old, new in zip(kept, names)) or (len(kept) == 1) != (len(names) == 1):
         print(f"xatm: log: {log}: it is that of {kept}, not of {names}", file=sys.stderr)
-        sys.exit(2)
+        sys.exit(6)
+    if len(names) > len(kept):
+        with open(log, "w") as it:
+            json.dump({**found, "names": names}, it)
     if names != [""]:
         print("protocol 1", *(["name", name] if name else []), *(["rms", *names[1:]] if names[1:] else []), flush=True)
     os.execv(sys.executable, [sys.executable, os.path.join(FOLDER, "fake_coordinator.py"), log])

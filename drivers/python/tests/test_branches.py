@@ -147,6 +147,21 @@ class Branches(Case):
                         send(text)
         self.assertEqual(self.bank.written, ["take"])
 
+    def test_what_a_transaction_changes_in_its_session_no_other_one_meets(self):
+        for text in ("SET ROLE clerk", "take; SET my.tenant = '7'", "/* for */ USE other", "RESET ROLE"):
+            with self.xa.transaction() as t:
+                changed = t[0]._connection
+                t[0].cursor().execute(text)
+            with self.xa.transaction() as t:
+                self.assertIsNot(t[0]._connection, changed)
+            self.assertTrue(changed.is_lost)
+        for text in ("SET LOCAL my.tenant = '7'", "SET /* . */ TRANSACTION READ ONLY", "UPDATE account SET balance = 1"):
+            with self.xa.transaction() as t:
+                kept = t[0]._connection
+                t[0].execute(text)
+            with self.xa.transaction() as t:
+                self.assertIs(t[0]._connection, kept)
+
     def test_a_savepoint_takes_back_what_its_block_did(self):
         with self.xa.transaction() as t:
             with t[0].savepoint():
@@ -187,6 +202,7 @@ class Branches(Case):
             "SELECT E'\\'' ; COMMIT", "-- x\rCOMMIT", "SELECT 1 AS a$b$; COMMIT; SELECT 1 AS c$b$",
             "SELECT 1 AS \u20ac$b$; COMMIT; SELECT 1 AS c$b$",
         ]  # fmt: skip
+        own += ["CREATE FUNCTION f() RETURNS int BEGIN ATOMIC SELECT 1; END; END"]
         self.assertEqual(self.refused(POSTGRESQL, own), own)
         own = [
             "# a comment\nCOMMIT", "/*!40000 COMMIT */", "SELECT 'it\\'s'; COMMIT", "SELECT `;`; COMMIT",
@@ -205,6 +221,7 @@ class Branches(Case):
         own = [
             "DO $$ BEGIN; COMMIT; END $$", "SELECT E'\\'; COMMIT'", "SELECT '\\'",
             "SELECT 1 /* /* ; */ COMMIT; */", "SELECT $1$b$; COMMIT $b$",
+            "CREATE FUNCTION f() RETURNS int BEGIN ATOMIC SELECT 1; SELECT 2; END",
         ]  # fmt: skip
         self.assertEqual(self.refused(POSTGRESQL, own), [])
         own = ["SELECT 'it\\'s; COMMIT'", "SELECT `a; COMMIT`", "SELECT 1--1", "BEGIN NOT ATOMIC SELECT 1",

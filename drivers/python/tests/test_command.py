@@ -12,7 +12,7 @@ from unittest import mock
 
 from garterfossil import command
 from garterfossil.configuration import Configuration
-from garterfossil.logs import Names
+from garterfossil.logs import COPY
 from garterfossil.xid import Xid
 
 from . import fake_program
@@ -38,9 +38,9 @@ class Commands(unittest.TestCase):
         self.addCleanup(patch.stop)
         self.has_log({})
 
-    def has_log(self, rows):
+    def has_log(self, rows, incarnation=1):
         with open(self.log, "w") as it:
-            json.dump({"incarnation": 1, "rows": {gtrid: [str(xid) for xid in xids] for gtrid, xids in rows.items()}, "requests": []}, it)
+            json.dump({"incarnation": incarnation, "rows": {gtrid: [str(xid) for xid in xids] for gtrid, xids in rows.items()}, "requests": []}, it)
 
     def rows(self):
         with open(self.log) as it:
@@ -87,10 +87,9 @@ class Commands(unittest.TestCase):
 
     def at_work(self):
         """A program has the log, as far as one can see."""
-        for path, value in (("is_log_in_use", lambda path: True), ("names_at_work", lambda path: Names())):
-            patch = mock.patch(f"garterfossil.doubt.{path}", value)
-            patch.start()
-            self.addCleanup(patch.stop)
+        patch = mock.patch("garterfossil.logs._printed", lambda *_: (["incarnation 3"], f"xatm: log.db: {COPY}"))
+        patch.start()
+        self.addCleanup(patch.stop)
 
     def test_a_service_at_work_is_healthy_although_branches_are_between_their_votes_and_their_decision(self):
         self.at_work()
@@ -145,7 +144,7 @@ class Commands(unittest.TestCase):
             with open(os.path.join(examples, name)) as it:
                 self.assertEqual(set(re.findall(r"garterfossil_\w+", it.read())) - set(re.findall(r"garterfossil_\w+", printed)), set(), name)
         with open(os.path.join(examples, "dashboard.json")) as it:
-            self.assertEqual(len(json.load(it)["panels"]), 9)
+            self.assertEqual(len(json.load(it)["panels"]), 12)
 
     def test_what_a_dead_manager_left_is_ended_as_an_operator_says(self):
         foreign = branch(UNDECIDED, 1, "shop-2")
@@ -186,10 +185,9 @@ class Commands(unittest.TestCase):
     def test_a_log_that_is_older_than_a_branch_says_nothing_of_it(self):
         later = branch("0000000000000009" + UNDECIDED[16:], 0)
         self.databases[0].prepared[later] = []
-        with mock.patch("garterfossil.doubt._incarnation_of", lambda path: 8):
-            self.assertIn(f"{later}: what it waits for isn't known: the log is older", self.does("status")[1])
-        with mock.patch("garterfossil.doubt._incarnation_of", lambda path: 9):
-            self.assertIn(f"{later}: waits for xa_rollback", self.does("status")[1])
+        for incarnation, what in ((8, "what it waits for isn't known: the log is older"), (9, "waits for xa_rollback")):
+            self.has_log({}, incarnation)
+            self.assertIn(f"{later}: {what}", self.does("status")[1])
 
     def test_a_database_that_is_down_is_said_to_be(self):
         self.databases[1].is_up = False

@@ -183,7 +183,7 @@ class Coordinators(unittest.TestCase):
             process("import sys; sys.exit('xatm: log')")
 
     def test_one_that_finds_the_log_in_use_is_started_again(self):
-        program = "import os, sys; path = sys.argv[1]\nif not os.path.exists(path):\n  os.mkdir(path); sys.exit(2)\n" + ECHO
+        program = "import os, sys; path = sys.argv[1]\nif not os.path.exists(path):\n  os.mkdir(path); sys.exit('xatm: a.db: in use by another process')\n" + ECHO
         with tempfile.TemporaryDirectory() as folder:
             coordinator = Coordinator.start([sys.executable, "-c", program, os.path.join(folder, "mark")], 5)
             coordinator.quit()

@@ -138,14 +138,15 @@ class Calls(Case):
 
         def looked():
             looks.append(self.right.calls)
-            # Before the start, twice before the page, and that.
-            if len(looks) == 4:
+            # Before the start, and before the page.
+            if len(looks) == 2:
                 raise ConnectionLost("it is away for a moment")
 
         self.right.before["listed"] = looked
         with self.manager(patience=10.0) as xa:
             self.move(xa)
-        self.assertIn("end 1 lost", self.requests("end"))
+        moves = self.requests("recover", "start")
+        self.assertLess(moves.index("recover 1"), moves.index("start 1"))
         self.assertEqual(self.written(), (["take"], ["give"]))
 
     def test_a_coordinator_that_ends_before_it_hears_of_the_votes_has_decided_nothing(self):
@@ -189,8 +190,6 @@ class Calls(Case):
     def test_a_branch_of_another_log_shuts_the_log_for_good(self):
         with self.manager() as xa:
             self.move(xa)
-            # It isn't found by the driver's own look.
-            xa._session.knows = lambda xid: True
             self.left.prepared[Xid(7, (9).to_bytes(8, "big") + bytes(8), bytes(8))] = []
             xa._session._rms[0].is_recovery_due = True
             with self.assertRaises(XaError):

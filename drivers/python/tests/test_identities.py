@@ -27,9 +27,10 @@ class Identities(Case):
         with open(self.log + SUFFIX) as it:
             return {entry["number"]: entry["identity"] for entry in json.load(it)["databases"]}
 
-    def killed_in_the_second_phase(self):
+    def killed_in_the_second_phase(self, first=lambda: None):
         """A decided transaction, which is committed at the left one and prepared at the right one."""
         xa = self.manager()
+        first()
         self.right.next["commit_prepared"] = ConnectionLost("killed")
         self.right.before["commit_prepared"] = lambda: xa._session.coordinator.kill()
         self.move(xa)
@@ -160,6 +161,15 @@ class Identities(Case):
                 self.manager()
         with open(self.log) as it:
             self.assertEqual(json.load(it)["incarnation"], 1)
+        self.assertEqual(len(self.right.prepared), 1)
+
+    def test_an_older_copy_of_the_same_session_is_refused_at_every_start(self):
+        """As of a snapshot of the machine: it has had as many sessions, and a database lists what was committed since."""
+        self.killed_in_the_second_phase(lambda: shutil.copy(self.log, self.log + ".copy"))
+        os.replace(self.log + ".copy", self.log)
+        for _ in range(3):
+            with self.assertRaisesRegex(SetupError, "Its transaction was committed, so by hand"):
+                self.manager()
         self.assertEqual(len(self.right.prepared), 1)
 
     def test_a_new_log_in_place_of_one_that_is_lost_is_refused_at_every_start(self):

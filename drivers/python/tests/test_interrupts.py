@@ -198,7 +198,7 @@ class Waiting(Case):
                     with self.assertRaises(SoftTimeLimit):
                         xa.transaction(independent=True).__enter__()
                 # Those that were given up don't wait for the thread as long as the patience.
-                wait_for(lambda: not xa._session.threads.are_waited_for)
+                wait_for(lambda: not xa._session.threads.waiting)
             self.move(xa)
         self.assertEqual(self.written(), (["take"], ["give"]))
 

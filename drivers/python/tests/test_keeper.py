@@ -2,6 +2,7 @@
 
 import contextlib
 import logging
+import os
 import threading
 import time
 import unittest
@@ -194,6 +195,36 @@ class Stops(Case):
         with self.manager() as xa:
             self.move(xa)
 
+    def test_a_branch_that_was_committed_and_is_listed_again_by_the_next_run(self):
+        """As by a standby that was promoted meanwhile, and lacked the last moment: the log has no row of it any more."""
+        with self.manager() as xa:
+            with xa.transaction() as t:
+                t[0].execute("take")
+                t[1].execute("give")
+                xid = t[1].xid
+        self.right.written.clear()
+        self.right.prepared[xid] = ["give"]
+        for _ in range(3):
+            with self.assertRaisesRegex(SetupError, "Its transaction was committed, so by hand: make the call xa_commit"):
+                self.manager()
+        self.assertEqual(list(self.right.prepared), [xid])
+
+    def test_what_another_log_at_the_same_place_has_committed(self):
+        """Its transactions have the same numbers."""
+        xa = self.manager()
+        t = self.move(xa)
+        xa.close()
+        os.remove(self.log)
+        with self.manager() as xa:
+            # It is prepared, and the program is killed before the decision.
+            self.before_the_votes_are_told(xa, xa._session.coordinator.kill)
+            with contextlib.suppress(RolledBack, OutcomeUnknown), xa.transaction() as other:
+                other[0].execute("take")
+                other[1].execute("give")
+            self.assertEqual(other.gtrid, t.gtrid)
+            self.move(xa)
+        self.assertEqual((self.left.prepared, self.right.prepared), ({}, {}))
+
     def test_what_a_session_leaves_whose_coordinator_is_killed_is_the_next_ones(self):
         with self.manager() as xa:
             with xa.transaction() as t:
@@ -212,7 +243,7 @@ class Stops(Case):
 
             connection.listed = listed
             with self.assertRaises(CoordinatorGone):
-                recovery.see_over(session, rm, connection)
+                recovery.look(session, rm, connection)
             self.right.written.clear()
             self.move(xa)
         self.assertEqual(self.right.written, ["give"])

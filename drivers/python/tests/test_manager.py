@@ -1,14 +1,14 @@
 """The transaction manager's life: what it is given, how it starts, what it does for transactions, and its end."""
 
 import contextlib
+import json
 import logging
 import os
 import signal
-import subprocess
-import sys
 import threading
 import time
 import unittest
+from unittest import mock
 
 from garterfossil import (
     Code,
@@ -30,10 +30,6 @@ from garterfossil import (
 from .case import Case
 from .fake_database import WrongStatement
 
-#: Programs that end as the coordinator does where it can't have its log, with or without another one that has it.
-NO_LOG = [sys.executable, "-c", "import sys; print('xatm: log', file=sys.stderr); sys.exit(2)"]
-HELD = "import fcntl, sys; it = open(sys.argv[1], 'r+b'); fcntl.lockf(it, fcntl.LOCK_EX, 512, 0x40000000); print(flush=True); input()"
-
 
 class Given(Case):
     """What a manager is made with."""
@@ -54,37 +50,39 @@ class Given(Case):
 
 
 class Logs(Case):
-    """A log that can't be had is said at once, and by name."""
+    """A log that can't be had is said at once, in the program's own words."""
 
-    def refused(self, path, text, patience=20.0, kind=SetupError):
+    def refused(self, said, text, status=2, patience=20.0, kind=SetupError):
+        program = os.path.join(self.folder, "refuses")
+        with open(program, "w") as it:
+            it.write(f"#!/bin/sh\necho '{said}' >&2\nexit {status}\n")
+        os.chmod(program, 0o755)
         begun = time.monotonic()
         with self.assertRaisesRegex(kind, text):
-            TransactionManager([self.left], path, patience=patience, command=NO_LOG)
-        self.assertLess(time.monotonic() - begun, 5)
+            TransactionManager([self.left], self.log, patience=patience, program=program)
+        return time.monotonic() - begun
 
-    def test_a_folder_that_is_not_there(self):
-        self.refused(os.path.join(self.folder, "no", "log"), "no folder .*no")
-
-    def test_a_folder_in_place_of_a_log(self):
-        self.refused(self.folder, "it is a folder")
-
-    def test_another_kind_of_file(self):
-        with open(self.log, "w") as it:
-            it.write("this is no log")
-        self.refused(self.log, "another kind of file")
-
-    def test_a_log_that_the_coordinator_refuses_for_a_reason_of_its_own(self):
-        self.refused(self.log, "another version")
+    def test_what_the_program_says_of_it(self):
+        for has_log in (False, True):
+            for said, status in (("no such folder", 6), ("that is a folder", 6), ("not a decision log", 6), ("it is shut: ..", 8)):
+                self.assertLess(self.refused(f"xatm: log: log: {said}", said, status), 5)
+            self.refused("xatm: a.db: Permission denied", "Permission denied")
+            # From now on it is looked at before the start.
+            with open(self.log, "w") as it:
+                it.write("a log")
 
     def test_a_log_in_use_is_waited_for(self):
-        with open(self.log, "wb") as it:
-            it.write(b"SQLite format 3\0")
-        with subprocess.Popen([sys.executable, "-c", HELD, self.log], stdin=subprocess.PIPE, stdout=subprocess.PIPE) as holder:
-            holder.stdout.readline()
-            begun = time.monotonic()
-            self.refused(self.log, "in use by another program", patience=0.5, kind=LogInUse)
-            self.assertGreater(time.monotonic() - begun, 0.5)
-            holder.communicate(b"\n")
+        self.assertGreater(self.refused("xatm: a.db: in use by another process", "in use by another program", 5, 0.5, LogInUse), 0.5)
+
+    def test_one_that_cannot_be_written_is_not_said_to_be_in_use(self):
+        program = os.path.join(self.folder, "shows_a_copy")
+        with open(program, "w") as it:
+            it.write("#!/bin/sh\necho incarnation 3\necho 'xatm: log: another process runs over it, or it cannot be written' >&2\n")
+        os.chmod(program, 0o755)
+        with open(self.log, "w") as it:
+            it.write("a log")
+        with mock.patch("os.access", lambda path, how: False), self.assertRaisesRegex(SetupError, "can't be written"):
+            TransactionManager([self.left], self.log, program=program)
 
 
 class Starts(Case):
@@ -122,7 +120,7 @@ class Starts(Case):
     def test_a_log_that_is_older_than_the_branches_is_refused(self):
         self.manager().close()
         self.left_behind()
-        with self.assertRaisesRegex(SetupError, "database 0 lists 1 branches that this log knows nothing of"):
+        with self.assertRaisesRegex(SetupError, "database 0 lists .*, which no session over this log began"):
             self.manager()
         self.assertEqual(len(self.left.prepared), 1)
 
@@ -293,6 +291,15 @@ class Runs(Case):
             self.move(xa)
         self.assertEqual(self.written(), (["take", "take"], ["give", "give"]))
 
+    def test_a_decided_branch_that_is_not_there_any_more_is_told(self):
+        with self.manager(dies_at="decided") as xa:
+            with self.assertRaises(OutcomeUnknown):
+                self.move(xa)
+            self.left.prepared.clear()
+            with self.assertLogs("garterfossil", logging.WARNING) as logged:
+                self.move(xa)
+        self.assertRegex("".join(logged.output), "database 0 has 1 branches no more that are decided to commit")
+
     def test_a_branch_that_was_ended_by_hand_is_logged(self):
         with self.manager() as xa:
             with self.assertLogs("garterfossil", logging.ERROR) as logged:
@@ -319,13 +326,24 @@ class Runs(Case):
     def test_metrics_as_prometheus_reads_them(self):
         with self.manager() as xa:
             self.move(xa)
+            with self.assertRaises(WrongStatement), xa.transaction() as t:
+                t[0].execute("wrong")
+            self.right.before["commit_prepared"] = lambda: (time.sleep(0.2), lines.extend(xa.metrics().splitlines()))
+            lines, found = [], {}
+            self.move(xa)
             with xa.transaction():
-                lines = xa.metrics().splitlines()
+                lines += xa.metrics().splitlines()
+                found = json.loads(xa.metrics("json"))
         for line in (
-            'garterfossil_transactions_total{outcome="committed"} 1', "garterfossil_open 1", "garterfossil_threads 2",
+            'garterfossil_transactions_total{outcome="committed"} 2', 'garterfossil_rolled_back_total{code="RBINTEGRITY"} 1', "garterfossil_open 1", "garterfossil_threads 2",
             "garterfossil_incarnation 1", 'garterfossil_database_owed{database="1"} 0', "# TYPE garterfossil_open gauge",
         ):  # fmt: skip
             self.assertIn(line, lines)
+        [age] = [line.split(" ")[1] for line in lines if 'prepared_seconds{database="1"}' in line][:1]
+        self.assertGreater(float(age), 0.2)
+        self.assertEqual(found["transactions_total"][0], {"outcome": "committed", "value": 2})
+        [seconds] = [one["value"] for one in found["database_call_seconds_total"] if one["database"] == "1"]
+        self.assertGreater(seconds, 0.2)
         self.assertIn("garterfossil_open 0", xa.metrics().splitlines())
 
     def test_no_call_is_made_before_it_is_told(self):

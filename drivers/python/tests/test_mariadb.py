@@ -13,9 +13,9 @@ from unittest import mock
 from garterfossil import OutcomeUnknown, TransactionManager
 from garterfossil.adapters.base import Options, Place
 from garterfossil.adapters.mariadb import MariaDB
-from garterfossil.calls import Call
 from garterfossil.codes import Code
 from garterfossil.errors import ConnectionLost, SetupError, Unanswered
+from garterfossil.xid import Xid
 
 from .fake_database import FakeDatabase
 
@@ -44,7 +44,7 @@ class Server:
         self.branches, self.links, self.fails, self.done = {}, {}, {}, []
         #: By its name, the connection that holds a lock.
         self.locks = {}
-        self.is_in_cluster = False
+        self.is_in_cluster, self.row = False, 0
         self.variables, self.tables = {"innodb_flush_log_at_trx_commit": "1"}, []
         self.identity, self.uid, self.may_create = None, "AbC=", True
         #: What XA RECOVER lists besides, of other programs.
@@ -112,6 +112,7 @@ def error(number):
 class Cursor:
     def __init__(self, link):
         self.link, self.server, self.rows, self.rowcount = link, link.server, [], 0
+        self.description, self.lastrowid = [("column",)], link.server.row
 
     def __enter__(self):
         return self
@@ -187,29 +188,28 @@ class MariaDBs(unittest.TestCase):
         self.database = MariaDB(user="bank", database="bank")
         self.connection = self.database.connect()
 
-    def do(self, text, connection=None):
-        return (connection or self.connection).do(Call.parse(text)).code
+    def do(self, verb, connection=None):
+        return (connection or self.connection).do(verb, Xid.parse(XID))
 
     def worked(self):
-        self.do(f"xa_start {XID}")
+        self.do("start")
         self.connection.execute("UPDATE account")
-        self.do(f"xa_end {XID} TMSUCCESS")
 
     def test_a_branch_that_is_prepared_and_committed(self):
         self.worked()
-        self.assertIs(self.do(f"xa_prepare {XID}"), Code.OK)
-        self.assertIs(self.do(f"xa_commit {XID}"), Code.OK)
-        self.assertIs(self.do(f"xa_commit {XID}"), Code.NOTA)
+        self.assertIs(self.do("prepare"), Code.OK)
+        self.assertIs(self.do("commit"), Code.OK)
+        self.assertIs(self.do("commit"), Code.NOTA)
 
     def test_a_branch_whose_connection_lives_is_not_told_to_be_over(self):
         self.worked()
-        self.do(f"xa_prepare {XID}")
+        self.do("prepare")
         other = self.database.connect()
-        for call in ("xa_commit", "xa_rollback"):
+        for verb in ("commit", "rollback"):
             with self.assertRaises(Unanswered):
-                self.do(f"{call} {XID}", other)
+                self.do(verb, other)
         self.database.end_connections([other.number])
-        self.assertIs(self.do(f"xa_commit {XID}", other), Code.OK)
+        self.assertIs(self.do("commit", other), Code.OK)
 
     def test_connections_of_others_are_not_ended(self):
         """Those of the manager's other databases, of managers of other names, and of programs with the same user."""
@@ -233,23 +233,22 @@ class MariaDBs(unittest.TestCase):
 
     def test_how_a_transaction_is_to_run_is_said_before_it_begins(self):
         self.connection.options = Options("read committed", True)
-        self.do(f"xa_start {XID}")
+        self.do("start")
         self.assertEqual(self.connection.link.statements[-2], "SET TRANSACTION ISOLATION LEVEL READ COMMITTED, READ ONLY")
 
     def test_the_databases_error_is_kept_with_the_vote(self):
         self.server.fails["UPDATE account"] = fault = error(4025)
-        self.do(f"xa_start {XID}")
+        self.do("start")
         with self.assertRaises(MySQLError):
             self.connection.execute("UPDATE account")
-        self.do(f"xa_end {XID} TMSUCCESS")
-        self.assertIs(self.do(f"xa_prepare {XID}"), Code.RBINTEGRITY)
+        self.assertIs(self.do("prepare"), Code.RBINTEGRITY)
         self.assertIs(self.connection.reason, fault)
 
     def test_a_call_that_is_sent_ahead_is_answered_once(self):
         self.worked()
-        for name in ("xa_prepare", "xa_commit"):
-            self.connection.send(Call.parse(f"{name} {XID}"))
-            self.assertIs(self.do(f"{name} {XID}"), Code.OK)
+        for verb in ("prepare", "commit"):
+            self.assertTrue(self.connection.send(verb, Xid.parse(XID)))
+            self.assertIs(self.do(verb), Code.OK)
         self.assertEqual([statement.split(" ")[1] for statement in self.connection.link.statements[-3:]], ["END", "PREPARE", "COMMIT"])
 
     def test_connections_that_are_kept_are_not_ended(self):
@@ -257,40 +256,60 @@ class MariaDBs(unittest.TestCase):
         self.database.end_connections([self.connection.number, kept.number])
         self.assertEqual(sorted(self.server.links), [self.connection.number, kept.number])
         with self.assertRaises(ConnectionLost):
-            self.do(f"xa_start {XID}", stray)
+            self.do("start", stray)
 
     def test_a_failed_statement_is_the_vote_although_mariadb_would_prepare(self):
         for number, vote in ((4025, Code.RBINTEGRITY), (1205, Code.RBTIMEOUT), (1064, Code.RBOTHER)):
             self.server.fails["UPDATE account"] = error(number)
-            self.do(f"xa_start {XID}")
+            self.do("start")
             with self.assertRaises(MySQLError):
                 self.connection.execute("UPDATE account")
             self.assertIs(self.connection.fault, vote)
-            self.assertIs(self.do(f"xa_end {XID} TMSUCCESS"), Code.OK)
-            self.assertIs(self.do(f"xa_prepare {XID}"), vote)
+            self.assertIs(self.do("prepare"), vote)
             self.assertEqual(self.server.branches, {})
+
+    def test_a_later_statement_of_a_text_that_failed_is_told_as_what_it_is(self):
+        """PyMySQL reads its answer as the next statement is sent, which is XA END."""
+        self.worked()
+        link, fault = self.connection.link, pymysql.err.IntegrityError(1062, "duplicate")
+        query, left = link.query, [fault]
+
+        def queries(statement):
+            if left:
+                raise left.pop()
+            query(statement)
+
+        link.query = queries
+        self.assertIs(self.do("prepare"), Code.RBINTEGRITY)
+        self.assertIs(self.connection.reason, fault)
+        self.assertEqual(self.server.branches, {})
+
+    def test_a_result_has_the_number_that_its_row_got(self):
+        self.do("start")
+        self.server.row = 7
+        result = self.connection.execute("INSERT INTO account")
+        self.assertEqual((list(result.columns), result.lastrowid), (["column"], 7))
 
     def test_a_broken_constraint_is_told_by_the_kind_of_error(self):
         self.server.fails["UPDATE account"] = pymysql.err.IntegrityError(1062, "duplicate")
-        self.do(f"xa_start {XID}")
+        self.do("start")
         with self.assertRaises(MySQLError):
             self.connection.execute("UPDATE account")
         self.assertIs(self.connection.fault, Code.RBINTEGRITY)
 
     def test_a_deadlock(self):
         self.server.fails["UPDATE account"] = error(1213)
-        self.do(f"xa_start {XID}")
+        self.do("start")
         text, = self.server.branches
         self.server.branches[text] = "ROLLBACK ONLY", self.server.links[self.connection.number]
         with self.assertRaises(MySQLError):
             self.connection.execute("UPDATE account")
-        self.assertIs(self.do(f"xa_end {XID} TMSUCCESS"), Code.OK)
-        self.assertIs(self.do(f"xa_prepare {XID}"), Code.RBDEADLOCK)
+        self.assertIs(self.do("prepare"), Code.RBDEADLOCK)
         self.assertEqual(self.server.branches, {})
 
     def test_one_phase(self):
         self.worked()
-        self.assertIs(self.do(f"xa_commit {XID} TMONEPHASE"), Code.OK)
+        self.assertIs(self.do("commit-at-once"), Code.OK)
         self.assertEqual(self.server.branches, {})
 
     def test_one_phase_without_an_answer(self):
@@ -298,17 +317,11 @@ class MariaDBs(unittest.TestCase):
         text, = self.server.branches
         self.server.fails[f"XA COMMIT {text} ONE PHASE"] = error(1180)
         with self.assertRaises(Unanswered):
-            self.do(f"xa_commit {XID} TMONEPHASE")
+            self.do("commit-at-once")
 
     def test_a_branch_of_another_log(self):
         self.worked()
-        self.assertIs(self.do(f"xa_start {XID}", self.database.connect()), Code.DUPID)
-
-    def test_the_page_has_the_identifier_as_text(self):
-        self.worked()
-        self.do(f"xa_prepare {XID}")
-        answer = self.connection.do(Call.parse("xa_recover 32 TMSTARTRSCAN"))
-        self.assertEqual([str(xid) for xid in answer.page], [XID])
+        self.assertIs(self.do("start", self.database.connect()), Code.DUPID)
 
     def test_branches_of_other_programs_are_listed_as_what_they_are(self):
         # As MariaDB 10.11 writes them: a format of 1 and an empty part are left out, and plain text stands as it is.
@@ -316,7 +329,7 @@ class MariaDBs(unittest.TestCase):
             (1, 15, 0, "'another program'"), (5, 1, 1, "'g','b',5"), (1, 2, 1, "X'00ff',X'62'"), (4, 2, 1, "X'2278',X'79',4"),
         ]  # fmt: skip
         self.worked()
-        self.do(f"xa_prepare {XID}")
+        self.do("prepare")
         self.assertEqual([str(xid) for xid in self.connection.all_listed()], ["1:00ff:62", "4:2278:79", "5:67:62", XID])
         self.assertEqual([str(xid) for xid in self.connection.listed()], [XID])
 
@@ -360,7 +373,7 @@ class MariaDBs(unittest.TestCase):
         self.worked()
         self.server.end(self.server.links[self.connection.number])
         with self.assertRaises(ConnectionLost):
-            self.do(f"xa_prepare {XID}")
+            self.do("prepare")
 
     def test_a_cluster_is_no_database_of_transactions(self):
         self.server.is_in_cluster = True

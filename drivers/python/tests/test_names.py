@@ -1,21 +1,21 @@
 """Whose log it is: the names that it keeps, those that are drawn, and the logs of workers."""
 
-import contextlib
+import logging
 import os
 import signal
-import sqlite3
 import subprocess
 import sys
 from unittest import mock
 
-from garterfossil import logs, manager
+from garterfossil import logs, manager, session
 from garterfossil import LogInUse, SetupError, TransactionManager
 from garterfossil.coordinator import Coordinator, serve_command
-from garterfossil.logs import KeptLog, Names, free_log, kept_log, logs_of_workers, names_at_work, printed_log
+from garterfossil.logs import Log, Names, free_log, log_at_rest, logs_of_workers
 from garterfossil.xid import Xid
 
 from . import fake_program
 from .case import Case
+from .fake_database import FakeDatabase
 
 
 class Kept(Case):
@@ -61,15 +61,17 @@ class Kept(Case):
             self.move(xa)
             self.left.prepared[Xid(7, xa.name.encode() + bytes(16), bytes(8))] = []
         os.remove(self.log)
-        with self.manager() as xa:
+        with self.assertLogs("garterfossil", logging.WARNING) as logged, self.manager() as xa:
             self.move(xa)
+        self.assertIn("is gone from", "".join(logged.output))
         self.assertEqual(len(self.left.prepared), 1)
 
     def test_a_log_that_was_made_since_its_names_were_looked_for(self):
         with self.manager() as xa:
             name = xa.name
-        found = [KeptLog(), kept_log(self.program, self.log, 1.0)]
-        with mock.patch.object(manager, "kept_log", side_effect=found):
+        found = [Log(), log_at_rest(self.program, self.log, 1.0)]
+        is_new = mock.patch.object(manager, "is_new_log", side_effect=[True, False])
+        with is_new, mock.patch.object(session, "log_at_rest", side_effect=found):
             with self.manager() as xa:
                 self.assertEqual(xa.name, name)
 
@@ -100,6 +102,28 @@ class Kept(Case):
         with self.assertRaises(SetupError):
             self.manager({"shop": self.right, "bank": self.left})
 
+    def test_a_database_that_is_added_is_kept_and_what_waits_at_the_others_is_ended(self):
+        with self.manager() as xa:
+            self.right.before["commit_prepared"] = lambda: xa._session.coordinator.kill()
+            self.right.next["commit_prepared"] = "lost"
+            self.left.next["commit_prepared"] = "lost"
+            self.move(xa)
+            xa._is_closed, xa._session = True, None
+        self.right.before.clear()
+        audit = FakeDatabase()
+        with self.manager({"bank": self.left, "shop": self.right, "audit": audit}) as xa:
+            self.assertEqual((self.left.prepared, self.right.prepared), ({}, {}))
+            with xa.transaction() as t:
+                t["audit"].execute("note")
+                t["bank"].execute("take")
+        self.assertEqual(audit.written, ["note"])
+        with self.assertRaisesRegex(SetupError, "audit"):
+            self.manager({"bank": self.left, "shop": self.right, "post": audit})
+        # Without it, too, the log keeps its name.
+        self.manager().close()
+        with self.assertRaisesRegex(SetupError, "audit"):
+            self.manager({"bank": self.left, "shop": self.right, "post": audit})
+
     def test_names_of_databases_that_no_log_can_keep(self):
         with self.assertRaisesRegex(ValueError, "my bank"):
             self.manager({"my bank": self.left})
@@ -111,16 +135,6 @@ class Kept(Case):
     def test_another_version_of_the_protocol_is_refused(self):
         with self.assertRaisesRegex(SetupError, "protocol 2"):
             Coordinator([sys.executable, "-c", "print('protocol 2 name a'); print('restarted 1 0 0'); input()"])
-
-    def test_the_names_in_a_file_of_sqlite(self):
-        import sqlite3
-
-        for comment, names in ((" /* shop-1 bank stock */", Names("shop-1", ("bank", "stock"))), (" /*  bank */", Names("", ("bank",))), ("", Names())):
-            path = f"{self.folder}/{len(comment)}.db"
-            it = sqlite3.connect(path)
-            it.execute(f"CREATE TABLE participant (inc INTEGER NOT NULL{comment})")
-            it.close()
-            self.assertEqual(names_at_work(path), names)
 
     # ** workers
 
@@ -154,16 +168,17 @@ class Kept(Case):
             it.write("#!/bin/sh\necho 'xatm: log' >&2\nexit 2\n")
         os.chmod(program, 0o755)
         with self.assertRaises(SetupError):
-            printed_log(program, self.log)
+            Log.at(program, self.log)
 
     def test_a_look_that_somebody_kills_is_made_again(self):
         program = os.path.join(self.folder, "is_killed")
         with open(program, "w") as it:
-            it.write(f"#!/bin/sh\n[ -e {self.folder}/once ] || {{ touch {self.folder}/once; kill -9 $$; }}\necho incarnation 3\n")
+            # It has printed a part.
+            it.write(f"#!/bin/sh\necho incarnation 3\n[ -e {self.folder}/once ] || {{ touch {self.folder}/once; kill -9 $$; }}\necho {'1' * 32} 0\n")
         os.chmod(program, 0o755)
         with open(self.log, "wb") as it:
             it.write(b"SQLite format 3\0")
-        self.assertEqual(kept_log(program, self.log, 5.0).incarnation, 3)
+        self.assertEqual(list(log_at_rest(program, self.log, 5.0).decisions), ["1" * 32])
 
     def test_a_look_at_the_branches_of_decisions_that_somebody_kills_is_made_again(self):
         program, gtrid = os.path.join(self.folder, "is_killed"), "0" * 15 + "1" + "0" * 15 + "1"
@@ -176,29 +191,18 @@ class Kept(Case):
         os.chmod(program, 0o755)
         with open(self.log, "wb") as it:
             it.write(b"SQLite format 3\0")
-        self.assertEqual(list(map(str, kept_log(program, self.log, 5.0).decisions[gtrid])), [f"7:{gtrid}:0000000100000000"])
+        self.assertEqual(list(map(str, log_at_rest(program, self.log, 5.0).decisions[gtrid])), [f"7:{gtrid}:0000000100000000"])
 
     def test_a_log_that_was_in_use_as_it_was_looked_at_is_looked_at_again(self):
         program = os.path.join(self.folder, "in_use")
         # Its look takes longer than a moment, and it is shown as a copy has it.
-        used = f"sleep 2.5; echo 'xatm: {self.log}: another process runs over it, or it cannot be written' >&2; exit 0"
+        used = f"sleep 2.5; echo incarnation 2; echo 'xatm: {self.log}: another process runs over it, or it cannot be written' >&2; exit 0"
         with open(program, "w") as it:
             it.write(f"#!/bin/sh\n[ -e {self.folder}/once ] || {{ touch {self.folder}/once; {used}; }}\necho incarnation 3\n")
         os.chmod(program, 0o755)
         with open(self.log, "wb") as it:
             it.write(b"SQLite format 3\0")
-        self.assertEqual(kept_log(program, self.log, 5.0).incarnation, 3)
-
-    def test_how_often_a_log_was_started_stands_in_its_file(self):
-        program = os.path.join(self.folder, "looks")
-        with open(program, "w") as it:
-            it.write("#!/bin/sh\necho name shop-1\n")
-        os.chmod(program, 0o755)
-        self.assertEqual(kept_log(program, self.log, 1.0), KeptLog())
-        with contextlib.closing(sqlite3.connect(self.log)) as it, it:
-            it.execute("CREATE TABLE tm_meta (k INTEGER, version INTEGER, incarnation INTEGER)")
-            it.execute("INSERT INTO tm_meta VALUES (1, 2, 7)")
-        self.assertEqual(kept_log(program, self.log, 1.0).incarnation, 7)
+        self.assertEqual(log_at_rest(program, self.log, 5.0).incarnation, 3)
 
     def test_all_logs_of_workers_in_use(self):
         with mock.patch("garterfossil.logs.MOST_WORKERS", 1):

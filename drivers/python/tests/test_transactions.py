@@ -3,7 +3,7 @@
 import contextlib
 import unittest
 
-from garterfossil import CoordinatorGone, HeuristicEnd, OutcomeUnknown, Overdue, RolledBack, XaError
+from garterfossil import CoordinatorGone, HeuristicEnd, OutcomeUnknown, Overdue, RolledBack, SetupError, XaError
 from garterfossil.adapters.base import Place
 from garterfossil.codes import Code
 from garterfossil.errors import ConnectionLost, Unanswered
@@ -125,10 +125,9 @@ class Transactions(Case):
                 with xa.transaction() as t:
                     t[0].execute("take")
                     t[1].execute("give")
-                    on_branch = t._hands.parts[1].connection._on_branch
-                    t._hands.parts[1].connection._on_branch = lambda call, xid: (
-                        Code.OK if call.name == "xa_forget" else on_branch(call, xid)
-                    )
+                    connection = t._hands.parts[1].connection
+                    do = connection.do
+                    connection.do = lambda verb, xid: Code.OK if verb == "forget" else do(verb, xid)
         self.assertEqual(self.requests("tell")[1:3], ["tell 1 0 5", "tell 1 0"])
 
     def test_a_branch_that_is_rolled_back_against_its_vote(self):
@@ -148,7 +147,7 @@ class Transactions(Case):
             self.move(xa)
         self.assertEqual(self.written(), (["take"], ["give"]))
         # The coordinator is told of each branch that it is over: at once, or by a recovery.
-        self.assertEqual(self.requests("rollback", "tell")[:2], ["rollback 1", "tell 1 100 lost"])
+        self.assertEqual(self.requests("rollback", "tell")[:2], ["rollback 1", "tell 1 0 lost"])
         self.assertEqual(self.requests("end"), ["end 1 -4"])
 
     def test_a_vote_that_is_lost(self):
@@ -243,6 +242,18 @@ class Transactions(Case):
                     with self.assertRaises(ConnectionLost):
                         t[1].execute("give")
         self.assertEqual(self.written(), ([], []))
+
+    def test_an_identifier_that_is_in_use_shuts_the_log(self):
+        """Nobody else gives it out, unless a copy of the log is at work, as on a machine that was cloned."""
+        with self.manager() as xa:
+            self.move(xa)
+            self.right.next["start"] = Code.DUPID
+            with self.assertRaises(XaError):
+                self.move(xa)
+            with self.assertRaisesRegex(SetupError, "of a copy of this log that is at work"):
+                self.move(xa)
+        with self.assertRaisesRegex(SetupError, "of a copy of this log that is at work.*shut"):
+            self.manager()
 
     # ** recovery
 

@@ -4,30 +4,15 @@ from __future__ import annotations
 
 import abc
 import enum
+import random
 import re
 import threading
 import time
 from dataclasses import dataclass
-from types import TracebackType
-from typing import (
-    Any,
-    Callable,
-    Collection,
-    Dict,
-    FrozenSet,
-    Iterable,
-    Iterator,
-    List,
-    Mapping,
-    Optional,
-    Sequence,
-    Tuple,
-    Type,
-    TypeVar,
-    Union,
-)
+from typing import Any, Callable, Collection, Dict, FrozenSet, Iterable, Iterator, List, Mapping, Optional, Sequence, Set, Tuple, TypeVar
+from typing import Union
 
-from ..calls import Answer, Call
+from ..calls import Call
 from ..codes import Code
 from ..errors import ConnectionLost, HeuristicEnd, TransactionOver, Unanswered, XaError
 from ..statements import Texts
@@ -45,6 +30,10 @@ class Result:
 
     rows: List[Tuple[Any, ...]]
     rowcount: int
+    #: The names of the columns.
+    columns: Sequence[str] = ()
+    #: The number that MariaDB gave to the last row by itself, if it did.
+    lastrowid: Optional[int] = None
 
     def __iter__(self) -> Iterator[Tuple[Any, ...]]:
         return iter(self.rows)
@@ -56,8 +45,9 @@ class State(enum.Enum):
     NONE = enum.auto()
     ACTIVE = enum.auto()
     IDLE = enum.auto()
-    ROLLBACK_ONLY = enum.auto()
     PREPARED = enum.auto()
+    #: It only read, which was its vote, and its transaction goes on until the outcome is told.
+    READ = enum.auto()
 
 
 @dataclass(frozen=True)
@@ -172,9 +162,7 @@ class Timed:
         if self._wire is not None:
             self._wire.due = time.monotonic() + self._seconds
 
-    def __exit__(
-        self, kind: Optional[Type[BaseException]], error: Optional[BaseException], trace: Optional[TracebackType]
-    ) -> None:
+    def __exit__(self, _: object, error: Optional[BaseException], __: object) -> None:
         if self._wire is None:
             return
         self._wire.due = None
@@ -185,8 +173,7 @@ class Timed:
 class Connection(abc.ABC):
     """A connection to a database, as a resource manager of XA. It has one branch at a time, and one thread uses it.
 
-    A call is answered by a code of the branch state table, or by raising ConnectionLost or Unanswered. What a subclass
-    gives are the database's statements for each; where a branch stands is kept here."""
+    What a subclass gives are the database's statements for each call; where a branch stands is kept here."""
 
     #: The number by which the database knows the connection.
     number: int
@@ -194,8 +181,6 @@ class Connection(abc.ABC):
     TEXTS: Texts
     #: What a program may read of the module's own connection, or call of it: nothing of it changes a transaction or a session.
     SHOWN: FrozenSet[str] = frozenset()
-    #: Whether `send` does something.
-    SENDS = False
     #: Whether a rollback to a savepoint takes a statement back that failed, so that the branch may be committed.
     TAKES_BACK = False
 
@@ -214,17 +199,15 @@ class Connection(abc.ABC):
         self._state = State.NONE
         #: Why the branch can only be rolled back, if its work failed.
         self._fault: Optional[Code] = None
-        # Whether it is to be rolled back all the same.
-        self._is_refused = False
         #: The database's own error because of which it can, or because of which the last branch was rolled back.
         self.reason: Optional[BaseException] = None
-        #: A scan lists branches of sessions before this one alone, if it is given, and none of those that are put off.
-        self.scanned_before: Optional[int] = None
-        self.put_off: Collection[Xid] = ()
+        #: Whether the database had a branch of the last one's identifier already.
+        self.is_double = False
         #: Whether a statement of the program has ended its branch.
         self.is_ended_by_statement = False
-        #: What the pages of a scan are yet to list, in the order of the identifiers. None where no scan is open.
-        self._unscanned: Optional[List[Xid]] = None
+        #: Whether a statement of the program has changed what stays after its branch, as a setting:
+        #: no other branch is to have that.
+        self.is_changed = False
 
     # ** work
 
@@ -295,100 +278,76 @@ class Connection(abc.ABC):
         """Why the branch can only be rolled back, if its work failed."""
         return self._fault
 
-    def refuse(self) -> None:
-        """The branch is to be rolled back: xa_prepare is answered so."""
-        self._is_refused = True
-
     # ** calls
 
-    def do(self, call: Call) -> Answer:
-        """Does a call of XA."""
+    def do(self, verb: str, xid: Xid) -> Code:
+        """Makes the calls of XA on a branch that a word of the coordinator tells (docs/MOVES.md),
+        or that of `start`: how the last of them is answered. Raises ConnectionLost or Unanswered."""
         with self._lock, self.timed(self.place.patience):
-            if call.name == "xa_recover":
-                return self._recover(call)
-            return Answer(self._on_branch(call, call.branch))
+            if verb == "start":
+                return self._start_branch(xid)
+            if verb == "forget":
+                # Neither database ends a branch by itself and remembers it.
+                return Code.NOTA
+            if xid == self._xid:
+                return self._end_own(verb, xid)
+            if verb == "commit":
+                return self._commit_prepared(xid)
+            return self._roll_back_prepared(xid) if verb == "rollback" else Code.NOTA
 
-    def send(self, call: Call) -> None:
-        """Sends an xa_prepare or an xa_commit of the connection's own branch, of which `do` then waits for the answer."""
+    def send(self, verb: str, xid: Xid) -> bool:
+        """Sends the statement of `prepare` or `commit`, of which `do` then waits for the answer. Whether that was done."""
+        with self._lock, self.timed(self.place.patience):
+            return xid == self._xid and self._send_ahead(verb, xid)
 
-    def _on_branch(self, call: Call, xid: Xid) -> Code:
-        if call.name == "xa_start":
-            return self._start_branch(xid)
-        if call.name == "xa_end":
-            return self._end_branch(xid, "TMFAIL" in call.flags)
-        if call.name == "xa_prepare":
-            return self._prepare_branch(xid)
-        if call.name == "xa_commit":
-            return self._commit_at_once(xid) if "TMONEPHASE" in call.flags else self._commit_branch(xid)
-        if call.name == "xa_rollback":
-            return self._roll_back_branch(xid)
-        # Neither database ends a branch by itself and remembers it, so there is nothing to forget.
-        return Code.NOTA
+    @property
+    def is_at_work(self) -> bool:
+        """Whether it has a branch whose work isn't over."""
+        return self._state is State.ACTIVE
 
     def _start_branch(self, xid: Xid) -> Code:
         if self._state is not State.NONE:
             raise Unanswered("the connection has another branch")
         code = self._start(xid)
+        self.is_double = code is Code.DUPID
         if code is Code.OK:
             self._xid, self._state, self._fault, self.reason = xid, State.ACTIVE, None, None
             self._watch(self.limit)
         return code
 
-    def _end_branch(self, xid: Xid, is_failed: bool) -> Code:
-        if xid != self._xid:
-            return Code.NOTA
-        if self._state is not State.ACTIVE:
-            return Code.PROTO
-        self._watch(None)
-        self._end(xid)
-        self._state = State.ROLLBACK_ONLY if is_failed else State.IDLE
-        return Code.RBROLLBACK if is_failed else Code.OK
-
-    def _prepare_branch(self, xid: Xid) -> Code:
-        if xid != self._xid:
-            return Code.NOTA
-        if self._state is not State.IDLE:
-            return Code.PROTO
-        vote = self._refused(xid) if self._is_refused else self._prepare(xid)
-        if vote is Code.OK:
-            self._state = State.PREPARED
-        else:
-            self._is_over()
-        return vote
-
-    def _refused(self, xid: Xid) -> Code:
-        self._roll_back(xid)
-        return self._fault or Code.RBROLLBACK
-
-    def _commit_at_once(self, xid: Xid) -> Code:
-        if xid != self._xid:
-            return Code.NOTA
-        if self._state is not State.IDLE:
-            return Code.PROTO
-        code = self._commit_in_one_phase(xid)
-        self._is_over()
-        return code
-
-    def _commit_branch(self, xid: Xid) -> Code:
-        if xid == self._xid and self._state is not State.PREPARED:
-            return Code.PROTO
-        code = self._commit_prepared(xid)
-        if xid == self._xid and code in (Code.OK, Code.NOTA):
-            self._is_over()
-        return code
-
-    def _roll_back_branch(self, xid: Xid) -> Code:
-        if xid != self._xid:
-            return self._roll_back_prepared(xid)
+    def _end_work(self, xid: Xid) -> None:
+        """xa_end, unless it was made."""
         if self._state is State.ACTIVE:
-            return Code.PROTO
-        if self._state is State.PREPARED:
+            self._watch(None)
+            self._end(xid)
+            self._state = State.IDLE
+
+    def _end_own(self, verb: str, xid: Xid) -> Code:
+        self._end_work(xid)
+        code = Code.OK
+        if verb == "prepare":
+            code = self._prepare(xid)
+        elif verb == "commit-at-once":
+            code = self._commit_in_one_phase(xid)
+        elif verb == "commit":
+            code = self._commit_prepared(xid)
+        elif self._state is State.PREPARED:
             code = self._roll_back_prepared(xid)
         else:
             self._roll_back(xid)
-            code = Code.RBROLLBACK if self._state is State.ROLLBACK_ONLY else Code.OK
-        self._is_over()
+        if verb == "prepare" and code is Code.OK:
+            self._state = State.PREPARED
+        elif self._state is not State.READ and code is not Code.RETRY:
+            self._is_over()
         return code
+
+    def end_read(self, xid: Xid, is_committed: bool) -> None:
+        """The outcome is told, with which a branch ends that only read: so what it notified is
+        heard of if it is committed, and not before. Raises ConnectionLost."""
+        with self._lock, self.timed(self.place.patience):
+            if self._state is State.READ and xid == self._xid:
+                self._end_read(is_committed)
+                self._is_over()
 
     def _watch(self, limit: Optional[float]) -> None:
         """Has the connection cut off at a moment, also if nothing is under way on it then."""
@@ -397,24 +356,28 @@ class Connection(abc.ABC):
 
     def _is_over(self) -> None:
         self._watch(None)
-        self._xid, self._state, self._fault, self._is_refused = None, State.NONE, None, False
+        self._xid, self._state, self._fault = None, State.NONE, None
         self.options, self.limit = Options(), None
 
-    def _recover(self, call: Call) -> Answer:
-        """The next page of the scan, in the order of the identifiers. It has the branches of the connection's own place, as they were
-        listed as the scan began: those of others are never looked at again."""
-        if "TMSTARTRSCAN" in call.flags:
-            self._unscanned = sorted(xid for xid in self.listed() if self._is_scanned(xid))
-        if self._unscanned is None or call.count is None or call.count < 0:
-            raise Unanswered("no scan is open")
-        page, self._unscanned = tuple(self._unscanned[: call.count]), self._unscanned[call.count :]
-        if "TMENDRSCAN" in call.flags:
-            self._unscanned = None
-        return Answer(page=page)
-
-    def _is_scanned(self, xid: Xid) -> bool:
-        is_earlier = self.scanned_before is None or int.from_bytes(xid.gtrid[-16:-8], "big") < self.scanned_before
-        return is_earlier and xid not in self.put_off
+    def end_those(self, find: Callable[[], Collection[int]], end: Callable[[int], object]) -> int:
+        """Ends connections of the place until no more are found, for 20 seconds at most, and then
+        this one: how many there were."""
+        ended: Set[int] = set()
+        until = time.monotonic() + min(20, self.place.patience)
+        try:
+            with self.timed(self.place.patience):
+                while True:
+                    numbers = find()
+                    if not numbers:
+                        return len(ended)
+                    if time.monotonic() >= until:
+                        raise ConnectionLost("connections of an earlier driver stay at the database")
+                    for number in numbers:
+                        end(number)
+                    ended.update(numbers)
+                    time.sleep(0.02)
+        finally:
+            self.close()
 
     def listed(self) -> List[Xid]:
         """The prepared branches of the connection's own place."""
@@ -497,7 +460,14 @@ class Connection(abc.ABC):
 
     @abc.abstractmethod
     def _prepare(self, xid: Xid) -> Code:
-        """Prepares the branch: OK, RDONLY, or why it was rolled back. But for OK it is over."""
+        """Prepares the branch: OK, RDONLY, or why it was rolled back. Except for OK it is over, unless its state is READ then."""
+
+    def _end_read(self, is_committed: bool) -> None:
+        """Ends the transaction of a branch whose state is READ."""
+
+    def _send_ahead(self, verb: str, xid: Xid) -> bool:
+        """Sends the statement of a verb, if the module can read its answer later. Whether it did."""
+        return False
 
     @abc.abstractmethod
     def _commit_in_one_phase(self, xid: Xid) -> Code:
@@ -518,6 +488,12 @@ class Connection(abc.ABC):
     @abc.abstractmethod
     def _listed(self) -> Iterable[Xid]:
         """The identifiers of all prepared branches."""
+
+
+def varied(seconds: float) -> float:
+    """A little less than so many seconds, and each time another: of two that wait for each other at
+    two databases one gives up first."""
+    return seconds * random.uniform(0.8, 1.0)
 
 
 def xids_in(texts: Iterable[str]) -> List[Xid]:

@@ -4,19 +4,18 @@ from __future__ import annotations
 
 import math
 import re
-import time
 import uuid
-from typing import Any, Callable, Collection, Iterable, List, Optional, Sequence, Set, Tuple, Type
+from typing import Any, Callable, Collection, Iterable, List, Optional, Sequence, Tuple, Type
 
 from ..calls import Call
 from ..codes import Code
 from ..errors import ConnectionLost, SetupError, Unanswered
 from ..statements import MARIADB
 from ..xid import Xid
-from .base import Connection, Database, Parameters, Place, Result
+from .base import Connection, Database, Parameters, Place, Result, varied
 
 #: Errors of MariaDB by their number.
-NO_SUCH_BRANCH, IN_ANOTHER_STATE, IN_USE = 1397, 1399, 1440
+NO_SUCH_BRANCH, IN_USE = 1397, 1440
 CHECK_FAILED, NO_SUCH_CONNECTION = 4025, 1094
 #: Why a branch is rolled back whose work or XA PREPARE failed so.
 VOTES = {
@@ -39,8 +38,6 @@ LOST = frozenset([0, 1053, 1317, 1927, 2003, 2006, 2013, 2014, 2055])
 
 #: How MariaDB refuses a user, a password, a database or a privilege.
 REFUSALS = frozenset([1044, 1045, 1049, 1130, 1142, 1227, 1698])
-#: The calls that can be sent ahead of their answer.
-VERBS = {"xa_prepare": "PREPARE", "xa_commit": "COMMIT"}
 #: A place has so many named locks at most: each of its connections holds one.
 LOCKS = 512
 #: What PyMySQL's own connection shows to a program.
@@ -84,15 +81,10 @@ class MariaDB(Database):
         return connection
 
     def end_connections(self, kept: Collection[int], place: Place = Place()) -> int:
-        connection = self._connection(place)
-        try:
-            with connection.timed(place.patience):
-                return connection.end_others(kept)
-        finally:
-            connection.close()
+        return self._connection(place).end_others(kept)
 
     def by_hand(self, call: Call) -> str:
-        return f"XA {call.verb} {call.xid and text_in_xa(call.xid)};"
+        return f"XA {call.verb} {text_in_xa(call.xid)};"
 
     def _connection(self, place: Place) -> MariaDBConnection:
         import pymysql
@@ -122,7 +114,6 @@ class MariaDBConnection(Connection):
 
     TEXTS = MARIADB
     SHOWN = SHOWN
-    SENDS = True
 
     def __init__(self, link: Any, lock_timeout: int, place: Place = Place()):
         super().__init__(link, place)
@@ -130,7 +121,7 @@ class MariaDBConnection(Connection):
         self._sent: Optional[str] = None
         self.number = link.thread_id()
         with self.timed(place.patience):
-            self.run(f"SET innodb_lock_wait_timeout = {int(lock_timeout)}")
+            self.run(f"SET innodb_lock_wait_timeout = {max(1, round(varied(lock_timeout)))}")
 
     @property
     def errors(self) -> Any:
@@ -176,19 +167,10 @@ class MariaDBConnection(Connection):
         return self.run("SELECT " + ", ".join(f"IS_USED_LOCK('{self._lock_name(slot)}')" for slot in range(LOCKS))).rows[0]
 
     def end_others(self, kept: Collection[int]) -> int:
-        """Ends the connections of the place, except those that are kept, and waits for 20 seconds at most. How many there were."""
-        ended: Set[int] = set()
-        until = time.monotonic() + min(20, self.place.patience)
-        while True:
-            numbers = {number for number in self._holders() if number is not None and number not in kept}
-            if not numbers:
-                return len(ended)
-            if time.monotonic() >= until:
-                raise ConnectionLost("connections of an earlier driver stay at MariaDB")
-            for number in numbers:
-                self._end_connection(number)
-            ended |= numbers
-            time.sleep(0.02)
+        """Ends the connections of the place, except those that are kept, and itself: how many there were."""
+        return self.end_those(
+            lambda: {number for number in self._holders() if number is not None and number not in kept}, self._end_connection
+        )
 
     def _end_connection(self, number: int) -> None:
         try:
@@ -228,12 +210,17 @@ class MariaDBConnection(Connection):
         return Code.OK
 
     def _end(self, xid: Xid) -> None:
-        try:
-            self._xa("END", xid)
-        except self.errors.MySQLError as error:
-            # A branch that was in a deadlock can only be rolled back, and says so here already. Its vote will tell.
-            self._fault = self._fault or VOTES.get(error.args[0], Code.RBROLLBACK)
-            self.reason = self.reason or error
+        # A branch that was in a deadlock can only be rolled back, and says so here already; its vote
+        # will tell. Of several statements in one text a later one may have failed, as is said only
+        # now, in place of the answer: then it wasn't ended.
+        for _ in range(2):
+            try:
+                self._xa("END", xid)
+                return
+            except self.errors.MySQLError as error:
+                is_integrity = isinstance(error, self.errors.IntegrityError)
+                self._fault = self._fault or (Code.RBINTEGRITY if is_integrity else VOTES.get(error.args[0], Code.RBROLLBACK))
+                self.reason = self.reason or error
 
     def _prepare(self, xid: Xid) -> Code:
         vote = self._fault
@@ -348,15 +335,18 @@ class MariaDBConnection(Connection):
 
     # ** statements
 
-    def send(self, call: Call) -> None:
-        if call.branch != self._xid or self._fault is not None:
-            return
-        statement = statement_of(VERBS[call.name], call.branch)
-        try:
-            self._send(statement)
-        except (self.errors.MySQLError, OSError) as error:
-            raise ConnectionLost(str(error)) from error
-        self._sent = statement
+    def _send_ahead(self, verb: str, xid: Xid) -> bool:
+        if verb not in ("prepare", "commit"):
+            return False
+        self._end_work(xid)
+        if self._fault is None:
+            statement = statement_of(verb.upper(), xid)
+            try:
+                self._send(statement)
+            except (self.errors.MySQLError, OSError) as error:
+                raise ConnectionLost(str(error)) from error
+            self._sent = statement
+        return self._sent is not None
 
     def _send(self, statement: str) -> None:
         """Sends a statement, whose answer `_read` waits for."""
@@ -386,7 +376,8 @@ class MariaDBConnection(Connection):
         try:
             with self._plain_cursor() as cursor:
                 cursor.execute(statement, parameters or None)
-                return Result(list(cursor.fetchall()), cursor.rowcount)
+                columns = [column[0] for column in cursor.description or ()]
+                return Result(list(cursor.fetchall()), cursor.rowcount, columns, cursor.lastrowid or None)
         except (self.errors.MySQLError, OSError) as error:
             if self._is_lost(error):
                 raise ConnectionLost(str(error)) from error

@@ -4,16 +4,15 @@ from __future__ import annotations
 
 import math
 import re
-import time
 from dataclasses import dataclass
-from typing import Any, Callable, Collection, Dict, List, Optional, Set
+from typing import Any, Callable, Collection, Dict, List, Optional
 
 from ..calls import Call
 from ..codes import Code
 from ..errors import ConnectionLost, SetupError, Unanswered
 from ..statements import POSTGRESQL
 from ..xid import Xid
-from .base import Connection, Database, Parameters, Place, Result, xids_in
+from .base import Connection, Database, Parameters, Place, Result, State, varied, xids_in
 
 #: By the state of an error (SQLSTATE) why the branch was rolled back. All of class 23 break a constraint.
 VOTES = {
@@ -22,7 +21,7 @@ VOTES = {
     "55P03": Code.RBTIMEOUT,
     "57014": Code.RBTIMEOUT,
 }
-NO_SUCH_BRANCH = "42704"
+NO_SUCH_BRANCH, IN_USE = "42704", "42710"
 OTHER_DATABASE, OTHER_USER = "0A000", "42501"
 #: A setting by which a branch's transaction is known.
 MARK = "garterfossil.branch"
@@ -94,12 +93,8 @@ class PostgreSQL(Database):
         return self._connection(self._label(place), place)
 
     def end_connections(self, kept: Collection[int], place: Place = Place()) -> int:
-        connection = self._connection(f"{self._label(place)}{RECOVERY}", place)
-        try:
-            with connection.timed(place.patience):
-                return connection.end_others(self._label(place), kept)
-        finally:
-            connection.close()
+        label = self._label(place)
+        return self._connection(f"{label}{RECOVERY}", place).end_others(label, kept)
 
     def _label(self, place: Place) -> str:
         """The application_name of a place's connections. Raises SetupError if it is too long, so that they would never be found."""
@@ -145,8 +140,10 @@ class PostgreSQLConnection(Connection):
         self.number = self._pid()
         # Whether psycopg2 takes the connection for one with a transaction of psycopg2's own.
         self._is_begun = False
+        # Whether the COMMIT of a branch that only read may fail.
+        self._may_fail = False
         with self.timed(place.patience):
-            self.run(f"SET lock_timeout = {int(lock_timeout * 1000)}")
+            self.run(f"SET lock_timeout = {int(varied(lock_timeout) * 1000)}")
             most = int(self.run("SHOW max_prepared_transactions").rows[0][0])
             # Whose a branch is that it prepares: it is ended by the same role, or a superuser.
             self._role = self.run("SELECT current_user").rows[0][0]
@@ -187,24 +184,13 @@ class PostgreSQLConnection(Connection):
             pass
 
     def end_others(self, label: str, kept: Collection[int]) -> int:
-        """Ends the connections of this label, except those that are kept, and waits for 20 seconds at most. How many there were."""
-        ended: Set[int] = set()
-        until = time.monotonic() + min(20, self.place.patience)
-        while True:
-            rows = self.run(
-                "SELECT pid FROM pg_stat_activity WHERE application_name = %s"
-                " AND usename = current_user AND datname = current_database()",
-                [label],
-            )
-            pids = [pid for pid, in rows if pid not in kept]
-            if not pids:
-                return len(ended)
-            if time.monotonic() >= until:
-                raise ConnectionLost("connections of an earlier driver stay at PostgreSQL")
-            for pid in pids:
-                self.run("SELECT pg_terminate_backend(%s)", [pid])
-            ended.update(pids)
-            time.sleep(0.02)
+        """Ends the connections of this label, except those that are kept, and itself: how many there were."""
+        own = "usename = current_user AND datname = current_database()"
+        statement = f"SELECT pid FROM pg_stat_activity WHERE application_name = %s AND {own}"
+        return self.end_those(
+            lambda: [pid for pid, in self.run(statement, [label]) if pid not in kept],
+            lambda pid: self.run("SELECT pg_terminate_backend(%s)", [pid]),
+        )
 
     # ** work
 
@@ -252,26 +238,38 @@ class PostgreSQLConnection(Connection):
     def _prepare(self, xid: Xid) -> Code:
         try:
             if self.fault is None and not self._see_state():
-                return Code.RDONLY if self.run("COMMIT").tag == "COMMIT" else Code.RBROLLBACK
+                return self._voted_read()
             # Of a transaction that failed PREPARE TRANSACTION makes a rollback, which only its tag tells.
             tag = self.run("PREPARE TRANSACTION %s", [str(xid)]).tag
         except self.errors.Error as error:
-            self.reason = error
+            self.reason, self.is_double = error, state_of(error) == IN_USE
             self._see_rolled_back()
             return vote_of(error)
         return Code.OK if tag == "PREPARE TRANSACTION" else self._fault or Code.RBROLLBACK
 
     def _see_state(self) -> bool:
         """Sees that the branch's transaction is the one that goes on. Whether it has written."""
-        statement = f"SELECT pg_current_xact_id_if_assigned(), current_setting('{MARK}', true), current_user"
-        (written, mark, role), = self.run(statement).rows
+        names = f"current_setting('{MARK}', true), current_user, current_setting('transaction_isolation')"
+        (written, mark, role, isolation), = self.run(f"SELECT pg_current_xact_id_if_assigned(), {names}").rows
         if not mark:
             raise self._ended_by_statement()
         if role != self._role:
             # The program has taken another one: no recovery would be let end the branch, and the next transaction would have it.
             name = str(self._role).replace('"', '""')
             self.run(f'SET ROLE "{name}"')
+        self._may_fail = isolation == "serializable"
         return written is not None
+
+    def _voted_read(self) -> Code:
+        """The vote of a branch that only read. Its COMMIT, by which others hear what it notifies,
+        waits for the outcome, unless it may fail."""
+        if self._may_fail:
+            return Code.RDONLY if self.run("COMMIT").tag == "COMMIT" else Code.RBROLLBACK
+        self._state = State.READ
+        return Code.RDONLY
+
+    def _end_read(self, is_committed: bool) -> None:
+        self.run("COMMIT" if is_committed else "ROLLBACK")
 
     def _see_rolled_back(self) -> None:
         """A PREPARE TRANSACTION or COMMIT that fails has rolled back; a statement before it leaves that to be done."""
@@ -368,8 +366,8 @@ class PostgreSQLConnection(Connection):
         try:
             with self._plain_cursor() as cursor:
                 cursor.execute(statement, parameters or None)
-                rows = cursor.fetchall() if cursor.description else []
-                return Tagged(rows, cursor.rowcount, cursor.statusmessage)
+                columns = [column[0] for column in cursor.description or ()]
+                return Tagged(cursor.fetchall() if columns else [], cursor.rowcount, columns, tag=cursor.statusmessage)
         except self.errors.Error as error:
             if self._is_lost(error):
                 raise ConnectionLost(str(error).strip()) from error
@@ -395,7 +393,7 @@ class PostgreSQLConnection(Connection):
 class Tagged(Result):
     """What a statement gave, and the tag that PostgreSQL ended it with, as in `UPDATE 1`."""
 
-    tag: str
+    tag: str = ""
 
 
 def vote_of(error: Any) -> Code:
