@@ -119,9 +119,9 @@ class Guards:
             except SetupError as error:
                 self.told(name, text if text in str(error) else str(error), text)
 
-    def killed_in_the_second_phase(self, mark):
+    def killed_in_the_second_phase(self, mark, xa=None):
         """A decided transaction of which the second database hasn't heard."""
-        xa = self.manager()
+        xa = xa or self.manager()
 
         def gone():
             # All is gone but what is on disk.
@@ -191,6 +191,37 @@ class Guards:
                     with contextlib.suppress(Exception), server.plain().cursor() as cursor:
                         cursor.execute(f"XA ROLLBACK {xid}")
 
+    def other_names(self):
+        """A log grows by a database, and one of its databases gets another name, while something is in doubt."""
+        log = f"{self.world.home}/guards.db-named"
+
+        def manager(*names):
+            # The third one is the first once more, of which the driver knows nothing.
+            databases = [*self.world.databases(), self.world.servers[0].database()]
+            return self.world.manager(4, 10.0, databases=dict(zip(names, databases)), log=log)
+
+        def refused(name, *names):
+            try:
+                manager(*names).close()
+                self.told(name, "it started", "it is refused")
+            except SetupError as error:
+                self.told(name, "its resource manager" in str(error))
+
+        self.killed_in_the_second_phase("named", manager("bank", "shop"))
+        with manager("bank", "shop", "audit") as xa:
+            self.told("what was decided is committed beside a database that is added", self.holds("named"), BOTH)
+            with xa.transaction() as t:
+                t["shop"].execute("INSERT INTO moved VALUES ('audited', 1)")
+                t["audit"].execute("INSERT INTO moved VALUES ('audited', 1)")
+        self.told("it takes part", self.holds("audited"), BOTH)
+        refused("another name in its place", "bank", "shop", "post")
+        self.killed_in_the_second_phase("renamed", manager("bank", "shop", "audit"))
+        refused("another name without a word", "till", "shop", "audit")
+        words = [self.world.coordinator, "log", "--rename-rm", "bank", "till", log]
+        self.told("the program renames it", subprocess.run(words, check=False).returncode, 0)
+        manager("till", "shop", "audit").close()
+        self.told("what was decided is committed under the new name", self.holds("renamed"), BOTH)
+
     # ** what somebody else ends
 
     def ended_by_hand(self):
@@ -229,13 +260,54 @@ class Guards:
             part.connection._close()
             part.connection._is_over()
             part.connection = part.line.connection = part.line.rm.connect()
+        self.until_it_can(lambda connection: connection._roll_back_prepared(part.xid), server)
+
+    def put_back(self):
+        """A database lists a branch again whose transaction was committed, as one that was put back to an earlier moment."""
+        for rm, server in enumerate(self.world.servers):
+            with self.manager() as xa, xa.transaction() as t:
+                self.write(t, f"put back {rm}")
+                xid = t[rm].xid
+            connection = server.database().connect()
+            connection.do("start", xid)
+            connection.execute("INSERT INTO moved VALUES (%s, 1)", [f"put back {rm} again"])
+            connection.do("prepare", xid)
+            connection.close()
+            self.refused(f"a branch that was committed and is listed again at database {rm}", "Its transaction was committed, so by hand")
+            self.told("it isn't rolled back", self.world.look_at_doubt(), 1)
+            self.until_it_can(lambda connection: connection.do("commit", xid), server)
+            with open(f"{self.log}-databases", encoding="utf-8") as it:
+                lines = [line for line in it if '"shut"' not in line]
+            with open(f"{self.log}-databases", "w", encoding="utf-8") as it:
+                it.writelines(lines)
+            self.manager().close()
+
+    def until_it_can(self, do, server):
+        """Has something done by another connection, which waits until the branch's own is gone."""
         connection = server.database().connect()
         for _ in range(50):
             with contextlib.suppress(XaError):
-                connection._roll_back_prepared(part.xid)
+                do(connection)
                 break
             time.sleep(0.1)
         connection.close()
+
+    def notifications(self):
+        """A branch that does nothing but notify is heard of if its transaction is committed."""
+        for rm, server in enumerate(self.world.servers):
+            connection = server.database().connect()
+            if isinstance(server, PostgreSQLServer) and hasattr(connection.link, "poll"):
+                connection.run("LISTEN guards")
+                for mark, fails in (("rolled back", True), ("committed", False)):
+                    with self.manager() as xa, contextlib.suppress(RolledBack), xa.transaction() as t:
+                        t[rm].execute("SELECT pg_notify('guards', %s)", [mark])
+                        self.write(t, f"notified {rm} {mark}", 1 - rm)
+                        if fails:
+                            other = t._hands.parts[1 - rm].connection
+                            other._prepare = lambda it, other=other: other._roll_back(it) or Code.RBOTHER
+                connection.link.poll()
+                self.told(f"what is notified by database {rm}", [one.payload for one in connection.link.notifies], ["committed"])
+            connection.close()
 
     def ends_in_statements(self):
         """Statements that end PostgreSQL's transaction, hidden as well as may be."""
@@ -356,7 +428,10 @@ def run(world):
     guards.another_database()
     guards.an_older_log()
     guards.branches_of_others()
+    guards.other_names()
     guards.ended_by_hand()
+    guards.put_back()
+    guards.notifications()
     guards.ends_in_statements()
     guards.a_stopped_coordinator()
     guards.a_long_transaction()

@@ -12,7 +12,7 @@ import c_speed
 import jdbc
 from world import ACCOUNTS
 
-from garterfossil.calls import Call
+from garterfossil import Xid
 
 THREADS = [1, 4, 8]
 ROUNDS = 3
@@ -43,13 +43,13 @@ def by_hand(databases, numbers, accounts, until):
     while time.monotonic() < until:
         # Another incarnation than any of the coordinator's.
         gtrid = f"{0x7FFFFFFF:016x}{next(numbers):016x}"
-        xids = [f"7:{gtrid}:{rm:016x}" for rm in range(2)]
+        xids = [Xid.parse(f"7:{gtrid}:{rm:016x}") for rm in range(2)]
         for connection, xid in zip(connections, xids):
-            connection.do(Call.parse(f"xa_start {xid}"))
+            connection.do("start", xid)
         move(connections, gtrid, accounts)
-        for call in ("xa_end {} TMSUCCESS", "xa_prepare {}", "xa_commit {}"):
+        for verb in ("prepare", "commit"):
             for connection, xid in zip(connections, xids):
-                connection.do(Call.parse(call.format(xid)))
+                connection.do(verb, xid)
         count += 1
     for connection in connections:
         connection.close()

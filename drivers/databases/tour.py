@@ -7,10 +7,9 @@ import subprocess
 import threading
 import time
 
-from garterfossil import HeuristicEnd, Outcome, OutcomeUnknown, RolledBack, SetupError, XaError
+from garterfossil import Code, HeuristicEnd, Outcome, OutcomeUnknown, RolledBack, SetupError, XaError, Xid
 from garterfossil.adapters.base import Place
 from garterfossil.adapters.postgresql import PostgreSQL
-from garterfossil.calls import Call
 from moments import before_a_call, before_a_move, behind_the_decision
 from proxy import Proxy
 from world import ACCOUNTS
@@ -65,7 +64,7 @@ class Tour:
             behind_the_decision(xa, do)
         elif moment == ACKNOWLEDGED:
             behind_the_decision(xa, lambda: before_a_move(xa, "tell", do))
-        elif moment.startswith("xa_"):
+        elif moment == "prepare":
             before_a_call(xa, moment, do)
         else:
             before_a_move(xa, moment, do)
@@ -142,7 +141,7 @@ class Tour:
             self.told(f"a deadlock {name}", t, BOTH if t.outcome.value == "committed" else NEITHER)
 
     def connections_are_lost(self):
-        moments = [("xa_end", NEITHER), ("xa_prepare", NEITHER), ("tell", BOTH), (BEHIND, BOTH)]
+        moments = [("prepare", NEITHER), ("tell", BOTH), (BEHIND, BOTH)]
         for rm in (0, 1):
             for moment, wanted in moments:
                 try:
@@ -155,7 +154,7 @@ class Tour:
 
     def databases_go_down(self):
         for rm, server in enumerate(self.world.servers):
-            for moment, wanted in [("xa_prepare", NEITHER), ("tell", BOTH), (BEHIND, BOTH)]:
+            for moment, wanted in [("prepare", NEITHER), ("tell", BOTH), (BEHIND, BOTH)]:
                 self.xa.close()
                 self.xa = self.world.manager(2, patience=1.0)
                 try:
@@ -169,7 +168,7 @@ class Tour:
                 self.told(f"database {rm} is killed {when(moment)}", t, wanted)
 
     def coordinator_ends(self):
-        for moment, wanted in [("xa_prepare", NEITHER), ("tell", NEITHER), (BEHIND, BOTH), (ACKNOWLEDGED, BOTH)]:
+        for moment, wanted in [("prepare", NEITHER), ("tell", NEITHER), (BEHIND, BOTH), (ACKNOWLEDGED, BOTH)]:
             try:
                 with self.xa.transaction() as t:
                     self.write(t, 0, 1)
@@ -327,7 +326,7 @@ class Tour:
         proxies = [Proxy(server.socket()) for server in self.world.servers]
         databases = [server.database_at(proxy.port) for server, proxy in zip(self.world.servers, proxies)]
         for rm, proxy in enumerate(proxies):
-            for moment, wanted in [("work", NEITHER), ("xa_prepare", NEITHER), ("tell", BOTH), (BEHIND, BOTH)]:
+            for moment, wanted in [("work", NEITHER), ("prepare", NEITHER), ("tell", BOTH), (BEHIND, BOTH)]:
                 self.xa = self.world.manager(2, PATIENCE, databases)
                 seconds, t = self.silent_in(moment, rm, proxy)
                 self.in_time(f"a block whose database {rm} goes silent {when(moment)}", seconds, 3 * PATIENCE)
@@ -417,13 +416,6 @@ class Tour:
         print(f"told  a branch is rolled back by hand, against the decision: {self.holds(t.gtrid)}; {raised}")
 
 
-def words_of(call, answer):
-    """An answer as an `answer` request tells it, behind the thread and the resource manager."""
-    if answer.page is None:
-        return f"{call.name} {call.xid} {answer.code:d}"
-    return " ".join([f"{call.name} {len(answer.page)}", *map(str, answer.page)])
-
-
 class Asked:
     """A session that is asked for requests (docs/SERVE.md), with a connection for each of its lines, over a log of its own."""
 
@@ -461,9 +453,16 @@ class Asked:
         return self.make(thread, rm, self.ask(f"issue {thread} {rm} {text}").partition(" ")[2])
 
     def make(self, thread, rm, text):
-        call = Call.parse(text)
-        answer = self.connections[thread, rm].do(call)
-        self.ask(f"answer {thread} {rm} {words_of(call, answer)}")
+        """Makes a call, and tells the answer. (The driver's own make xa_end with what comes behind it.)"""
+        name, *words = text.split(" ")
+        connection = self.connections[thread, rm]
+        if name == "xa_recover":
+            xids = connection.listed()
+            told = " ".join([name, str(len(xids)), *map(str, xids)])
+        else:
+            code = Code.OK if name == "xa_end" else connection.do(name[3:], Xid.parse(words[0]))
+            told = f"{name} {words[0]} {code:d}"
+        self.ask(f"answer {thread} {rm} {told}")
 
     def prepare_both(self):
         for rm in (0, 1):
