@@ -1,8 +1,12 @@
-mod Deciding
+mod Decided
 mod FailedRequests
+mod HeuristicEnds
+mod Lasting
+mod OneHistory
 mod Reached
 mod ServedOutcomes
 mod ServedSessions
+mod Undecided
 mod Untold
 mod WorkedLines
 mod WorkedServed

@@ -40,7 +40,7 @@ use Rattle.xa_outcomes.specs.Parts.{IsOfSessions}
 
 -- there is one right history of all that happened. It leaves each branch where it stands, except
 -- that what was open may be lost already; and the next start finds the rows and records of it
-pub record IsMade (log : Log) (f : Branch → Standing) (after : AfterSessions log f) : Type 0 where
+pub record IsOneHistory (log : Log) (f : Branch → Standing) (after : AfterSessions log f) : Type 0 where
   pub whole : Trace
   pub right : AllRight whole
   pub there : (b : Branch) → broken (standing whole b) ≡ broken (f b)
@@ -72,8 +72,8 @@ nothing_right i = record {
     none : (x : Xid) → Contains [] x → ⊥
     none x c = let at = at_from_Contains [] x c in omega (arith, at.1)
 
-none_made : (i : ℕ) → IsMade (Empty i) (λ b. Unstarted) (NoneYet i)
-none_made i = record {
+none_reached : (i : ℕ) → IsOneHistory (Empty i) (λ b. Unstarted) (NoneYet i)
+none_reached i = record {
   whole = nothing_yet i;
   right = nothing_right i;
   there = λ b. ap broken (either_unstarted (fits b));
@@ -84,7 +84,7 @@ none_made i = record {
 
 -- ** one more
 
-module _ (log : Log) (from to : Branch → Standing) (before : AfterSessions log from) (r : IsMade log from before) (o : Origin) (found : Finds log o)
+module _ (log : Log) (from to : Branch → Standing) (before : AfterSessions log from) (r : IsOneHistory log from before) (o : Origin) (found : Finds log o)
     (seen : Seen) (fails : Option Fault) (session : IsSession o seen fails) (done cut : List Line)
     (may : MayAllStand o seen (λ b. Comes seen b (broken (from b))) done cut to) where
   abbrev past : Trace
@@ -195,8 +195,8 @@ module _ (log : Log) (from to : Branch → Standing) (before : AfterSessions log
       after = faces_after (gone past) inv (gone (continued_by (resumed past start) last)) (gone last) crashed.deals crashed
           (Restarted next.incarnation (length next.rows) (length next.heuristic_rows)) (refl, own.later, own.rows.number, own.records.number)
 
-  one_made : IsMade (LeftBy o seen fails) to (OneMore log from to o seen fails done cut before found session may)
-  one_made = record {
+  one_reached : IsOneHistory (LeftBy o seen fails) to (OneMore log from to o seen fails done cut before found session may)
+  one_reached = record {
     whole = continued_by (resumed past start) last;
     right = both.0;
     there = λ b. ap broken (stands_so b) ∙ (broken_failed fails x.now b ∙ ap broken (x.there b));
@@ -212,13 +212,13 @@ module _ (log : Log) (from to : Branch → Standing) (before : AfterSessions log
 
 -- ** between two
 
-module _ (log : Log) (from to : Branch → Standing) (before : AfterSessions log from) (r : IsMade log from before) (d : Branch) (how : How)
+module _ (log : Log) (from to : Branch → Standing) (before : AfterSessions log from) (r : IsOneHistory log from before) (d : Branch) (how : How)
     (was : from d ≡ Prepared)
     (final : (b : Branch) → to b ≡ (if branch_eq d b then Completed how else from b)) where
   prepared : standing r.whole d ≡ Prepared
   prepared = prepared_whole (standing r.whole d) (r.there d ∙ ap broken was)
 
-  between : IsMade log to (Between log from to d how before was final)
+  between : IsOneHistory log to (Between log from to d how before was final)
   between = record {
     whole = Then r.whole (CompletedAlone d how);
     right = (r.right, prepared);
@@ -241,8 +241,8 @@ module _ (log : Log) (from to : Branch → Standing) (before : AfterSessions log
 
 -- ** all of them
 
-pub made : (log : Log) (f : Branch → Standing) (after : AfterSessions log f) → IsMade log f after
-made _ _ (NoneYet i) = none_made i
-made _ _ (OneMore log from to o seen fails done cut before found session may) =
-    one_made log from to before (made log from before) o found seen fails session done cut may
-made _ _ (Between log from to d how before was final) = between log from to before (made log from before) d how was final
+pub reached : (log : Log) (f : Branch → Standing) (after : AfterSessions log f) → IsOneHistory log f after
+reached _ _ (NoneYet i) = none_reached i
+reached _ _ (OneMore log from to o seen fails done cut before found session may) =
+    one_reached log from to before (reached log from before) o found seen fails session done cut may
+reached _ _ (Between log from to d how before was final) = between log from to before (reached log from before) d how was final

@@ -1,8 +1,7 @@
 -- What servers told of outcomes is so, after all sessions.
-use Rattle.std.proofs.Common.{◌≡◌, ◌∙◌, ◌≤◌, ◌⊎◌, inl, inr, ℕ, Bool, true, false, List, [], ◌∷◌, Option, Some, None, refl, sym, ap, subst}
+use Rattle.std.proofs.Common.{◌≡◌, ◌∙◌, ◌≤◌, ◌⊎◌, inl, inr, ℕ, Bool, true, false, List, Option, Some, None, refl, sym, ap, subst}
 use Rattle.std.proofs.lemmas.Bool.{and_parts, true≢false}
 use Rattle.std.specs.FinMap.{get}
-use Rattle.std.specs.Global.{Vec}
 use Rattle.std.specs.Prelude.{MatchBool, if◌then◌else◌, is_some, nat_eq, nat_lt, unwrap_or}
 use Rattle.xa_base.proofs.BranchKeys.{branch_eq-refl}
 use Rattle.xa_base.specs.Branch.{branch_cmp, branch_eq}
@@ -22,11 +21,13 @@ use Rattle.xa_model.specs.Trace.{Answer, Branch, Call, How, Line, Origin}
 use Rattle.xa_monitor.specs.Agreement.{MayAllStand, MayAllStand.AsTold, MayAllStand.CutOff, MayAllStand.EndedAlone, MayAllStand.UnderWay}
 use Rattle.xa_monitor.specs.Seen.{Seen, Seen.Answered}
 use Rattle.xa_monitor.specs.Standings.{Comes}
-use Rattle.xa_outcomes.proofs.Deciding.{are_parts, ends_stay, found_commits, never_committed, uncommitted, will_commit}
-use Rattle.xa_outcomes.proofs.ServedSessions.{GoesOnFrom, all_on}
-use Rattle.xa_outcomes.specs.Outcomes.{IsDecidedBehind, IsUndecidedSoFar, SaidYes, TellsHeuristic, WillCommit}
-use Rattle.xa_outcomes.specs.Parts.{HaveHistoryInParts}
-use Rattle.xa_outcomes.specs.Served.{AreOwedRows, FoundRowsWillCommit, IsLeftUndecided, IsUntoldSoFar, NeverToldIsNeverCommitted, OwedAreLogged, ServedSessionsAreParts, ToldDecidedWillCommit, ToldHeuristicEndsStay, UntoldIsLeftUndecided}
+use Rattle.xa_outcomes.proofs.Decided.{found_commits, will_commit}
+use Rattle.xa_outcomes.proofs.HeuristicEnds.{ends_stay}
+use Rattle.xa_outcomes.proofs.OneHistory.{are_parts}
+use Rattle.xa_outcomes.proofs.Undecided.{never_committed, uncommitted}
+use Rattle.xa_outcomes.proofs.ServedSessions.{all_on}
+use Rattle.xa_outcomes.specs.Outcomes.{IsDecidedAfterVote, IsUndecidedSoFar, SaidYes, TellsHeuristic, WillCommit}
+use Rattle.xa_outcomes.specs.Served.{AreOwedRows, FoundRowsWillCommit, IsUntoldSoFar, NeverToldIsNeverCommitted, OwedAreLogged, ServedSessionsAreParts, ToldDecidedWillCommit, ToldHeuristicEndsStay, UntoldIsLeftUndecided}
 use Rattle.xa_requests.specs.declared.response.Response.TheVariants as responses
 use Rattle.xa_server.proofs.LeftLogs.{listed, raised_once, start_of}
 use Rattle.xa_server.proofs.SessionChains.{Laws}
@@ -76,7 +77,7 @@ module _ {L : Type 0} (moment : L → Moment) (laws : Laws L) where
 
     pub told_decided : ToldDecidedWillCommit moment
     told_decided name last f c served b left told =
-        let on = all_on moment name laws (IsDecidedBehind b) (λ s l d a t. t) none (Some last) f served c left (start_of c)
+        let on = all_on moment name laws (IsDecidedAfterVote b) (λ s l d a t. t) none (Some last) f served c left (start_of c)
         (raised_once have_content are_apart c) in
         let will : WillCommit on.log f b = will_commit on.log f on.after b (on.some told) in
         record {

@@ -47,12 +47,12 @@ SaidYes b (Answered seen l c a) = SaidYes b seen
 SaidYes b (Lost seen l c) = SaidYes b seen
 
 -- it was decided to commit, after the vote XA_OK of this branch of it
-abbrev pub IsDecidedBehind : Branch → Seen → Type 0
-IsDecidedBehind b Start = ⊥
-IsDecidedBehind b (Did seen (Decided h Outcomes.Commit)) = ((gtrid_eq h b.gtrid ≡ true) × SaidYes b seen) ⊎ IsDecidedBehind b seen
-IsDecidedBehind b (Did seen e) = IsDecidedBehind b seen
-IsDecidedBehind b (Answered seen l c a) = IsDecidedBehind b seen
-IsDecidedBehind b (Lost seen l c) = IsDecidedBehind b seen
+abbrev pub IsDecidedAfterVote : Branch → Seen → Type 0
+IsDecidedAfterVote b Start = ⊥
+IsDecidedAfterVote b (Did seen (Decided h Outcomes.Commit)) = ((gtrid_eq h b.gtrid ≡ true) × SaidYes b seen) ⊎ IsDecidedAfterVote b seen
+IsDecidedAfterVote b (Did seen e) = IsDecidedAfterVote b seen
+IsDecidedAfterVote b (Answered seen l c a) = IsDecidedAfterVote b seen
+IsDecidedAfterVote b (Lost seen l c) = IsDecidedAfterVote b seen
 
 -- what was asked is asked of the branch
 abbrev pub IsAskedOf : Option (Kind × Branch) → Branch → Type 0
@@ -99,7 +99,7 @@ UndecidedIsUncommitted =
 -- One of these sessions decided to commit the branch's transaction, after the branch's vote XA_OK.
 abbrev pub WasDecided : Branch → (log : Log) (f : Branch → Standing) → AfterSessions log f → Type 0
 WasDecided b _ _ (NoneYet i) = ⊥
-WasDecided b _ _ (OneMore log from to o seen fails done cut before found session may) = IsDecidedBehind b seen ⊎ WasDecided b log from before
+WasDecided b _ _ (OneMore log from to o seen fails done cut before found session may) = IsDecidedAfterVote b seen ⊎ WasDecided b log from before
 WasDecided b _ _ (Between log from to d how before was final) = WasDecided b log from before
 
 -- The branch is committed, or stands prepared still, or its database ended it by itself. No branch

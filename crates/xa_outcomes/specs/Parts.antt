@@ -26,9 +26,9 @@ pub data GoesOnUntold (told : Trace) : Trace → Type 0 where
 
 -- ** the parts
 
--- A session is the last part of the history. Its start finds the rows and records of its past; then
--- comes what was seen in it, what wasn't told of it yet, and the step in which its log failed, if it
--- did.
+-- A session is the last part of the history. Its start finds the rows and records of its past;
+-- then comes what was seen in it, what wasn't told of it yet, and the step in which its log
+-- failed, if it did.
 pub record IsPart (o : Origin) (seen : Seen) (fails : Option Fault) (past whole : Trace) : Type 0 where
   pub finds : FindsLog past o
   pub told : Trace

@@ -16,7 +16,7 @@ use Rattle.xa_model.specs.Promises.Agreement.{IsUndone}
 use Rattle.xa_model.specs.Trace.{Branch, Fault, Happening.CompletedAlone, How, Origin, Trace, Trace.Then}
 use Rattle.xa_monitor.specs.Seen.{Seen}
 use Rattle.xa_monitor.specs.Sessions.{IsCommitting, nothing_yet}
-use Rattle.xa_outcomes.specs.Outcomes.{IsDecided, IsDecidedBehind, IsEndedAs, IsHandedOver, SaidYes, TellsHeuristic}
+use Rattle.xa_outcomes.specs.Outcomes.{IsDecided, IsDecidedAfterVote, IsEndedAs, IsHandedOver, SaidYes, TellsHeuristic}
 use Rattle.xa_outcomes.specs.Parts.{IsPart}
 use Rattle.xa_requests.specs.declared.request.Request.{Request}
 use Rattle.xa_requests.specs.declared.request.Request.TheVariants as requests
@@ -112,8 +112,8 @@ IsUntoldSoFar moment name g _ _ (OneMore last from to handed o told seen now lef
     (IsDecided g told → ⊥) × (IsHandedOver g told → ⊥) × WasNeverToldDecided moment name g last from before
 IsUntoldSoFar moment name g _ _ (Between last from to d how before was final) = IsUntoldSoFar moment name g last from before
 
--- Then none of its branches is committed yet; and if the log that is left has no row of it, these are
--- sessions that left it undecided (`WasLeftUndecided`), so that none ever is.
+-- Then none of its branches is committed yet; and if the log that is left has no row of it, these
+-- are sessions that left it undecided (`WasLeftUndecided`), so that none ever is.
 pub record IsLeftUndecided {L : Type 0} (moment : L → Moment) (name : List ℕ) (g : Gtrid) (c : Content) (f : Branch → Standing) : Type 0 where
   pub alone : AreServedFor moment name g c f
   pub uncommitted : (b : Branch) → b.gtrid ≡ g → f b ≡ Committed → ⊥
@@ -132,8 +132,8 @@ WasToldYes moment name b _ _ (OneMore last from to handed o told seen now left d
     SaidYes b told ⊎ WasToldYes moment name b last from before
 WasToldYes moment name b _ _ (Between last from to d how before was final) = WasToldYes moment name b last from before
 
--- One of these sessions began over a log with the row of the branch's transaction, and one before it
--- had told the branch's vote XA_OK.
+-- One of these sessions began over a log with the row of the branch's transaction, and one before
+-- it had told the branch's vote XA_OK.
 abbrev pub HasFoundRow : {L : Type 0} (moment : L → Moment) (name : List ℕ) (b : Branch) (last : Option (Server L)) (f : Branch → Standing)
     → AreServed moment name last f → Type 0
 HasFoundRow moment name b _ _ NoneYet = ⊥
@@ -147,8 +147,8 @@ FoundRowsWillCommit {L} moment =
     (name : List ℕ) (last : Server L) (f : Branch → Standing) (c : Content) (served : AreServed moment name (Some last) f) (b : Branch)
     → LeavesContent moment last.session.manager c → HasFoundRow moment name b (Some last) f served → WillCommitInLog f c b
 
--- What `owed` is replied by at a start: the identifiers of these branches, and the log has the row of
--- each.
+-- What `owed` is replied by at a start: the identifiers of these branches, and the log has the row
+-- of each.
 pub record AreOwedRows (log : Content) (told : List Xid) : Type 0 where
   pub set : KeySet branch_cmp
   pub told_are : told ≡ map xid_of_branch (items set)
@@ -167,7 +167,7 @@ abbrev pub WasToldDecided : {L : Type 0} (moment : L → Moment) (name : List �
     → AreServed moment name last f → Type 0
 WasToldDecided moment name b _ _ NoneYet = ⊥
 WasToldDecided moment name b _ _ (OneMore last from to handed o told seen now left done cut before handed_on is is_left honest may) =
-    IsDecidedBehind b told ⊎ WasToldDecided moment name b last from before
+    IsDecidedAfterVote b told ⊎ WasToldDecided moment name b last from before
 WasToldDecided moment name b _ _ (Between last from to d how before was final) = WasToldDecided moment name b last from before
 
 abbrev pub ToldDecidedWillCommit : {L : Type 0} → (L → Moment) → Type 0

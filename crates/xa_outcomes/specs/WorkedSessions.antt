@@ -184,7 +184,7 @@ module _ {L : Type 0} (moment : L → Moment) where
     pub deciding : IsReplied (codes "decide 00000000000000010000000000000001 commit") now (responses.Refused LogFault) left
 
   -- a server over this log was left so, and left this log
-  pub record IsLeftDeciding (handed left : L) : Type 0 where
+  pub record IsLeftInDecide (handed left : L) : Type 0 where
     pub first : Server L
     pub last : Server L
     pub starts : StartsOver moment 1 2 handed first

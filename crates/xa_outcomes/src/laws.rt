@@ -26,10 +26,10 @@ pub fn sessions_are_parts()
 /// - `decided`: a branch that voted XA_OK before one of them decided to commit its transaction is
 ///   committed, or stands prepared still, or its database ended it by itself. No branch of the
 ///   transaction is ever rolled back or lost, and its row is there as long as one stands prepared;
-/// - `found`: the same of a branch that voted XA_OK in a session before one that found the row of its
-///   transaction;
-/// - `so_far`: if none of them decided a transaction, but the last one was left in a decision of it,
-///   none of its branches is committed yet.
+/// - `found`: the same of a branch that voted XA_OK in a session before one that found the row of
+///   its transaction;
+/// - `so_far`: if none of them decided a transaction, but the last one was left in a decision of
+///   it, none of its branches is committed yet.
 pub fn decisions_stand()
     ensures never { NeverDecidedIsNeverCommitted }
     ensures decided { DecidedWillCommit }
@@ -50,10 +50,10 @@ pub fn heuristic_ends_stay()
 /// - `never`: as long as no `decide` or `settle` of a transaction was replied by `decided`, no
 ///   session was left in one, and no xa_commit in one phase of a branch of it waited, none of its
 ///   branches is committed;
-/// - `decided`: once a commit was replied by `decided`, each branch of the transaction that had voted
-///   XA_OK before is committed, or stands prepared still, or its database ended it by itself. No
-///   branch of it is ever rolled back or lost, and the log that is left has its row as long as one
-///   stands prepared;
+/// - `decided`: once a commit was replied by `decided`, each branch of the transaction that had
+///   voted XA_OK before is committed, or stands prepared still, or its database ended it by
+///   itself. No branch of it is ever rolled back or lost, and the log that is left has its row as
+///   long as one stands prepared;
 /// - `heuristic`: where an answer of XA_HEURCOM, XA_HEURRB, XA_HEURMIX or XA_HEURHAZ was heard, the
 ///   branch stays ended so.
 pub fn told_outcomes_stand<L: DecisionLog + Drop>()
@@ -80,12 +80,12 @@ pub fn served_sessions_are_parts<L: DecisionLog + Drop>()
 ///
 /// - `owed`: the branches that `owed` lists at a start over a log (`owed` of
 ///   [`Server::new`](xa_server::Server::new)) have the row of their transactions in it;
-/// - `found`: if a session began over a log with the row of a transaction, each branch of it that had
-///   voted XA_OK in an earlier one is committed, or stands prepared still, or its database ended it
-///   by itself. No branch of it is ever rolled back or lost;
-/// - `undecided`: if no session told that a transaction was decided, whether or not the last one was
-///   left in a request to commit it, none of its branches is committed yet. If the log that is left
-///   has no row of it either, none ever is (`undecided` of
+/// - `found`: if a session began over a log with the row of a transaction, each branch of it that
+///   had voted XA_OK in an earlier one is committed, or stands prepared still, or its database
+///   ended it by itself. No branch of it is ever rolled back or lost;
+/// - `undecided`: if no session told that a transaction was decided, whether or not the last one
+///   was left in a request to commit it, none of its branches is committed yet. If the log that is
+///   left has no row of it either, none ever is (`undecided` of
 ///   [`served_transactions_agree`](xa_server::laws::served_transactions_agree)).
 pub fn next_starts_tell<L: DecisionLog + Drop>()
     ensures owed { OwedAreLogged L }

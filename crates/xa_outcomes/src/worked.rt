@@ -2,7 +2,7 @@
 
 ghost use Rattle.std.specs.Prelude.{◌≡◌, codes, true, IfOk, IsSomeAnd, OnOk};
 ghost use Rattle.xa_log.specs.Contract.{Honestly};
-ghost use Rattle.xa_outcomes.specs.WorkedSessions.{AreMade, AreWorked, Commits, IsLeftDeciding};
+ghost use Rattle.xa_outcomes.specs.WorkedSessions.{AreMade, AreWorked, Commits, IsLeftInDecide};
 ghost use Rattle.xa_outcomes.specs.WorkedSessions.{IsMade, IsReplied, LeavesDeciding, first_gtrid};
 ghost use Rattle.xa_outcomes.specs.WorkedSessions.{is_issued, lines_of_commit, lines_of_one, lines_of_two};
 ghost use Rattle.xa_requests.specs.declared.response.Response.TheVariants as responses;
@@ -206,7 +206,7 @@ fn commit_one<L: DecisionLog + Drop>(
 
 /// The first session, over a new log. It gives the log that it leaves.
 fn first_session<L: DecisionLog + Drop>(alloc: Global, log: L) -> Result<L, WorkedFault>
-    ensures { IfOk result (λ left. IsLeftDeciding L.moment log left) }
+    ensures { IfOk result (λ left. IsLeftInDecide L.moment log left) }
 {
     match Server::new(alloc, 1, 2, log) {
         Ok(mut server) => match decide_it(alloc, &mut server) {

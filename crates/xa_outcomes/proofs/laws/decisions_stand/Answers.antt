@@ -1,4 +1,5 @@
-use Rattle.xa_outcomes.proofs.Deciding.{found_commits, never_committed, uncommitted, will_commit}
+use Rattle.xa_outcomes.proofs.Decided.{found_commits, will_commit}
+use Rattle.xa_outcomes.proofs.Undecided.{never_committed, uncommitted}
 use Rattle.xa_outcomes.proofs.laws.decisions_stand.Goals as goal
 
 pub returns : goal.returns
