@@ -220,9 +220,9 @@ static bool is_as_met(int rm, const char *identity)
         is_changed = true;
         return true;
     }
-    explain("%s isn't the database that the log %s belongs to: it is %s, and it was %s.%s%s%s Nothing was asked of it", settings.rm[rm].name,
-        settings.log, identity, met->identity, other == NULL ? "" : " That is the place of ", other == NULL ? "" : other,
-        other == NULL ? "" : ".");
+    explain("%s isn't the database that the log %s belongs to: it is %s, and it was %s.%s%s%s Nothing was asked of it",
+        settings.rm[rm].name, settings.log, identity, met->identity, other == NULL ? "" : " That is the place of ",
+        other == NULL ? "" : other, other == NULL ? "" : ".");
     return false;
 }
 
