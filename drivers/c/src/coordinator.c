@@ -6,7 +6,6 @@
 #include <string.h>
 #include <sys/socket.h>
 #include <sys/time.h>
-#include <unistd.h>
 
 #include "clock.h"
 #include "process.h"
@@ -24,16 +23,6 @@ static unsigned deciding; /* so many of those that are sent */
 static bool is_read, is_written, is_silent; /* by a thread just now; it has said nothing for too long */
 static size_t unread; /* bytes of `in` */
 static char in[LINE], out[LINE];
-
-void lock(void)
-{
-    pthread_mutex_lock(&coordinator.lock);
-}
-
-void unlock(void)
-{
-    pthread_mutex_unlock(&coordinator.lock);
-}
 
 bool is_changed_by(double moment)
 {
@@ -57,13 +46,6 @@ static void arrive(struct move *move)
         pthread_cond_signal(&move->woken);
 }
 
-static void arrive_all(struct move **list)
-{
-    for (struct move *move = *list; move != NULL; move = move->next)
-        arrive(move);
-    *list = NULL;
-}
-
 static void lose(void)
 {
     if (coordinator.is_gone)
@@ -71,8 +53,11 @@ static void lose(void)
     coordinator.is_gone = true;
     coordinator.is_up = false;
     shutdown(lines, SHUT_RDWR); /* whoever waits at it wakes */
-    arrive_all(&sent);
-    arrive_all(&posted);
+    while (sent != NULL || posted != NULL) {
+        struct move **list = sent != NULL ? &sent : &posted, *move = *list;
+        *list = move->next;
+        arrive(move);
+    }
     pthread_cond_broadcast(&coordinator.changed);
 }
 
@@ -109,10 +94,10 @@ static void deliver(void)
 static bool is_any_read(int flags)
 {
     is_read = true;
-    unlock();
+    pthread_mutex_unlock(&coordinator.lock);
     ssize_t count = recv(lines, in + unread, sizeof in - unread, flags);
     bool is_later = count < 0 && (errno == EAGAIN || errno == EINTR);
-    lock();
+    pthread_mutex_lock(&coordinator.lock);
     is_read = false;
     if (is_later)
         return false;
@@ -179,9 +164,9 @@ static void write_all(void)
     while (!coordinator.is_gone && (length = write_line()) > 0) {
         if (sent->next != NULL && !is_read)
             is_any_read(MSG_DONTWAIT);
-        unlock();
+        pthread_mutex_unlock(&coordinator.lock);
         bool is_sent = is_line_sent(out, length), is_late = !is_sent && errno == EAGAIN;
-        lock();
+        pthread_mutex_lock(&coordinator.lock);
         is_silent = is_silent || is_late;
         if (!is_sent)
             lose();
@@ -223,12 +208,12 @@ static void wait_until_here(struct move *move)
 {
     double until = now() + settings.patience;
 
-    lock();
+    pthread_mutex_lock(&coordinator.lock);
     while (!move->is_here)
         wait_for(move, until);
     if (!is_read && !is_reader_woken(sent))
         is_reader_woken(posted);
-    unlock();
+    pthread_mutex_unlock(&coordinator.lock);
 }
 
 /* ** of the calling thread */
@@ -250,14 +235,14 @@ void move(bool decides, const char *format, ...)
     va_start(words, format);
     vsnprintf(it->text, sizeof it->text, format, words);
     va_end(words);
-    lock();
+    pthread_mutex_lock(&coordinator.lock);
     begin(it, decides);
     if (is_session_over())
         arrive(it);
     else
         append(&posted, it);
     write_all();
-    unlock();
+    pthread_mutex_unlock(&coordinator.lock);
 }
 
 const char *replied(void)
@@ -284,10 +269,10 @@ bool is_session_over(void)
 const char *lose_session(const char *why)
 {
     explain("the coordinator %s", why);
-    lock();
+    pthread_mutex_lock(&coordinator.lock);
     if (me->session == coordinator.session)
         lose();
-    unlock();
+    pthread_mutex_unlock(&coordinator.lock);
     me->move.is_asked = false;
     me->move.reply[0] = '\0';
     return me->move.reply;
@@ -314,7 +299,7 @@ bool coordinator_start(char *const words[])
         return false;
     setsockopt(started, SOL_SOCKET, SO_RCVTIMEO, &longest, sizeof longest);
     setsockopt(started, SOL_SOCKET, SO_SNDTIMEO, &longest, sizeof longest);
-    lock();
+    pthread_mutex_lock(&coordinator.lock);
     lines = started;
     posted = sent = NULL;
     unread = deciding = 0;
@@ -322,7 +307,7 @@ bool coordinator_start(char *const words[])
     me->session = ++coordinator.session;
     expect(&version);
     expect(&me->move);
-    unlock();
+    pthread_mutex_unlock(&coordinator.lock);
     wait_until_here(&version);
     if (strncmp(version.reply, "protocol 1 ", 11) != 0)
         lose_session("doesn't say its version");
@@ -331,14 +316,11 @@ bool coordinator_start(char *const words[])
 
 void coordinator_end(char *said, size_t room)
 {
-    lock();
+    pthread_mutex_lock(&coordinator.lock);
     lose();
-    while (is_read || is_written) {
-        unlock();
-        usleep(1000);
-        lock();
-    }
-    unlock();
+    while (is_read || is_written)
+        is_changed_by(now() + 0.001);
+    pthread_mutex_unlock(&coordinator.lock);
     process_end(is_silent ? 0 : settings.patience, said, room);
     said[strcspn(said, "\n")] = '\0';
 }

@@ -32,8 +32,6 @@ extern struct coordinator {
     atomic_bool is_up; /* threads may begin transactions in the session */
 } coordinator;
 
-void lock(void);
-void unlock(void);
 /* Waits, under the lock, until something has changed. False once it is past that moment. */
 bool is_changed_by(double moment);
 

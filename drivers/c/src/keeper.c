@@ -44,14 +44,9 @@ static long incarnation_in(const char *greeting)
     return is_reply(greeting, "restarted") && decisions >= 0 && heuristics >= 0 && *at == '\0' ? incarnation : 0;
 }
 
-/* One that was killed says nothing, and while another process has the log, it may be free in a
- * moment: then it is started again (docs/SERVE.md has what it says). */
-static bool may_start_later(const char *said)
-{
-    return said[0] == '\0' || (strncmp(said, "xatm: ", 6) == 0 && strncmp(said, "xatm: log: ", 11) != 0);
-}
-
-/* False if it doesn't start; for ever, if what it said says so. */
+/* False if it doesn't start; for ever, if what it said says so (docs/SERVE.md). One that was killed
+ * says nothing, and while another process has the log, it may be free in a moment: then it is
+ * started again. */
 static bool is_coordinator_started(void)
 {
     char said[SAID];
@@ -65,7 +60,8 @@ static bool is_coordinator_started(void)
     }
     coordinator_end(said, sizeof said);
     if (said[0] != '\0')
-        note_fault(!may_start_later(said), "%s doesn't start, or isn't of this version: %s", settings.program, said);
+        note_fault(strncmp(said, "xatm: ", 6) != 0 || strncmp(said, "xatm: log: ", 11) == 0,
+            "%s doesn't start, or isn't of this version: %s", settings.program, said);
     return false;
 }
 
@@ -91,14 +87,15 @@ static void tell_fates(void)
         char gtrid[2 * OWN + 1];
         if (it->fate != AWAITED)
             continue;
-        move(false, "fate %s", text_of_own(&it->xid, gtrid));
+        write_hex(gtrid, it->xid.data + strlen(settings.name), OWN);
+        move(false, "fate %s", gtrid);
         const char *reply = replied();
         enum fate fate = is_reply(reply, "committed") ? COMMITTED : is_reply(reply, "rolled-back") ? ROLLED_BACK : UNKNOWN;
-        lock();
+        pthread_mutex_lock(&coordinator.lock);
         if (reply[0] != '\0')
             atomic_compare_exchange_strong(&it->fate, &awaited, fate);
         pthread_cond_broadcast(&coordinator.changed);
-        unlock();
+        pthread_mutex_unlock(&coordinator.lock);
     }
 }
 
@@ -125,10 +122,10 @@ static void begin_session(void)
         note_fault(true, "%s", gf_error());
     tell_fates();
     recover_due();
-    lock();
+    pthread_mutex_lock(&coordinator.lock);
     coordinator.is_up = !coordinator.is_gone && !all.has_failed;
     pthread_cond_broadcast(&coordinator.changed);
-    unlock();
+    pthread_mutex_unlock(&coordinator.lock);
 }
 
 static void end_session(void)
@@ -149,9 +146,9 @@ void *keep(void *unused)
     me = &all.threads[0];
     me->move.is_alone = true;
     pthread_cond_init(&me->move.woken, NULL);
-    lock();
+    pthread_mutex_lock(&coordinator.lock);
     while (!all.is_ending) {
-        unlock();
+        pthread_mutex_unlock(&coordinator.lock);
         if (coordinator.is_up) {
             recover_due();
         } else {
@@ -159,11 +156,11 @@ void *keep(void *unused)
             if (!all.has_failed)
                 begin_session();
         }
-        lock();
+        pthread_mutex_lock(&coordinator.lock);
         if (!all.is_ending && !all.is_owed)
             is_changed_by(now() + (coordinator.is_up || all.has_failed ? 1 : 0.1));
     }
-    unlock();
+    pthread_mutex_unlock(&coordinator.lock);
     if (coordinator.is_up)
         recover_due();
     end_session();

@@ -2,12 +2,11 @@
 #include "process.h"
 
 #include <errno.h>
-#include <poll.h>
 #include <signal.h>
 #include <spawn.h>
-#include <sys/mman.h>
 #include <sys/socket.h>
 #include <sys/syscall.h>
+#include <sys/time.h>
 #include <sys/wait.h>
 #include <unistd.h>
 
@@ -20,7 +19,7 @@ extern char **environ;
 static int handle = -1, lines = -1, errors = -1;
 
 /* In a process group of its own, so that Ctrl-C in a terminal ends the program before it. */
-static pid_t spawn(char *const words[], int its_lines)
+static pid_t spawn(char *const words[], int its_lines, int its_errors)
 {
     posix_spawn_file_actions_t files;
     posix_spawnattr_t how;
@@ -31,7 +30,7 @@ static pid_t spawn(char *const words[], int its_lines)
     posix_spawn_file_actions_init(&files);
     posix_spawn_file_actions_adddup2(&files, its_lines, STDIN_FILENO);
     posix_spawn_file_actions_adddup2(&files, its_lines, STDOUT_FILENO);
-    posix_spawn_file_actions_adddup2(&files, errors, STDERR_FILENO);
+    posix_spawn_file_actions_adddup2(&files, its_errors, STDERR_FILENO);
 #if __GLIBC_PREREQ(2, 34)
     /* What the program has open is no affair of the coordinator's, as a socket that it listens
      * on. */
@@ -47,39 +46,41 @@ static pid_t spawn(char *const words[], int its_lines)
     return pid;
 }
 
-/* Its errors go into memory, which holds all of them until somebody looks. */
 int process_start(char *const words[])
 {
-    int pair[2] = {-1, -1};
+    int pairs[] = {-1, -1, -1, -1};
     pid_t pid = -1;
 
-    errors = memfd_create("errors", MFD_CLOEXEC);
-    if (errors >= 0 && socketpair(AF_UNIX, SOCK_STREAM | SOCK_CLOEXEC, 0, pair) == 0)
-        pid = spawn(words, pair[1]);
-    close(pair[1]);
-    lines = pair[0];
-    handle = pid < 0 ? -1 : (int)syscall(SYS_pidfd_open, pid, 0);
-    if (handle < 0)
+    if (socketpair(AF_UNIX, SOCK_STREAM | SOCK_CLOEXEC, 0, pairs) == 0
+        && socketpair(AF_UNIX, SOCK_STREAM | SOCK_CLOEXEC, 0, pairs + 2) == 0)
+        pid = spawn(words, pairs[1], pairs[3]);
+    close(pairs[1]);
+    close(pairs[3]);
+    lines = pairs[0];
+    errors = pairs[2];
+    handle = (int)syscall(SYS_pidfd_open, pid, 0);
+    if (pid < 0)
         process_forget();
     return lines;
 }
 
+/* Its end closes what it prints its errors to. */
 void process_end(double patience, char *said, size_t room)
 {
-    struct pollfd it = {.fd = handle, .events = POLLIN};
+    struct timeval longest = {.tv_sec = (time_t)patience + 1};
+    size_t length = 0;
+    ssize_t count = 0;
     siginfo_t how;
 
-    said[0] = '\0';
-    if (handle < 0)
-        return;
-    close(lines); /* its end of input */
-    lines = -1;
-    if (poll(&it, 1, (int)(patience * 1000)) != 1)
+    shutdown(lines, SHUT_RDWR); /* its end of input */
+    setsockopt(errors, SOL_SOCKET, SO_RCVTIMEO, &longest, sizeof longest);
+    while (lines >= 0 && (count = recv(errors, said + length, room - length - 1, 0)) > 0)
+        length += (size_t)count;
+    said[length] = '\0';
+    if (count < 0)
         syscall(SYS_pidfd_send_signal, handle, SIGKILL, NULL, 0);
     while (waitid((idtype_t)BY_HANDLE, (id_t)handle, &how, WEXITED) != 0 && errno == EINTR)
         ;
-    ssize_t length = pread(errors, said, room - 1, 0);
-    said[length > 0 ? length : 0] = '\0';
     process_forget();
 }
 

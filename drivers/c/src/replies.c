@@ -20,9 +20,8 @@ long next_number(const char **at, long most)
         return -1;
     errno = 0;
     long number = strtol(*at + 1, &end, 10);
-    bool is_one = errno == 0 && number <= most;
     *at = end;
-    return is_one ? number : -1;
+    return errno == 0 && number <= most ? number : -1;
 }
 
 int named_in(const char *reply, int rms[MOST_RMS])

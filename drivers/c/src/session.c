@@ -7,7 +7,6 @@
 #include <stdlib.h>
 
 #include "../beside/databases.h"
-#include "../beside/place.h"
 #include "clock.h"
 #include "garterfossil.h"
 
@@ -17,13 +16,13 @@ bool note_fault(bool is_final, const char *format, ...)
 {
     va_list words;
 
-    lock();
+    pthread_mutex_lock(&coordinator.lock);
     va_start(words, format);
     vsnprintf(all.fault, sizeof all.fault, format, words);
     va_end(words);
     all.has_failed = is_final;
     pthread_cond_broadcast(&coordinator.changed);
-    unlock();
+    pthread_mutex_unlock(&coordinator.lock);
     if (is_final)
         fprintf(stderr, "garterfossil: %s\n", all.fault);
     return false;
@@ -41,7 +40,7 @@ static bool is_keeper_started(void)
         explain("no memory");
         return false;
     }
-    see_place();
+    warn_of_place();
     all.has_failed = false;
     snprintf(all.fault, sizeof all.fault, "the coordinator doesn't start in time");
     /* Signals are the program's affair. */
@@ -80,28 +79,28 @@ static struct thread *taken(void)
 
 bool session_join(void)
 {
-    lock();
+    pthread_mutex_lock(&coordinator.lock);
     me = taken();
-    unlock();
+    pthread_mutex_unlock(&coordinator.lock);
     return me != NULL;
 }
 
 void session_leave(void)
 {
-    lock();
+    pthread_mutex_lock(&coordinator.lock);
     pthread_cond_destroy(&me->move.woken);
     me->is_taken = false;
     me = NULL;
     if (--all.open == 0) {
         all.is_ending = true;
         pthread_cond_broadcast(&coordinator.changed);
-        unlock();
+        pthread_mutex_unlock(&coordinator.lock);
         pthread_join(all.keeper, NULL);
-        lock();
+        pthread_mutex_lock(&coordinator.lock);
         all.is_ending = false;
         pthread_cond_broadcast(&coordinator.changed);
     }
-    unlock();
+    pthread_mutex_unlock(&coordinator.lock);
 }
 
 /* ** whether it is up */
@@ -110,7 +109,7 @@ bool is_session_met(void)
 {
     double until = now() + settings.patience;
 
-    lock();
+    pthread_mutex_lock(&coordinator.lock);
     while (!coordinator.is_up && !all.has_failed && is_changed_by(until))
         ;
     bool is_up = coordinator.is_up;
@@ -120,16 +119,16 @@ bool is_session_met(void)
     }
     if (!is_up)
         explain("%s", all.fault);
-    unlock();
+    pthread_mutex_unlock(&coordinator.lock);
     return is_up;
 }
 
 void note_owed(void)
 {
-    lock();
+    pthread_mutex_lock(&coordinator.lock);
     all.is_owed = true;
     pthread_cond_broadcast(&coordinator.changed);
-    unlock();
+    pthread_mutex_unlock(&coordinator.lock);
 }
 
 enum fate awaited_fate(void)
@@ -137,12 +136,12 @@ enum fate awaited_fate(void)
     static const char *const words[] = {"ended everywhere alike, it isn't known how", "", "committed", "rolled back"};
     double until = now() + settings.patience;
 
-    lock();
+    pthread_mutex_lock(&coordinator.lock);
     while (me->fate == AWAITED && !all.has_failed && is_changed_by(until))
         ;
     if (me->fate == AWAITED)
         me->fate = UNKNOWN;
-    unlock();
+    pthread_mutex_unlock(&coordinator.lock);
     explain("the coordinator ended as it was to decide: the transaction is %s", words[me->fate]);
     fprintf(stderr, "garterfossil: %s\n", gf_error());
     return me->fate;

@@ -37,6 +37,14 @@ bool note_fault(bool is_final, const char *format, ...) LIKE_PRINTF(2, 3);
 /* The keeper's thread: keeper.c. */
 void *keep(void *unused);
 
+/* ** place.c */
+
+/* What may become of a log on a file system of this kind, by its number (statfs); NULL if it is
+ * none of those that are no place for one. */
+const char *danger_of(unsigned kind);
+/* Warns of such a place of the log. */
+void warn_of_place(void);
+
 /* ** recovery.c */
 
 /* Ends what is in doubt at a resource manager, as the coordinator says. False if some of it can't

@@ -145,11 +145,6 @@ API int tx_begin(void)
 
 /* ** its end */
 
-static bool is_late(void)
-{
-    return now() >= me->deadline;
-}
-
 /* What an end returns, which begins the next transaction if they are chained. */
 static int ended(int result)
 {
@@ -163,7 +158,7 @@ static int commit(void)
 {
     if (see_place(true) != TX_OK)
         return TX_PROTOCOL_ERROR;
-    if (!is_late())
+    if (now() < me->deadline)
         return ended(commit_transaction());
     explain("the transaction has outlasted its %ld seconds", me->info.transaction_timeout);
     return ended(roll_back_transaction(TX_ROLLBACK));
@@ -195,7 +190,7 @@ API int tx_info(TXINFO *info)
     *info = me->info;
     if (me->is_in_transaction) {
         info->xid = me->xid;
-        info->transaction_state = is_late() ? TX_TIMEOUT_ROLLBACK_ONLY : is_session_over() ? TX_ROLLBACK_ONLY : TX_ACTIVE;
+        info->transaction_state = now() >= me->deadline ? TX_TIMEOUT_ROLLBACK_ONLY : is_session_over() ? TX_ROLLBACK_ONLY : TX_ACTIVE;
     }
     return me->is_in_transaction;
 }

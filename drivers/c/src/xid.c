@@ -19,12 +19,6 @@ XID transaction_of(const char *text)
     return read_hex(text, strlen(text), xid.data + name, OWN) == OWN ? xid : (XID){.formatID = 0};
 }
 
-const char *text_of_own(const XID *xid, char text[2 * OWN + 1])
-{
-    write_hex(text, xid->data + strlen(settings.name), OWN);
-    return text;
-}
-
 XID branch_of(const XID *transaction, unsigned thread, int rm)
 {
     XID xid = *transaction;

@@ -8,8 +8,6 @@ enum { OWN = 16 }; /* bytes of a transaction's own, behind the manager's name */
 /* The identifier of a transaction, without a branch, whose own bytes are these in hexadecimal; all
  * zeroes if the text isn't so many. */
 XID transaction_of(const char *text);
-/* Its own bytes, which the text has room for. */
-const char *text_of_own(const XID *, char text[2 * OWN + 1]);
 /* Its branch at a resource manager. */
 XID branch_of(const XID *, unsigned thread, int rm);
 /* Whether it is one of this manager at the resource manager. */

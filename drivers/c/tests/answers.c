@@ -223,5 +223,4 @@ const struct story of_answers[] = {{"answers to xa_end", of_end}, {"answers to x
     {"answers to xa_commit", of_commit}, {"answers to xa_commit: later", of_a_commit_for_later},
     {"answers to xa_rollback once prepared", of_rollback_once_prepared}, {"answers to xa_rollback", of_rollback},
     {"answers to xa_commit in one phase", of_one_phase}, {"answers to xa_start", of_start}, {"answers to xa_open", of_open},
-    {"answers to xa_forget", of_forget}, {"answers to xa_recover", of_recover},
-    {NULL, NULL}};
+    {"answers to xa_forget", of_forget}, {"answers to xa_recover", of_recover}, {NULL, NULL}};

@@ -224,6 +224,23 @@ static void one_is_away(void)
     IS(count_told("recover 1") > 2, true);
 }
 
+/* It is away as transactions begin: each try says so, until it is back. */
+static void one_is_away_for_long(void)
+{
+    IS(tx_open(), TX_OK);
+    stand_in_answers(1, "xa_start", XAER_RMFAIL, false);
+    IS(tx_begin(), TX_ERROR);
+    for (int i = 0; i < 3; i++) {
+        stand_in_answers(1, "xa_open", XAER_RMFAIL, false);
+        IS(tx_begin(), TX_ERROR);
+        SAYS(gf_error(), "xa_open of b returned -7");
+    }
+    BEGIN(5);
+    IS(tx_commit(), TX_OK);
+    IS(stand_in_sum(0), -5);
+    IS(stand_in_sum(1), 5);
+}
+
 /* What is owed is ended as the last thread closes. */
 static void closed_at_once(void)
 {
@@ -258,6 +275,6 @@ const struct story of_losses[] = {{"losses: the coordinator ends", it_ends}, {"l
     {"losses: it ends once it has decided", it_ends_once_it_has_decided}, {"losses: it ends in a rollback", it_ends_in_a_rollback},
     {"losses: it ends twice", it_ends_twice}, {"losses: it is killed", it_is_killed}, {"losses: it is out of step", it_is_out_of_step},
     {"losses: it is out of step in a recovery", it_is_out_of_step_in_a_recovery}, {"losses: it doesn't start", it_does_not_start},
-    {"losses: its greeting is wrong", its_greeting_is_wrong},
-    {"losses: it isn't there", it_is_not_there}, {"losses: one is away", one_is_away}, {"losses: closed at once", closed_at_once},
-    {"losses: an embedded one", an_embedded_one}, {NULL, NULL}};
+    {"losses: its greeting is wrong", its_greeting_is_wrong}, {"losses: it isn't there", it_is_not_there},
+    {"losses: one is away", one_is_away}, {"losses: one is away for long", one_is_away_for_long},
+    {"losses: closed at once", closed_at_once}, {"losses: an embedded one", an_embedded_one}, {NULL, NULL}};

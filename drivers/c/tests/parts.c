@@ -4,8 +4,7 @@
 #include <stdio.h>
 #include <string.h>
 
-#include "../beside/place.h"
-#include "../src/thread.h"
+#include "../src/session.h"
 #include "../switches/xid_text.h"
 #include "story.h"
 
@@ -122,5 +121,6 @@ static void values_of_headers(void)
 }
 
 const struct story of_parts[] = {{"parts: settings that are wrong", settings_that_are_wrong},
-    {"parts: texts of identifiers", texts_of_identifiers}, {"parts: places of logs", places_of_logs}, {"parts: texts of UUIDs", texts_of_uuids},
-    {"parts: numbers in replies", numbers_in_replies}, {"parts: values of headers", values_of_headers}, {NULL, NULL}};
+    {"parts: texts of identifiers", texts_of_identifiers}, {"parts: places of logs", places_of_logs},
+    {"parts: texts of UUIDs", texts_of_uuids}, {"parts: numbers in replies", numbers_in_replies},
+    {"parts: values of headers", values_of_headers}, {NULL, NULL}};

@@ -206,11 +206,15 @@ static void lose_work(int rm)
         it->state = FREE;
 }
 
+/* (No branch is joined, suspended or migrated: none of that can be asked of a switch that has
+ * TMNOMIGRATE.) */
 static int answer(const char *call, XID *xid, int rm, long flags)
 {
     int code;
 
     note(call, rm, flags);
+    if ((flags & ~(TMSUCCESS | TMFAIL | TMONEPHASE)) != 0 || !is_opened[rm])
+        return out_of_turn(call);
     pthread_mutex_lock(&lock);
     struct answer *other = NULL;
     for (int i = ANSWERS - 1; i >= 0; i--)
