@@ -35,12 +35,14 @@ class Program:
         code, _, why = done.stdout.strip().partition(" ")
         return int(code or 1), why
 
+    def note(self, story, is_right, found):
+        self.wrong += not is_right
+        print(f"{'ok   ' if is_right else 'WRONG'} C: {story}: {found}", flush=True)
+
     def see(self, story, rms, code, why="", starts=1):
         for _ in range(starts):
             found = self.open(*rms)
-            is_right = found[0] == code and why in found[1]
-            self.wrong += not is_right
-            print(f"{'ok   ' if is_right else 'WRONG'} C: {story}: {found[0]} {found[1]}", flush=True)
+            self.note(story, found[0] == code and why in found[1], f"{found[0]} {found[1]}".strip())
 
     def keep(self, name):
         """Copies the log, as somebody does who keeps an older one."""
@@ -56,7 +58,8 @@ class Program:
                 shutil.copy(f"{self.folder}/{name}{tail}", self.log + tail)
 
 
-def run_ours(program):
+def run_others(program):
+    """What the log refuses to be given for one start."""
     bank, stock = ("bank", "postgres"), ("stock", "template1")
     program.see("two databases", [bank, stock], OK)
     program.see("another one in the place of one", [("bank", "other"), stock], ERROR, "bank isn't the database that the log", starts=2)
@@ -72,7 +75,25 @@ def run_ours(program):
     program.put_back("right")
     program.see("the right log", [bank, stock], OK)
     program.see("names that changed places", [("stock", "postgres"), ("bank", "template1")], FAIL, "is bank, not stock")
-    return program.wrong
+
+
+def run_more(program, connection):
+    """One more database, while a branch of an old one is in doubt; and one that gets another name."""
+    bank, stock, audit = ("bank", "postgres"), ("stock", "template1"), ("audit", "other")
+    connection.run("BEGIN")
+    connection.run("CREATE TABLE left_behind (id int)")
+    connection.run(f"PREPARE TRANSACTION '7:{b'guards'.hex()}{1:016x}{1:016x}:{1:08x}{0:08x}'")
+    program.see("one more database", [bank, stock, audit], OK)
+    left = connection.run("SELECT count(*) FROM pg_prepared_xacts").rows[0][0]
+    program.note("a branch in doubt of an old one is ended", int(left) == 0, left)
+    program.see("another name in its place", [bank, stock, ("post", "other")], FAIL, "is audit, not post", starts=2)
+    lender = ("lender", "postgres")
+    program.see("another name that nobody has told the log", [lender, stock, audit], FAIL, "is bank, not lender", starts=2)
+    words = [program.world.coordinator, "log", "--rename-rm", "bank", "lender", program.log]
+    done = subprocess.run(words, stdout=subprocess.PIPE, stderr=subprocess.STDOUT, text=True, check=False)
+    program.note("log --rename-rm", done.returncode == 0, done.stdout.strip())
+    program.see("the other name", [lender, stock, audit], OK)
+    program.see("the old one", [bank, stock, audit], FAIL, "is lender, not bank")
 
 
 def run(world):
@@ -87,7 +108,10 @@ def run(world):
             connection = world.databases()[0].connect()
             connection.run("CREATE DATABASE other")
             try:
-                return run_ours(Program(world, folder))
+                program = Program(world, folder)
+                run_others(program)
+                run_more(program, connection)
+                return program.wrong
             finally:
                 connection.run("DROP DATABASE other")
                 connection.close()
