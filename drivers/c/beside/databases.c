@@ -266,12 +266,3 @@ const char *shut_because(void)
 {
     return kept.shut;
 }
-
-void shut_log(const char *why)
-{
-    pthread_mutex_lock(&lock);
-    snprintf(kept.shut, sizeof kept.shut, "%s", why);
-    is_changed = true;
-    pthread_mutex_unlock(&lock);
-    save_databases();
-}

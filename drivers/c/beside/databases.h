@@ -14,10 +14,9 @@ bool is_its_database(int rm);
 /* The last incarnation of the log that was met, 0 if there is none. */
 long last_incarnation(void);
 void meet_incarnation(long);
-/* Why no session is to begin over the log until somebody has looked, "" if one may; and that none
- * is, in later runs too. */
+/* Why no session is to begin over the log until somebody has looked, as another driver has said; ""
+ * if one may. */
 const char *shut_because(void);
-void shut_log(const char *why);
 /* Writes what was met. False if it can't be written. */
 bool save_databases(void);
 #endif
