@@ -20,7 +20,7 @@ struct coordinator coordinator = {.lock = PTHREAD_MUTEX_INITIALIZER, .changed = 
 static int lines = -1; /* the socket */
 static struct move *posted, *sent; /* that wait to be sent, and for their replies, the oldest first */
 static unsigned deciding; /* so many of those that are sent */
-static bool is_read, is_written, is_silent; /* by a thread just now; it has said nothing for too long */
+static bool is_read, is_written, is_silent; /* by a thread at this moment; it has said nothing for too long */
 static size_t unread; /* bytes of `in` */
 static char in[LINE], out[LINE];
 

@@ -27,7 +27,7 @@ extern struct all {
     atomic_bool is_owed; /* it is to look at once */
     atomic_bool has_failed; /* there will be no session any more, until the last thread has closed */
     int open; /* so many threads have joined: if there are any, the keeper runs */
-    struct thread *threads; /* by their numbers, also those that nobody has just now; 0 is the keeper's */
+    struct thread *threads; /* by their numbers, also those that nobody has now; 0 is the keeper's */
     char fault[512]; /* why there is no session, or never will be */
 } all;
 

@@ -46,7 +46,7 @@ bool is_dynamic(int rm);
 /* Opens a resource manager, unless it is open. False if it can't be, or is another database than
  * the log's. */
 bool is_rm_open(int rm);
-/* The call of a verb begins at the resource manager, behind xa_end where that wasn't made; `made`
+/* The call of a verb begins at the resource manager, after xa_end if that wasn't made; `made`
  * waits for its code, or LOST. */
 void begin_call(int rm, enum verb);
 int made(int rm, enum verb);
@@ -64,7 +64,7 @@ bool are_lines_open(void);
 int begin_next(void);
 /* What tx_commit returns. */
 int commit_transaction(void);
-/* What tx_rollback returns, where TX_OK is this. */
+/* What tx_rollback returns, with this in place of TX_OK. */
 int roll_back_transaction(int result);
 /* Keeps the name of the next transaction, which the reply to the last move has. */
 void settle(void);
