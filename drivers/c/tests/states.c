@@ -96,6 +96,15 @@ static void no_begin(void)
     stand_in_answers(0, "xa_start", XAER_RMERR, false);
     IS(tx_commit(), TX_ROLLBACK_NO_BEGIN);
     IS(state_now(), 2);
+    for (int i = 0; i < 2; i++) {
+        go_to(4);
+        stand_in_add(0, 1);
+        stand_in_add(1, 1);
+        stand_in_answers(1, "xa_commit", i == 0 ? XA_HEURRB : XA_HEURHAZ, true);
+        stand_in_answers(0, "xa_start", XAER_RMERR, false);
+        IS(tx_commit(), i == 0 ? TX_MIXED_NO_BEGIN : TX_HAZARD_NO_BEGIN);
+        IS(state_now(), 2);
+    }
     IS(tx_begin(), TX_OK);
     IS(tx_commit(), TX_OK);
 }
