@@ -71,7 +71,35 @@ class Halted:
 
     def held(self):
         """How many rows each database has of it."""
-        return [len(one.connect().run(f"SELECT gtrid FROM alone WHERE gtrid = '{self.token}'").rows) for one in self.world.databases()]
+        return rows_of(self.world, self.token)
+
+
+def rows_of(world, token):
+    """How many rows each database has of a token."""
+    return [len(one.connect().run(f"SELECT gtrid FROM alone WHERE gtrid = '{token}'").rows) for one in world.databases()]
+
+
+def see_grown(world, folder, path):
+    """A log that was made with one database gets another, which then has another name. How much was wrong."""
+    log, java, (first, second) = f"{folder}/grown.db", ["java", "-cp", ":".join(path)], [server.url() for server in world.servers]
+
+    def said(token, *resources):
+        words = [*java, "Grow", log, world.coordinator, token, *resources]
+        return subprocess.run(words, stdout=subprocess.PIPE, stderr=subprocess.DEVNULL, text=True).stdout.strip()
+
+    found = [said("one", "db0", first)]
+    # It is added by a program that is killed once the first has committed.
+    Halted(world, folder, path, "grown")
+    found += [said("two", "db0", first, "db1", second), *map(str, [rows_of(world, "grown"), rows_of(world, "two")])]
+    found.append(said("three", "db0", first, "shop", second))
+    renamed = subprocess.run([world.coordinator, "log", "--rename-rm", "db1", "shop", log], stderr=subprocess.DEVNULL).returncode
+    found.append(said("four", "db0", first, "shop", second))
+    is_right = found[:4] == ["committed", "committed", "[1, 1]", "[1, 1]"] and "shop isn't one of them" in found[4] and found[5] == "committed"
+    is_right &= renamed == 0 and rows_of(world, "three") == [0, 0] and rows_of(world, "four") == [1, 1]
+    print(f"{'ok   ' if is_right else 'WRONG'} Java: a database is added to a log, and renamed: {found[:4]}", flush=True)
+    if not is_right:
+        print(found, renamed)
+    return not is_right
 
 
 def see_failover(world, folder, path, mirror):
@@ -115,7 +143,7 @@ def run(world):
     folder = tempfile.mkdtemp(dir=world.home)
     os.chmod(folder, 0o755)
     try:
-        path = [folder, *paths_of(dict(driver_of(server) for server in world.servers)), *compiled(folder, ["Tour", "Halt", "Hooks", "Speed"])]
+        path = [folder, *paths_of(dict(driver_of(server) for server in world.servers)), *compiled(folder, ["Tour", "Grow", "Halt", "Hooks", "Speed"])]
     except Missing as missing:
         print(f"tour: without Java: {missing}")
         return 0
@@ -128,7 +156,7 @@ def run(world):
             processes = ",".join(str(number) for number in processes_of(world.servers[1].process.pid))
             words = ["java", "-cp", ":".join(path), "Tour", folder, world.coordinator, *urls, processes]
             wrong = subprocess.run(words, stderr=log).returncode != 0
-        wrong += see_set_ups(world, folder, path) + see_command(world, folder, path)
+        wrong += see_set_ups(world, folder, path) + see_command(world, folder, path) + see_grown(world, folder, path)
         return wrong + sum(see_failover(world, folder, path, mirror) for mirror in (0, 1))
     finally:
         for server in world.servers:
