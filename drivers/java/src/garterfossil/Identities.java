@@ -48,6 +48,7 @@ final class Identities {
     private final Map<Integer, String> wrong = new TreeMap<>();
     // Those that call themselves by nothing, of which that was said.
     private final Set<Integer> unknown = ConcurrentHashMap.newKeySet();
+    private boolean areKept;
     private long incarnation;
     private String shut;
 
@@ -73,6 +74,12 @@ final class Identities {
             return;
         }
         take(found);
+        areKept = true;
+    }
+
+    /** Whether what stands beside the log is of this one. */
+    boolean areKept() {
+        return areKept;
     }
 
     private Map<?, ?> read() throws Fault.Unavailable {

@@ -259,6 +259,7 @@ public final class Manager implements AutoCloseable {
     // As the log keeps them, and as the file beside it does.
     private KeptLog names;
     private Identities identities;
+    private Committed committed;
     private volatile Session session;
     // The same, or the next one that begins.
     private volatile Session begun;
@@ -311,6 +312,9 @@ public final class Manager implements AutoCloseable {
         names = untilFree(() -> KeptLog.of(made.log, made.starter, made.program, made.name, made.resources));
         identities = new Identities(made.log, names.manager, isNew);
         identities.seeOpen();
+        closeCommitted();
+        committed = new Committed(made.log, identities.areKept());
+        names.decisions.keySet().forEach(committed::add);
         for (Resource resource : made.resources) {
             int number = names.numberOf(resource);
             resource.belongTo(names.manager);
@@ -379,7 +383,7 @@ public final class Manager implements AutoCloseable {
     }
 
     private void start(Coordinator coordinator, Mirror mirror) throws Fault {
-        Session next = new Session(coordinator, names.manager, List.copyOf(rms), made.threads, identities, counts, mirror);
+        Session next = new Session(coordinator, names.manager, List.copyOf(rms), made.threads, identities, committed, counts, mirror);
         begun = next;
         try {
             identities.begin(next.incarnation);
@@ -666,5 +670,12 @@ public final class Manager implements AutoCloseable {
         bean.unregister();
         helpers.stop();
         rms.forEach(ResourceManager::close);
+        closeCommitted();
+    }
+
+    private void closeCommitted() {
+        if (committed != null) {
+            committed.close();
+        }
     }
 }

@@ -128,6 +128,7 @@ final class Session {
     private final int threads;
     private final Identities identities;
     final Counts counts;
+    private final Committed committed;
     private final Mirror mirror;
     private final Load load = new Load();
     private final Set<GlobalTransaction> live = ConcurrentHashMap.newKeySet();
@@ -142,13 +143,15 @@ final class Session {
     private long oldestSince;
 
     /** A session that has begun. Without a mirror that is null. */
-    Session(Coordinator coordinator, String name, List<ResourceManager> rms, int threads, Identities identities, Counts counts, Mirror mirror) {
+    Session(Coordinator coordinator, String name, List<ResourceManager> rms, int threads, Identities identities,
+        Committed committed, Counts counts, Mirror mirror) {
         this.coordinator = coordinator;
         this.name = name;
         this.rms = rms;
         this.threads = threads;
         this.identities = identities;
         this.counts = counts;
+        this.committed = committed;
         this.mirror = mirror;
         incarnation = Long.parseLong(coordinator.greeting.split(" ")[1]);
         places = new Semaphore(threads, true);
@@ -223,6 +226,7 @@ final class Session {
 
     /** It is decided that a transaction commits, and no resource has heard of it. */
     void noteDecision(String gtrid, List<BranchXid> xids) throws Fault.Gone {
+        committed.add(gtrid);
         if (mirror != null) {
             try {
                 mirror.add(gtrid, xids);
@@ -265,12 +269,17 @@ final class Session {
             + " lost, or another one put in its place? Start with the right one: this one would roll back what is decided");
     }
 
-    /** Sees that the log knows of what is decided and listed. */
+    /** Sees that the log knows of what is decided and listed, and that nothing of it is over. */
     void seeKnown(ResourceManager rm, List<BranchXid> listed) throws Fault.Gone {
         for (BranchXid xid : listed) {
-            if (mirror != null && mirror.isUnknownToLog(xid.transaction())) {
+            String gtrid = xid.transaction();
+            if (mirror != null && mirror.isUnknownToLog(gtrid)) {
                 shut(rm + " lists " + xid + ", which the mirror has decided to commit, and of which this log knows nothing: it is older than the mirror."
                     + " Put the right one back, or make it of the mirror (garterfossil.Command failover)");
+            }
+            if (xid.incarnation() < incarnation && committed.has(gtrid) && !coordinator.ask("fate " + gtrid).equals("committed")) {
+                shut(rm + " lists " + xid + " as prepared, which is over: it isn't as it was, or the log isn't. Its transaction was committed, so by hand: "
+                    + rm.resource.byHand("xa_commit", xid));
             }
         }
     }

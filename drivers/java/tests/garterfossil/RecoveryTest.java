@@ -259,6 +259,41 @@ public class RecoveryTest {
         world.manager.close();
     }
 
+    private void refusedSinceItIsOver(BranchXid xid) throws Exception {
+        for (int count = 0; count < 2; count++) {
+            Fault.Unavailable error = assertThrows(Fault.Unavailable.class, () -> world.builder().start());
+            assertTrue(error.getMessage(), error.getMessage().contains("lists " + xid + " as prepared, which is over"));
+            assertTrue(error.getMessage(), error.getMessage().contains("so by hand: make the call xa_commit of " + xid));
+        }
+    }
+
+    @Test
+    public void aDatabaseThatWasPutBack() throws Exception {
+        world.overBoth().commit();
+        World.eventually(() -> world.rows().isEmpty());
+        world.manager.close();
+        BranchXid xid = world.a.committed.get(0);
+        world.a.branches.put(xid, StandInResource.State.PREPARED);
+        refusedSinceItIsOver(xid);
+        assertEquals(Set.of(xid), world.a.branches.keySet());
+        assertTrue(world.a.rolledBack.isEmpty());
+    }
+
+    @Test
+    public void anOlderCopyOfALogOfTheSameSession() throws Exception {
+        world.b.answer("commit", StandInResource.LOST_BEFORE);
+        world.b.before = () -> world.b.isDown |= world.b.calls.contains("commit");
+        world.overBoth().commit();
+        world.manager.close();
+        world.b.before = () -> { };
+        world.b.isDown = false;
+        // The copy was taken before the decision.
+        world.put("rows", "");
+        refusedSinceItIsOver(world.b.branches.keySet().iterator().next());
+        assertEquals(1, world.a.committed.size());
+        assertEquals(1, world.b.branches.size());
+    }
+
     @Test
     public void aFileBesideTheLogThatIsntReadable() throws Exception {
         world.manager.close();
