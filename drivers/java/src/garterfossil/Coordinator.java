@@ -212,7 +212,7 @@ class Coordinator {
      * Sees that what was posted is written: now, or once a decision that is under way is made,
      * since nothing else is done before that.
      */
-    void flush() throws Fault.Gone {
+    void flush() {
         if (!isDeciding) {
             write();
         }
@@ -240,28 +240,24 @@ class Coordinator {
         return !unwritten.isEmpty() || !isDeciding && !gathered.isEmpty();
     }
 
-    /** Writes what was posted, unless another thread does: that writes this too. */
-    private void write() throws Fault.Gone {
-        try {
-            write(true);
-        } catch (IOException error) {
-            throw gone(error.getMessage());
-        }
+    /**
+     * Writes what was posted, unless another thread does: that writes this too. If it can't be
+     * written, the process is ended, and whoever waits finds that out by reading: what it had replied
+     * before is still to be read.
+     */
+    private void write() {
+        write(true);
     }
 
     /**
-     * The same by the thread that reads, behind the reply to a decision, so that the next one is
-     * made at once. It waits for no reply.
+     * The same by the thread that reads, after the reply to a decision, so that the next one is made
+     * at once. It waits for no reply.
      */
     private void writeNext() {
-        try {
-            write(false);
-        } catch (IOException error) {
-            // Whoever waits for a reply finds that out, too.
-        }
+        write(false);
     }
 
-    private void write(boolean mayWait) throws IOException {
+    private void write(boolean mayWait) {
         boolean isLeft = false;
         try {
             while (!isLeft && hasToWrite() && (mayWait || !writing.isHeldByCurrentThread()) && writing.tryLock()) {
@@ -278,12 +274,11 @@ class Coordinator {
                 }
             }
             isPutOff = mayWait ? isPutOff : isLeft;
+        } catch (IOException error) {
+            process.destroyForcibly();
         } catch (RuntimeException | Error error) {
             // What was taken to be written may never be, and others wait for its replies.
             failed(error);
-            if (mayWait) {
-                throw new IOException(error);
-            }
         }
     }
 

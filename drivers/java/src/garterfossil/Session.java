@@ -176,7 +176,9 @@ final class Session {
         for (Recovery recovery : recoveries) {
             recovery.awaitFirst(until);
             String wrong = identities.wrong(recovery.rm.number);
-            fatal = fatal == null ? wrong : fatal;
+            if (wrong != null && fatal == null) {
+                fatal = wrong;
+            }
         }
         seeWhole();
     }
@@ -341,11 +343,7 @@ final class Session {
             hasRows = false;
             coordinator.post("due");
         }
-        try {
-            coordinator.flush();
-        } catch (Fault.Gone error) {
-            // The next look begins the next session.
-        }
+        coordinator.flush();
         if (mirror != null) {
             mirror.finish();
         }

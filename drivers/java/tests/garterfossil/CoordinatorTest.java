@@ -5,6 +5,8 @@ import static org.junit.Assert.assertFalse;
 import static org.junit.Assert.assertThrows;
 import static org.junit.Assert.assertTrue;
 
+import java.io.IOException;
+import java.io.UncheckedIOException;
 import java.time.Duration;
 import java.util.List;
 import java.util.Map;
@@ -95,6 +97,23 @@ public class CoordinatorTest {
         Waiting writes = new Waiting(second, Thread.State.TERMINATED);
         new Waiting(first, Thread.State.TERMINATED).isLost();
         writes.isLost();
+    }
+
+    @Test
+    public void whatItRepliedBeforeItEndedIsHeard() throws Exception {
+        Coordinator.Reply first = coordinator.post("start 3");
+        coordinator.flush();
+        World.eventually(() -> {
+            try {
+                return process.getInputStream().available() > 0;
+            } catch (IOException error) {
+                throw new UncheckedIOException(error);
+            }
+        });
+        process.destroy();
+        // This can't be written any more.
+        assertThrows(Fault.Gone.class, () -> coordinator.ask("start 1"));
+        assertTrue(coordinator.await(first).startsWith("started next "));
     }
 
     @Test
