@@ -8,7 +8,7 @@ use Rattle.xa_base.specs.StateTable.{Kind.Prepare, answer, broken, moved, state_
 use Rattle.xa_base.specs.declared.answer.Answer.TheVariants.{Ret}
 use Rattle.xa_base.specs.declared.call.Call.TheVariants as Calls
 use Rattle.xa_base.specs.declared.code.Code.TheVariants.{Success}
-use Rattle.xa_base.specs.declared.state.Standing.TheVariants.{Active, Committed, Completed, Forgotten, Idle, Prepared, RollbackOnly, RolledBack}
+use Rattle.xa_base.specs.declared.state.Standing.TheVariants.{Active, Committed, Completed, Forgotten, Idle, Prepared, ReadOnly, RollbackOnly, RolledBack}
 use Rattle.xa_base.specs.declared.state.Standing.{Standing}
 use Rattle.xa_base.specs.declared.step.Outcome.TheVariants as Outcome
 use Rattle.xa_base.specs.declared.step.Part.TheVariants as Part
@@ -18,15 +18,15 @@ use Rattle.xa_model.proofs.Invariant.Moves.{Move, Move.Commits, Move.Completes, 
 use Rattle.xa_model.proofs.Invariant.Now.{settled_at_rest, step_move}
 use Rattle.xa_model.proofs.Invariant.Preservation.{always, begun_is_started}
 use Rattle.xa_model.proofs.Invariant.Rows.{rowed_kept}
-use Rattle.xa_model.proofs.Invariant.{HasBegun, IsGood}
+use Rattle.xa_model.proofs.Invariant.{HasBegun, Inv, IsGood}
 use Rattle.xa_model.proofs.ProcessLemmas.SameLogs.{same_listed}
-use Rattle.xa_model.specs.Facts.{adds_row, doubt, ever, had_row, has_row, retries, vote, lists_row, log as rows_of, says_yes_in, standing, started, was_told}
+use Rattle.xa_model.specs.Facts.{adds_row, doubt, ever, had_row, has_branch, has_row, participants_in, retries, vote, lists_row, log as rows_of, says_read_only, says_yes_in, standing, started, was_told}
 use Rattle.xa_model.specs.Promises.Processes.{gone, resumed}
 use Rattle.xa_model.specs.Protocol.{AllRight, SoundAnswer}
 use Rattle.xa_model.specs.Trace.{Answer, Branch, Call, Gtrid, Happening, Happening.CompletedAlone, Happening.Crashed, Happening.Decided, Happening.Heard, Happening.Restarted, Happening.Took, Code, Line, Origin, Trace, Trace.Then, Vote}
 use Rattle.xa_monitor.specs.Across.{continued_by}
 use Rattle.xa_monitor.specs.Seen.{IsHistory, IsHistory.Does, IsHistory.Hears, IsHistory.Loses, IsHistory.LosesAnswer, IsHistory.Starts, Seen, Seen.Answered, Seen.Did, break_of}
-use Rattle.xa_monitor.specs.Sessions.{AfterSessions, AfterSessions.Between, AfterSessions.NoneYet, AfterSessions.OneMore, IsCommitting, Log, failed_in}
+use Rattle.xa_monitor.specs.Sessions.{AfterSessions, AfterSessions.Between, AfterSessions.NoneYet, AfterSessions.OneMore, Finds, FindsLog, IsCommitting, Log, failed_in}
 use Rattle.xa_outcomes.proofs.Lasting.{on_alone, on_continued, right_alone, right_past, some_lasts}
 use Rattle.xa_outcomes.proofs.OneHistory.{gone_so, undone_so}
 use Rattle.xa_outcomes.proofs.Reached.{IsOneHistory, reached}
@@ -291,3 +291,41 @@ will_commit log f after b was =
     to_commit log f after m b
     (some_lasts (IsDecidedAfterVote b) (IsToCommit b) (commit_step b) (λ p o seen told i right d. decided_so p b o seen told i right d)
     log f after m.whole m.parts m.right was)
+
+-- ** the row of its transaction
+
+not_read_only : (s : Standing) → WasPrepared s → s ≡ ReadOnly → ⊥
+not_read_only s w e = subst WasPrepared e w
+
+-- a start over what they left finds it there, if it finds the row
+pub voter_in_row : (log : Log) (f : Branch → Standing) (after : AfterSessions log f) (b : Branch) (next : Origin) → HasSaidYes b log f after
+    → Finds log next → lists_row next.rows b.gtrid ≡ true → has_branch (participants_in next.rows b.gtrid) b ≡ true
+voter_in_row log f after b next said finds row = by (inv.covered b.gtrid has b refl (begun_is_started (resumed m.whole next) b all (prepared_begun _ was)))
+  where
+    m : IsOneHistory log f after
+    m = reached log f after
+
+    found : FindsLog m.whole next
+    found = m.finds next finds
+
+    all : AllRight (resumed m.whole next)
+    all = (gone_so log f after m, (refl, found.later, found.rows.number, found.records.number))
+
+    inv : Inv (resumed m.whole next)
+    inv = always (resumed m.whole next) all
+
+    voted : HasVoted b m.whole
+    voted = some_lasts (SaidYes b) (HasVoted b) (voted_step b) (λ p o seen told i right s. said_so p b o seen told i right s)
+        log f after m.whole m.parts m.right said
+
+    was : WasPrepared (standing (resumed m.whole next) b)
+    was = prepared_step b (gone m.whole) (Restarted next.incarnation (length next.rows) (length next.heuristic_rows)) all
+        (prepared_step b m.whole (Crashed Part.Manager) all.0 voted.prepared)
+
+    has : has_row (resumed m.whole next) b.gtrid ≡ true
+    has = sym (same_listed next.rows (rows_of (resumed m.whole next)) found.rows b.gtrid) ∙ row
+
+    by : (has_branch (participants_in (rows_of (resumed m.whole next)) b.gtrid) b ≡ true) ⊎ (was_told (resumed m.whole next) (says_read_only b) ≡ true)
+        → has_branch (participants_in next.rows b.gtrid) b ≡ true
+    by (inl there) = found.rows.participants b.gtrid b ∙ there
+    by (inr only) = absurd (not_read_only (standing (resumed m.whole next) b) was (inv.voted_read_only b only))

@@ -1,11 +1,15 @@
 -- What servers told of outcomes is so, after all sessions.
-use Rattle.std.proofs.Common.{◌≡◌, ◌∙◌, ◌≤◌, ◌⊎◌, inl, inr, ℕ, Bool, true, false, List, Option, Some, None, refl, sym, ap, subst}
-use Rattle.std.proofs.lemmas.Bool.{and_parts, true≢false}
+use Rattle.std.proofs.Common.{◌≡◌, ◌∙◌, ◌≤◌, ◌⊎◌, inl, inr, ℕ, Bool, true, false, ◌&&◌, ◌||◌, List, [], ◌∷◌, Option, Some, None, refl, sym, ap, subst}
+use Rattle.std.proofs.lemmas.Bool.{and_parts, eq-eqb, true≢false}
 use Rattle.std.specs.FinMap.{get}
+use Rattle.std.specs.List.{list_any}
+use Rattle.std.specs.Ordering.{eq_by_cmp}
+use Rattle.std.specs.Global.{Vec}
 use Rattle.std.specs.Prelude.{MatchBool, if◌then◌else◌, is_some, nat_eq, nat_lt, unwrap_or}
 use Rattle.xa_base.proofs.BranchKeys.{branch_eq-refl}
-use Rattle.xa_base.specs.Branch.{branch_cmp, branch_eq}
+use Rattle.xa_base.specs.Branch.{branch_cmp, branch_eq, gtrid_eq}
 use Rattle.xa_base.specs.StateTable.{broken}
+use Rattle.xa_base.specs.Xid.{Xid}
 use Rattle.xa_base.specs.declared.answer.Answer.TheVariants.{Ret}
 use Rattle.xa_base.specs.declared.branch.Gtrid.{Gtrid}
 use Rattle.xa_base.specs.declared.call.Call.TheVariants as Calls
@@ -13,29 +17,33 @@ use Rattle.xa_base.specs.declared.code.Code.TheVariants.{Heuristic, Success}
 use Rattle.xa_base.specs.declared.refusal.Refusal.TheVariants.{Limit, Memory}
 use Rattle.xa_base.specs.declared.state.Standing.{Standing}
 use Rattle.xa_base.specs.declared.state.Standing.TheVariants.{Committed, Completed, Prepared}
-use Rattle.xa_log.specs.Content.{Content, participants_of}
+use Rattle.xa_base.proofs.BranchOrder.{branches_total}
+use Rattle.xa_base.proofs.Orders.{branch_swap}
+use Rattle.xa_log.specs.Content.{Content, participants_of, with_bump}
 use Rattle.xa_log.specs.Contract.{Moment}
-use Rattle.xa_log.specs.KeySet.{KeySet, contains, contains-empty}
+use Rattle.xa_log.specs.KeySet.{KeySet, contains, contains-empty, contains-from_list, from_list}
 use Rattle.xa_log.specs.KeySet.{empty as nobody}
-use Rattle.xa_model.specs.Trace.{Answer, Branch, Call, How, Line, Origin}
+use Rattle.xa_model.specs.Facts.{has_branch, participants_in}
+use Rattle.xa_model.specs.Trace.{Answer, Branch, Call, How, Line, Origin, Row}
 use Rattle.xa_monitor.specs.Agreement.{MayAllStand, MayAllStand.AsTold, MayAllStand.CutOff, MayAllStand.EndedAlone, MayAllStand.UnderWay}
 use Rattle.xa_monitor.specs.Seen.{Seen, Seen.Answered}
 use Rattle.xa_monitor.specs.Standings.{Comes}
-use Rattle.xa_outcomes.proofs.Decided.{found_commits, will_commit}
+use Rattle.xa_outcomes.proofs.Decided.{found_commits, voter_in_row, will_commit}
 use Rattle.xa_outcomes.proofs.HeuristicEnds.{ends_stay}
 use Rattle.xa_outcomes.proofs.OneHistory.{are_parts}
 use Rattle.xa_outcomes.proofs.Undecided.{never_committed, uncommitted}
 use Rattle.xa_outcomes.proofs.ServedSessions.{all_on}
 use Rattle.xa_outcomes.specs.Outcomes.{IsDecidedAfterVote, IsUndecidedSoFar, SaidYes, TellsHeuristic, WillCommit}
-use Rattle.xa_outcomes.specs.Served.{AreOwedRows, FoundRowsWillCommit, IsUntoldSoFar, NeverToldIsNeverCommitted, OwedAreLogged, ServedSessionsAreParts, ToldDecidedWillCommit, ToldHeuristicEndsStay, UntoldIsLeftUndecided}
+use Rattle.xa_outcomes.specs.Served.{AreOwedRows, FoundRowsWillCommit, IsUntoldSoFar, NeverToldIsNeverCommitted, OwedAreLogged, OwedTellsOfRows, ServedSessionsAreParts, ToldDecidedWillCommit, ToldHeuristicEndsStay, UntoldIsLeftUndecided, WasToldYes}
 use Rattle.xa_requests.specs.declared.response.Response.TheVariants as responses
 use Rattle.xa_server.proofs.LeftLogs.{listed, raised_once, start_of}
 use Rattle.xa_server.proofs.SessionChains.{Laws}
-use Rattle.xa_server.specs.Recoveries.{TellsOwed}
+use Rattle.xa_server.specs.Recoveries.{PerformsOwed, TellsOwed}
 use Rattle.xa_server.specs.Sessions.{AreServed, AreServed.Between, AreServed.NoneYet, AreServed.OneMore, WasLeft}
 use Rattle.xa_server.specs.Transactions.{AreServedFor, AreServedFor.Between as BetweenFor, AreServedFor.NoneYet as NoneYetFor, AreServedFor.OneMore as OneMoreFor, HasNoRowOf, MayStandFor, MayStandFor.AsTold as AsToldFor, MayStandFor.CutOff as CutOffFor, MayStandFor.EndedAlone as EndedAloneFor, MayStandFor.UnderWay as UnderWayFor, MayTurn, MayTurn.EndsByItself, WasLeftUndecided}
 use Rattle.xa_server.specs.declared.server.Server.{Server}
 use Rattle.xa_session.specs.Logging.{LeavesContent}
+use Rattle.xa_tm.specs.Book.{Waiting, row_in}
 use Rattle.xa_tm.specs.Calls.{book_in}
 use Rattle.xa_tm.specs.Laws.{StartRowsAreApart}
 use Rattle.xa_tm.specs.Owed.{AreOwed}
@@ -175,18 +183,74 @@ row_there c b has = by (get c.decisions b.gtrid) has
     by (Some set) e = refl
     by None e = absurd (true≢false (sym e ∙ contains-empty branch_cmp b))
 
-pub owed_logged : (L : Type 0) → OwedAreLogged L
-owed_logged L first rm told c owes_so performs = by (nat_lt rm first.session.lines.rms) performs
+any_is : (ps : List Branch) (b : Branch) → list_any (eq_by_cmp branch_cmp b) ps ≡ has_branch ps b
+any_is [] b = refl
+any_is (p ∷ ps) b = (λ i. branch_swap p b i || any_is ps b i)
+
+abbrev waits_in : Option Waiting → Branch → Bool
+waits_in None b = false
+waits_in (Some set) b = contains set b
+
+waits_is : (xs : List Row) (g : Gtrid) (b : Branch) → has_branch (participants_in xs g) b ≡ waits_in (row_in xs g) b
+waits_is [] g b = refl
+waits_is (x ∷ xs) g b = by (gtrid_eq x.gtrid g) (waits_is xs g b)
   where
-    rows : AreOwed (book_in first.session.manager) rm told.items → AreOwedRows c told.items
-    rows owed = record {
+    by : (t : Bool) → has_branch (participants_in xs g) b ≡ waits_in (row_in xs g) b
+        → has_branch (if t then x.participants else participants_in xs g) b
+        ≡ waits_in (if t then Some (from_list x.participants) else row_in xs g) b
+    by true rest = sym (contains-from_list branches_total x.participants b ∙ any_is x.participants b)
+    by false rest = rest
+
+waits_at : (x : Option Waiting) (b : Branch) → waits_in x b ≡ true → contains (unwrap_or x nobody) b ≡ true
+waits_at (Some set) b e = e
+waits_at None b e = absurd (true≢false (sym e))
+
+same_truth : (s t : Bool) → (s ≡ true → t ≡ true) → (t ≡ true → s ≡ true) → s ≡ t
+same_truth true t f g = sym (f refl)
+same_truth false true f g = g refl
+same_truth false false f g = refl
+
+-- the reply lists what the book owes
+owed_of : {L : Type 0} (first : Server L) (rm : ℕ) (told : Vec Xid) → PerformsOwed rm first (responses.Owed told)
+    → AreOwed (book_in first.session.manager) rm told.items
+owed_of first rm told performs = by (nat_lt rm first.session.lines.rms) performs
+  where
+    by : (t : Bool) → MatchBool t (TellsOwed (book_in first.session.manager) rm (responses.Owed told) ⊎ (responses.Owed told ≡ responses.Refused Memory))
+        (responses.Owed told ≡ responses.Refused Limit) → AreOwed (book_in first.session.manager) rm told.items
+    by true (inl owed) = owed
+    by true (inr refused) = absurd (cc)
+    by false refused = absurd (cc)
+
+module _ {L : Type 0} (moment : L → Moment) (laws : Laws L) (have_content : StartsHaveContent) (are_apart : StartRowsAreApart) where
+  -- the row of the log that is left has each branch that voted yes
+  voter_waits : (name : List ℕ) (last : Server L) (f : Branch → Standing) (c : Content) (served : AreServed moment name (Some last) f) (b : Branch)
+      → LeavesContent moment last.session.manager c → WasToldYes moment name b (Some last) f served → is_some (get c.decisions b.gtrid) ≡ true
+      → contains (participants_of c b.gtrid) b ≡ true
+  voter_waits name last f c served b left said some =
+      let on = all_on moment name laws (SaidYes b) (said_still b) b.gtrid (Some last) f served c left (start_of c) (raised_once have_content are_apart c) in
+      let has = have_content (start_of c) (with_bump c) refl refl refl in
+      waits_at (get c.decisions b.gtrid) b
+      (sym (ap (λ r. waits_in r b) (has.rows b.gtrid))
+      ∙ (sym (waits_is (start_of c).rows b.gtrid b)
+      ∙ voter_in_row on.log f on.after b (start_of c) (on.some said) on.finds (listed have_content are_apart c b.gtrid ∙ some)))
+
+  pub owed_tells : OwedTellsOfRows moment
+  owed_tells name last f c served b left said first told found same owes_so performs =
+      let owed = owed_of first b.rm told performs in
+      record {
+        set = owed.set;
+        told_are = owed.listed;
+        tells = owed.each b ∙ (owes_so b.rm b ∙ (ap (λ t. t && contains (participants_of found b.gtrid) b) (eq-eqb b.rm b.rm refl)
+            ∙ (ap (λ ds. contains (unwrap_or (get ds b.gtrid) nobody) b) same.decisions
+            ∙ same_truth (contains (participants_of c b.gtrid) b) (is_some (get c.decisions b.gtrid)) (row_there c b)
+            (voter_waits name last f c served b left said))));
+      }
+
+pub owed_logged : (L : Type 0) → OwedAreLogged L
+owed_logged L first rm told c owes_so performs =
+    let owed = owed_of first rm told performs in
+    record {
       set = owed.set;
       told_are = owed.listed;
       rows = λ b has. row_there c b (and_parts (nat_eq b.rm rm) (contains (participants_of c b.gtrid) b) (sym (owes_so rm b) ∙ (sym (owed.each b) ∙ has))).1;
     }
-
-    by : (t : Bool) → MatchBool t (TellsOwed (book_in first.session.manager) rm (responses.Owed told) ⊎ (responses.Owed told ≡ responses.Refused Memory))
-        (responses.Owed told ≡ responses.Refused Limit) → AreOwedRows c told.items
-    by true (inl owed) = rows owed
-    by true (inr refused) = absurd (cc)
-    by false refused = absurd (cc)

@@ -29,6 +29,7 @@ use Rattle.xa_server.specs.Votes.{IsLogged}
 use Rattle.xa_server.specs.declared.server.Server.{Server}
 use Rattle.xa_session.specs.Logging.{LeavesContent}
 use Rattle.xa_session.specs.Tracking.{IsRaisedFrom}
+use Rattle.xa_tm.specs.BookAndLog.{SameRowsAndRecords}
 use Rattle.xa_tm.specs.Calls.{book_in}
 
 -- ** the parts of the one history
@@ -158,6 +159,22 @@ abbrev pub OwedAreLogged : Type 0 → Type 0
 OwedAreLogged L =
     (first : Server L) (rm : ℕ) (told : Vec Xid) (c : Content) → OwesRowsOf (book_in first.session.manager) c
     → PerformsOwed rm first (responses.Owed told) → AreOwedRows c told.items
+
+-- What `owed` of a branch's resource manager is replied by tells whether the log has the row of its
+-- transaction: the branch is among these exactly if it does.
+pub record TellsOfRow (log : Content) (b : Branch) (told : List Xid) : Type 0 where
+  pub set : KeySet branch_cmp
+  pub told_are : told ≡ map xid_of_branch (items set)
+  pub tells : contains set b ≡ is_some (get log.decisions b.gtrid)
+
+-- It does at a start over the log that is left, of a branch whose vote XA_OK one of these sessions
+-- told, also if the last one was left in a request to commit it.
+abbrev pub OwedTellsOfRows : {L : Type 0} → (L → Moment) → Type 0
+OwedTellsOfRows {L} moment =
+    (name : List ℕ) (last : Server L) (f : Branch → Standing) (c : Content) (served : AreServed moment name (Some last) f) (b : Branch)
+    → LeavesContent moment last.session.manager c → WasToldYes moment name b (Some last) f served
+    → (first : Server L) (told : Vec Xid) (found : Content) → SameRowsAndRecords found c → OwesRowsOf (book_in first.session.manager) found
+    → PerformsOwed b.rm first (responses.Owed told) → TellsOfRow c b told.items
 
 -- ** decided
 

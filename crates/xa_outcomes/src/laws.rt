@@ -4,7 +4,7 @@ ghost use Rattle.xa_outcomes.specs.Outcomes.{DecidedWillCommit, FoundWillCommit,
 ghost use Rattle.xa_outcomes.specs.Outcomes.{NeverDecidedIsNeverCommitted, UndecidedIsUncommitted};
 ghost use Rattle.xa_outcomes.specs.Parts.{SessionsAreParts};
 ghost use Rattle.xa_outcomes.specs.Served.{FoundRowsWillCommit, NeverToldIsNeverCommitted, OwedAreLogged};
-ghost use Rattle.xa_outcomes.specs.Served.{ServedSessionsAreParts, ToldDecidedWillCommit};
+ghost use Rattle.xa_outcomes.specs.Served.{OwedTellsOfRows, ServedSessionsAreParts, ToldDecidedWillCommit};
 ghost use Rattle.xa_outcomes.specs.Served.{ToldHeuristicEndsStay, UntoldIsLeftUndecided};
 
 use xa_log::DecisionLog;
@@ -80,6 +80,9 @@ pub fn served_sessions_are_parts<L: DecisionLog + Drop>()
 ///
 /// - `owed`: the branches that `owed` lists at a start over a log (`owed` of
 ///   [`Server::new`](xa_server::Server::new)) have the row of their transactions in it;
+/// - `listed`: whether `owed` of a branch's resource manager, at a start over the log that is left,
+///   lists the branch tells whether that log has the row of its transaction, if a session had told
+///   the branch's vote XA_OK;
 /// - `found`: if a session began over a log with the row of a transaction, each branch of it that
 ///   had voted XA_OK in an earlier one is committed, or stands prepared still, or its database
 ///   ended it by itself. No branch of it is ever rolled back or lost;
@@ -89,6 +92,7 @@ pub fn served_sessions_are_parts<L: DecisionLog + Drop>()
 ///   [`served_transactions_agree`](xa_server::laws::served_transactions_agree)).
 pub fn next_starts_tell<L: DecisionLog + Drop>()
     ensures owed { OwedAreLogged L }
+    ensures listed { OwedTellsOfRows L.moment }
     ensures found { FoundRowsWillCommit L.moment }
     ensures undecided { UntoldIsLeftUndecided L.moment }
 {

@@ -1,4 +1,4 @@
-use Rattle.xa_outcomes.proofs.ServedOutcomes.{found_rows, owed_logged, untold_undecided}
+use Rattle.xa_outcomes.proofs.ServedOutcomes.{found_rows, owed_logged, owed_tells, untold_undecided}
 use Rattle.xa_server.proofs.SessionChains.{Laws}
 use Rattle.xa_outcomes.proofs.laws.next_starts_tell.Goals as goal
 
@@ -17,6 +17,7 @@ returns g c =
     let starts = c.starts_are_histories.ensures in
     record {
       owed = owed_logged g.row.L.Denot;
+      listed = owed_tells moment laws starts.content starts.apart;
       found = found_rows moment laws starts.content starts.apart;
       undecided = untold_undecided moment laws starts.content starts.apart;
     }
