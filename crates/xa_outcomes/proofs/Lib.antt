@@ -4,6 +4,7 @@ mod HeuristicEnds
 mod Lasting
 mod OneHistory
 mod Reached
+mod Recovered
 mod ServedOutcomes
 mod ServedSessions
 mod Undecided

@@ -34,7 +34,7 @@ use Rattle.xa_outcomes.proofs.OneHistory.{are_parts}
 use Rattle.xa_outcomes.proofs.Undecided.{never_committed, uncommitted}
 use Rattle.xa_outcomes.proofs.ServedSessions.{all_on}
 use Rattle.xa_outcomes.specs.Outcomes.{IsDecidedAfterVote, IsUndecidedSoFar, SaidYes, TellsHeuristic, WillCommit}
-use Rattle.xa_outcomes.specs.Served.{AreOwedRows, FoundRowsWillCommit, IsUntoldSoFar, NeverToldIsNeverCommitted, OwedAreLogged, OwedTellsOfRows, ServedSessionsAreParts, ToldDecidedWillCommit, ToldHeuristicEndsStay, UntoldIsLeftUndecided, WasToldYes}
+use Rattle.xa_outcomes.specs.Served.{FoundRowsWillCommit, IsUntoldSoFar, NeverToldIsNeverCommitted, OwedAreLogged, OwedTellsOfRows, ServedSessionsAreParts, ToldDecidedWillCommit, ToldHeuristicEndsStay, UntoldIsLeftUndecided, WasToldYes}
 use Rattle.xa_requests.specs.declared.response.Response.TheVariants as responses
 use Rattle.xa_server.proofs.LeftLogs.{listed, raised_once, start_of}
 use Rattle.xa_server.proofs.SessionChains.{Laws}

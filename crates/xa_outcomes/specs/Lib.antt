@@ -1,4 +1,5 @@
 pub mod Outcomes
 pub mod Parts
+pub mod Recovered
 pub mod Served
 pub mod WorkedSessions

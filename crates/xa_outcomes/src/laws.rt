@@ -3,11 +3,13 @@
 ghost use Rattle.xa_outcomes.specs.Outcomes.{DecidedWillCommit, FoundWillCommit, HeuristicEndsStay};
 ghost use Rattle.xa_outcomes.specs.Outcomes.{NeverDecidedIsNeverCommitted, UndecidedIsUncommitted};
 ghost use Rattle.xa_outcomes.specs.Parts.{SessionsAreParts};
+ghost use Rattle.xa_outcomes.specs.Recovered.{ServedRecoveriesComplete};
 ghost use Rattle.xa_outcomes.specs.Served.{FoundRowsWillCommit, NeverToldIsNeverCommitted, OwedAreLogged};
 ghost use Rattle.xa_outcomes.specs.Served.{OwedTellsOfRows, ServedSessionsAreParts, ToldDecidedWillCommit};
 ghost use Rattle.xa_outcomes.specs.Served.{ToldHeuristicEndsStay, UntoldIsLeftUndecided};
 
 use xa_log::DecisionLog;
+use xa_server::laws::heard_ends_stay;
 use xa_session::laws::{sessions_are_explained, starts_find_the_log, waiting_calls_are_tracked};
 use xa_tm::laws::starts_are_histories;
 
@@ -100,4 +102,15 @@ pub fn next_starts_tell<L: DecisionLog + Drop>()
     starts_find_the_log::<L>();
     sessions_are_explained::<L>();
     waiting_calls_are_tracked::<L>();
+}
+
+/// A recovery ends what it lists. If the lines of the last session and their replies tell a page of
+/// a resource manager, and of each branch on it that an earlier start began that it has ended
+/// (committed, rolled back, or by its database), and the page left out none that is prepared still,
+/// then no branch of an earlier start is prepared there.
+pub fn recoveries_complete<L: DecisionLog + Drop>()
+    ensures { ServedRecoveriesComplete L.moment }
+{
+    heard_ends_stay::<L>();
+    told_outcomes_stand::<L>();
 }
