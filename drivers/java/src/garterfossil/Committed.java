@@ -12,9 +12,9 @@ import java.util.HexFormat;
  * all resources have acknowledged one, its row leaves the log. If one of them lists a branch of it
  * later, that resource was put back to an earlier moment; or the log was.
  *
- * <p>It outlives the program, but isn't synced: what it lacks after a failure of its machine is ended
- * as the log says. The driver in Python has the same file: so many transactions of each session, each
- * in a place by its number.
+ * <p>It outlives the program, but isn't synced: what it lacks after a failure of its machine is
+ * ended as the log says. The driver in Python has the same file: so many transactions of each
+ * session, each in a place by its number.
  */
 final class Committed {
     private static final long MOST = 65536;
@@ -23,7 +23,9 @@ final class Committed {
 
     private final RandomAccessFile file;
 
-    /** Those of the log at a path: of another one the file may have been, unless it is to be kept. */
+    /**
+     * Those of the log at a path: of another one the file may have been, unless it is to be kept.
+     */
     Committed(Path log, boolean isKept) throws Fault.Unavailable {
         Path path = log.resolveSibling(log.getFileName() + "-committed");
         try {

@@ -242,16 +242,16 @@ class Coordinator {
 
     /**
      * Writes what was posted, unless another thread does: that writes this too. If it can't be
-     * written, the process is ended, and whoever waits finds that out by reading: what it had replied
-     * before is still to be read.
+     * written, the process is ended, and whoever waits finds that out by reading: what it had
+     * replied before is still to be read.
      */
     private void write() {
         write(true);
     }
 
     /**
-     * The same by the thread that reads, after the reply to a decision, so that the next one is made
-     * at once. It waits for no reply.
+     * The same by the thread that reads, after the reply to a decision, so that the next one is
+     * made at once. It waits for no reply.
      */
     private void writeNext() {
         write(false);

@@ -271,13 +271,19 @@ final class Session {
             + " lost, or another one put in its place? Start with the right one: this one would roll back what is decided");
     }
 
-    /** Sees that the log knows of what is decided and listed, and that nothing of it is over. */
+    /**
+     * Sees that the log knows of what is decided and listed, and that nothing of it, or of what is
+     * rolled back, is over.
+     */
     void seeKnown(ResourceManager rm, List<BranchXid> listed) throws Fault.Gone {
         for (BranchXid xid : listed) {
             String gtrid = xid.transaction();
             if (mirror != null && mirror.isUnknownToLog(gtrid)) {
                 shut(rm + " lists " + xid + ", which the mirror has decided to commit, and of which this log knows nothing: it is older than the mirror."
                     + " Put the right one back, or make it of the mirror (garterfossil.Command failover)");
+            }
+            if (xid.incarnation() < incarnation && undone.contains(xid)) {
+                returned(rm, List.of(xid));
             }
             if (xid.incarnation() < incarnation && committed.has(gtrid) && !coordinator.ask("fate " + gtrid).equals("committed")) {
                 shut(rm + " lists " + xid + " as prepared, which is over: it isn't as it was, or the log isn't. Its transaction was committed, so by hand: "

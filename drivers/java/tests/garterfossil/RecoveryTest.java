@@ -195,6 +195,24 @@ public class RecoveryTest {
     }
 
     @Test
+    public void aRollbackOfAnEarlierSessionThatTheResourceForgot() throws Exception {
+        world.manager.close();
+        BranchXid old = world.own(1, 99);
+        world.a.branches.put(old, StandInResource.State.PREPARED);
+        world.manager = world.builder().start();
+        nothingIsLeft();
+        Coordinator before = world.manager.up().coordinator;
+        // The resource crashes, and is recovered once more in this session.
+        world.a.branches.put(old, StandInResource.State.PREPARED);
+        world.loseOneAt(world.a);
+        nothingIsLeft();
+        assertEquals(List.of(old, old), world.a.rolledBack.subList(0, 2));
+        assertEquals("the coordinator is gone: what was rolled back at a is there again", before.lost().getMessage());
+        world.overBoth().commit();
+        world.manager.close();
+    }
+
+    @Test
     public void aLogThatIsMissingWhileItIsUsed() throws Exception {
         Files.delete(world.folder.resolve("log"));
         world.dieAt("start");
