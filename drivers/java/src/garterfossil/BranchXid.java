@@ -45,7 +45,12 @@ public final class BranchXid implements Xid {
         if (parts.length != 3) {
             throw new IllegalArgumentException("no branch: " + text);
         }
-        return new BranchXid(Integer.parseInt(parts[0]), HEX.parseHex(parts[1]), HEX.parseHex(parts[2]));
+        BranchXid found = new BranchXid(Integer.parseInt(parts[0]), HEX.parseHex(parts[1]), HEX.parseHex(parts[2]));
+        // Another spelling is the name of another branch.
+        if (!found.toString().equals(text)) {
+            throw new IllegalArgumentException("no branch: " + text);
+        }
+        return found;
     }
 
     /** An identifier as a resource lists it. */

@@ -380,6 +380,15 @@ public class RecoveryTest {
     }
 
     @Test
+    public void anIdentifierHasOneSpelling() {
+        String rest = ":73000000000000000700000000000000ab:0000000000000000";
+        assertEquals("7" + rest, BranchXid.parse("7" + rest).toString());
+        for (String text : List.of("07" + rest, "+7" + rest, "7" + rest.toUpperCase(java.util.Locale.ROOT))) {
+            assertThrows(text, IllegalArgumentException.class, () -> BranchXid.parse(text));
+        }
+    }
+
+    @Test
     public void placesOfALog() {
         assertEquals("nothing sees there whether a program of another machine has it too", KeptLog.dangerOf("nfs4"));
         assertEquals("it is lost with the container or the machine, and what is prepared then waits for somebody", KeptLog.dangerOf("overlay"));
