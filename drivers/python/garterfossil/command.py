@@ -235,6 +235,8 @@ def _end(configuration: Configuration, text: str, is_sure: bool) -> int:
     with _held(configuration, path, log) as incarnation:
         if xid.incarnation >= incarnation:
             raise SetupError(f"the log {path} is older than the branch {xid}, so nothing is ended: put the right one back")
+        if incarnation != log.incarnation + 1:
+            raise SetupError(f"another program has had the log {path} since it was looked at, so nothing is ended: look again")
         return _end_at(configuration, rm, call, is_sure)
 
 

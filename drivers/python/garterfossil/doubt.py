@@ -8,6 +8,7 @@ from dataclasses import dataclass, field, replace
 from typing import Dict, Iterable, List, Mapping, Optional, Tuple
 
 from .adapters.base import Database, Place
+from .committed import was_committed
 from .configuration import Configuration
 from .errors import XaError
 from .logs import Log, Names, logs_of_workers
@@ -28,8 +29,10 @@ def objection(log: Log, xid: Xid) -> Optional[str]:
 
 
 def call_for(log: Log, xid: Xid) -> str:
-    """The call that a branch waits for, unless there is an objection: the log decides."""
-    return "xa_commit" if xid.transaction in log.decisions else "xa_rollback"
+    """The call that a branch waits for, unless there is an objection: the log decides. If its row has left the log, and a database was put
+    back since, what was committed lately does. Raises SetupError."""
+    gtrid = xid.transaction
+    return "xa_commit" if gtrid in log.decisions or was_committed(log.path, gtrid) else "xa_rollback"
 
 
 def manager_of_log(log: Log) -> str:

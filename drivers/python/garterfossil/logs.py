@@ -75,6 +75,8 @@ class Log:
     is_in_use: bool = False
     #: Why it can't be read now.
     fault: Optional[str] = None
+    #: Its path. Empty, if there is no log.
+    path: str = ""
 
     @classmethod
     def at(cls, program: str, path: str) -> Log:
@@ -91,7 +93,7 @@ class Log:
         is_in_use = COPY in said
         # What is decided over a log that is in use comes and goes.
         decisions = _branches_of(program, path, {} if is_in_use else decided)
-        return cls(int(heads["incarnation "][0]), decisions, [line for line in rows if ":" in line], names, is_in_use)
+        return cls(int(heads["incarnation "][0]), decisions, [line for line in rows if ":" in line], names, is_in_use, path=path)
 
 
 def _printed(program: str, path: str, *options: str) -> Tuple[List[str], str]:

@@ -91,6 +91,8 @@ class Session:
         self.names = settings.names_over(kept)
         self.identities = Identities(settings.log, self.names.manager, is_new)
         self.identities.see_open()
+        # Before the file beside it says that what stands there is this log's.
+        self.committed = Committed(settings.log, self.identities.are_kept)
         self._rms = [
             ResourceManager(database, place, settings.databases.label(place.number), self.identities)
             for database, place in settings.databases.placed(self.names.manager, settings.threads, settings.patience)
@@ -102,12 +104,11 @@ class Session:
         self._next: List[Optional[Reply]] = [None] * (threads + 1)
         self._live: List[Optional[str]] = [None] * (threads + 1)
         self.keeper = Keeper(self)
-        self._begin(settings.log, kept, is_first)
+        self._begin(kept, is_first)
 
-    def _begin(self, path: str, kept: Optional[Log], is_first: bool) -> None:
+    def _begin(self, kept: Optional[Log], is_first: bool) -> None:
         """The coordinator is up: what it knows is asked for, and what was left is ended."""
         try:
-            self.committed = Committed(path, self.identities.are_kept)
             self.outcomes.find(self.coordinator)
             self.identities.note_session(self.coordinator.incarnation)
             self._take_over(kept, is_first)

@@ -236,6 +236,28 @@ class Commands(unittest.TestCase):
         self.assertIn("older", printed)
         self.assertIn(later, self.databases[0].prepared)
 
+    def test_end_refuses_a_log_that_another_program_had_meanwhile(self):
+        """It may have decided what the log that was looked at doesn't know."""
+        self.in_doubt()
+        decided = {gtrid: [branch(gtrid, 0)] for gtrid in (DECIDED, UNDECIDED)}
+        self.databases[0].before["listed"] = lambda: self.has_log(decided, incarnation=2)
+        status, printed = self.does("end", str(branch(UNDECIDED, 0)), "--yes")
+        self.assertEqual(status, 2, printed)
+        self.assertIn("another program has had the log", printed)
+        self.assertEqual(len(self.databases[0].prepared), 2)
+
+    def test_what_was_committed_is_committed_at_a_database_that_was_put_back(self):
+        """The log has no row of it any more."""
+        with self.made.manager() as xa, xa.transaction() as t:
+            t[0].execute("take")
+            t[1].execute("give")
+            xid = t[1].xid
+        self.databases[1].written.clear()
+        self.databases[1].prepared[xid] = ["give"]
+        self.assertIn(f"{xid}: waits for xa_commit", self.does("status")[1])
+        self.assertEqual(self.does("end", str(xid), "--yes")[0], 0)
+        self.assertEqual(self.databases[1].written, ["give"])
+
 
 if __name__ == "__main__":
     unittest.main()

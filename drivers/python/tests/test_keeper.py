@@ -209,6 +209,14 @@ class Stops(Case):
                 self.manager()
         self.assertEqual(list(self.right.prepared), [xid])
 
+    @unittest.skipUnless(os.geteuid() == 0, "root alone gives a file away")
+    def test_what_root_has_recovered_the_user_of_the_log_goes_on_with(self):
+        self.manager().close()
+        os.chown(self.log, 65534, 65534)
+        os.remove(f"{self.log}-committed")
+        self.manager().close()
+        self.assertEqual(os.stat(f"{self.log}-committed").st_uid, 65534)
+
     def test_what_another_log_at_the_same_place_has_committed(self):
         """Its transactions have the same numbers."""
         xa = self.manager()
