@@ -30,12 +30,16 @@ final class ByHand implements AutoCloseable {
         }
         BranchXid xid = parsed(text);
         Resource at = at(listings, xid, xid.isOf(kept.manager, xid.rm()));
+        String call = Doubt.callFor(log, kept, xid);
         Coordinator hold = new Coordinator(starter, kept.served(log, program, 1), patience);
-        if (xid.incarnation() >= Long.parseLong(hold.greeting.split(" ")[1])) {
+        long incarnation = Long.parseLong(hold.greeting.split(" ")[1]);
+        if (xid.incarnation() >= incarnation || incarnation != kept.incarnation + 1) {
             hold.quit();
-            throw new Fault.Unavailable("the log " + log + " is older than the branch " + xid + ", so nothing is ended: put the right one back");
+            throw new Fault.Unavailable(xid.incarnation() >= incarnation
+                ? "the log " + log + " is older than the branch " + xid + ", so nothing is ended: put the right one back"
+                : "another program has had the log " + log + " since it was looked at, so nothing is ended: look again");
         }
-        return new ByHand(at, xid, Doubt.callFor(kept, xid), hold);
+        return new ByHand(at, xid, call, hold);
     }
 
     /** A branch of a manager that is gone for good, and its log with it, as an operator says. */

@@ -1,5 +1,6 @@
 package garterfossil;
 
+import java.nio.file.Path;
 import java.util.ArrayList;
 import java.util.List;
 import java.util.Map;
@@ -21,6 +22,7 @@ public final class Doubt {
     /** So many branches of another manager are told. */
     private static final int MOST_TOLD = 20;
 
+    private final Path log;
     private final KeptLog kept;
     private final long young;
     private final List<String> lines = new ArrayList<>();
@@ -31,7 +33,8 @@ public final class Doubt {
      * That of a log which holds this, as the resources list it; of a program that has the log
      * without what is listed for less than so long.
      */
-    Doubt(String log, KeptLog kept, Supplier<List<Listing>> look, long young) throws Fault.Unavailable {
+    Doubt(Path log, KeptLog kept, Supplier<List<Listing>> look, long young) throws Fault.Unavailable {
+        this.log = log;
         this.kept = kept;
         this.young = young;
         lines.add("log " + log + ", of " + (kept.manager.isEmpty() ? "a manager without a name" : "the manager " + kept.manager) + ": " + (kept.isInUse
@@ -82,19 +85,21 @@ public final class Doubt {
         return it.all.stream().filter(xid -> xid.isOf(kept.manager, number)).collect(Collectors.toList());
     }
 
-    private void tell(int number, Listing it) {
+    private void tell(int number, Listing it) throws Fault.Unavailable {
         List<BranchXid> own = own(number, it);
         String head = "resource " + number + ", " + it.resource.name() + ": ";
         lines.add(head + (it.fault == null ? own.size() + " in doubt" : "not reached: " + it.fault));
         unreachable += it.fault == null ? 0 : 1;
         branches += own.size();
-        own.forEach(xid -> tell(it.resource, xid));
+        for (BranchXid xid : own) {
+            tell(it.resource, xid);
+        }
         it.all.stream().filter(xid -> !xid.manager().equals(kept.manager)).collect(Collectors.groupingBy(BranchXid::manager, TreeMap::new, Collectors.toList()))
             .forEach(this::tellOthers);
     }
 
-    private void tell(Resource resource, BranchXid xid) {
-        String objection = objection(kept, xid), call = callFor(kept, xid);
+    private void tell(Resource resource, BranchXid xid) throws Fault.Unavailable {
+        String objection = objection(kept, xid), call = callFor(log, kept, xid);
         if (kept.isInUse) {
             lines.add("  " + xid + ": the program that has the log is to end it; listed for " + seconds + " seconds");
         } else if (objection != null) {
@@ -119,9 +124,13 @@ public final class Doubt {
         return xid.incarnation() > kept.incarnation ? "the log is older than the branch, so it is another one, or a copy" : null;
     }
 
-    /** The call that a branch of the manager waits for: the log decides. */
-    static String callFor(KeptLog kept, BranchXid xid) {
-        return kept.decisions.containsKey(xid.transaction()) ? "xa_commit" : "xa_rollback";
+    /**
+     * The call that a branch of the manager waits for: the log decides. If its row has left the log,
+     * and a resource was put back since, what was committed lately does.
+     */
+    static String callFor(Path log, KeptLog kept, BranchXid xid) throws Fault.Unavailable {
+        String gtrid = xid.transaction();
+        return kept.decisions.containsKey(gtrid) || Committed.has(log, gtrid) ? "xa_commit" : "xa_rollback";
     }
 
     /** How many branches are in doubt, at the resources that were reached. */

@@ -172,7 +172,7 @@ public final class Manager implements AutoCloseable {
         public Doubt status() throws Fault {
             KeptLog kept = kept();
             looksAt(kept);
-            return new Doubt(log.toString(), kept, this::listings, Doubt.YOUNG);
+            return new Doubt(log, kept, this::listings, Doubt.YOUNG);
         }
 
         private KeptLog kept() throws Fault {

@@ -295,6 +295,11 @@ public class RecoveryTest {
         refusedSinceItIsOver(xid);
         assertEquals(Set.of(xid), world.a.branches.keySet());
         assertTrue(world.a.rolledBack.isEmpty());
+        // What looks, and what ends a branch by hand, say the same.
+        assertTrue(world.builder().status().toString().contains(xid + ": waits for xa_commit"));
+        try (ByHand it = world.builder().byHand(xid.toString())) {
+            assertEquals("a: make the call xa_commit of " + xid, it.toString());
+        }
     }
 
     @Test
@@ -933,7 +938,7 @@ public class RecoveryTest {
             }
         };
         world.a.calls.clear();
-        Doubt doubt = new Doubt("log", kept, () -> List.of(Listing.of(world.a), Listing.of(world.b)), 1);
+        Doubt doubt = new Doubt(Path.of("log"), kept, () -> List.of(Listing.of(world.a), Listing.of(world.b)), 1);
         assertEquals(1, doubt.branches());
         assertTrue(doubt.toString(), doubt.toString().contains("a program has it: it ends its branches by itself"));
         assertTrue(doubt.toString(), doubt.toString().contains("  " + stays + ": the program that has the log is to end it; listed for 1 seconds"));
@@ -968,6 +973,24 @@ public class RecoveryTest {
         assertEquals("no resource lists a branch " + decided + " of this manager", notByHand(decided));
         assertTrue(notByHand(later), notByHand(later).contains("is older than the branch " + later + ", so nothing is ended"));
         assertEquals(Set.of(later), world.a.branches.keySet());
+    }
+
+    @Test
+    public void nothingIsEndedByHandAsALogSaysThatAnotherProgramHadMeanwhile() throws Exception {
+        world.manager.close();
+        BranchXid xid = world.own(1, 9);
+        world.a.branches.put(xid, StandInResource.State.PREPARED);
+        // It may have decided what the log that was looked at doesn't know.
+        world.a.beforeConnect = () -> {
+            try {
+                world.put("incarnation", "7");
+            } catch (IOException error) {
+                throw new UncheckedIOException(error);
+            }
+        };
+        String text = notByHand(xid);
+        assertTrue(text, text.contains("another program has had the log"));
+        assertEquals(Set.of(xid), world.a.branches.keySet());
     }
 
     @Test
