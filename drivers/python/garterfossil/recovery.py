@@ -121,9 +121,11 @@ def _over(session: Session, rm: ResourceManager, listed: Set[Xid]) -> Set[Xid]:
 def stop(session: Session, why: str) -> SetupError:
     """Ends the session, and has none begin behind it, in this run of the program or another one,
     until somebody has looked: the next one would roll back what this one doesn't understand."""
-    session.identities.shut(why)
-    log.error("%s: nothing is done any more until somebody has looked", why)
-    session.coordinator.quit()
+    try:
+        session.identities.shut(why)
+    finally:
+        log.error("%s: nothing is done any more until somebody has looked", why)
+        session.coordinator.quit()
     return SetupError(why)
 
 

@@ -209,6 +209,19 @@ class Stops(Case):
                 self.manager()
         self.assertEqual(list(self.right.prepared), [xid])
 
+    def test_a_session_ends_also_where_it_cant_be_noted_why(self):
+        with self.manager() as xa:
+            with xa.transaction() as t:
+                xid = t[1].xid
+            session = xa._session
+            self.right.prepared[xid] = ["give"]
+            full = mock.patch("garterfossil.identities.os.replace", side_effect=OSError(28, "No space left on device"))
+            with full, self.assertLogs("garterfossil", logging.ERROR):
+                session._rms[1].is_recovery_due = True
+                session.see_to_recoveries()
+                wait_for(lambda: session.coordinator.is_gone)
+            self.right.prepared.clear()
+
     @unittest.skipUnless(os.geteuid() == 0, "root alone gives a file away")
     def test_what_root_has_recovered_the_user_of_the_log_goes_on_with(self):
         self.manager().close()
