@@ -125,8 +125,8 @@ public final class Doubt {
     }
 
     /**
-     * The call that a branch of the manager waits for: the log decides. If its row has left the log,
-     * and a resource was put back since, what was committed lately does.
+     * The call that a branch of the manager waits for: the log decides. If its row has left the
+     * log, and a resource was put back since, what was committed lately does.
      */
     static String callFor(Path log, KeptLog kept, BranchXid xid) throws Fault.Unavailable {
         String gtrid = xid.transaction();

@@ -30,6 +30,7 @@ import javax.jms.TextMessage;
 import javax.jms.XAConnection;
 import javax.jms.XAConnectionFactory;
 import javax.jms.XASession;
+import javax.transaction.xa.XAException;
 import org.junit.After;
 import org.junit.Before;
 import org.junit.Rule;
@@ -250,6 +251,7 @@ public class BrokerTest {
             Files.delete(world.folder.resolve(name));
         }
         isForbidden = true;
+        inner.before = () -> inner.answer("end TMFAIL", XAException.XA_RBROLLBACK);
         try (Logged logged = new Logged()) {
             manager = world.builder().resource(resource).start();
             assertEquals(1, logged.said.stream().filter(it -> it.startsWith("broker, at ") && it.contains("has nothing by which it could be known")).count());

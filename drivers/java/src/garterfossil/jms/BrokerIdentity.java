@@ -95,17 +95,27 @@ final class BrokerIdentity {
                 isDone = true;
                 return found;
             } finally {
-                resource.end(xid, isDone ? XAResource.TMSUCCESS : XAResource.TMFAIL);
                 if (isDone) {
+                    resource.end(xid, XAResource.TMSUCCESS);
                     resource.commit(xid, true);
                 } else {
-                    resource.rollback(xid);
+                    giveUp(resource, xid);
                 }
             }
         } catch (XAException error) {
             JMSException failed = new JMSException("the broker can't be asked which one it is");
             failed.initCause(error);
             throw failed;
+        }
+    }
+
+    /** The work has failed, and says why. What is left of the branch ends with the session. */
+    private static void giveUp(XAResource resource, BranchXid xid) {
+        try {
+            resource.end(xid, XAResource.TMFAIL);
+            resource.rollback(xid);
+        } catch (XAException error) {
+            // That it is to be rolled back the broker may say here already.
         }
     }
 
