@@ -2,9 +2,11 @@ package garterfossil;
 
 import java.time.Duration;
 import java.util.Map;
+import java.util.Set;
 import java.util.concurrent.CompletableFuture;
 import java.util.concurrent.ConcurrentHashMap;
 import java.util.concurrent.TimeUnit;
+import java.util.stream.Collectors;
 
 /**
  * Transactions whose votes were told, and to which the coordinator didn't reply before it ended:
@@ -25,8 +27,8 @@ final class Fates {
         expected.remove(gtrid);
     }
 
-    /** The next session begins, and is asked. */
-    void find(Coordinator coordinator) throws Fault {
+    /** The next session begins, and is asked: which of them are committed. */
+    Set<String> find(Coordinator coordinator) throws Fault {
         for (String gtrid : expected.keySet()) {
             Outcome fate = coordinator.told(coordinator.post("fate " + gtrid)).outcome();
             if (fate == null) {
@@ -35,6 +37,7 @@ final class Fates {
             // Later ones don't know it any more.
             found.putIfAbsent(gtrid, fate);
         }
+        return found.keySet().stream().filter(gtrid -> found.get(gtrid) == Outcome.COMMITTED).collect(Collectors.toSet());
     }
 
     /** Whatever is to have the decisions first has them: the threads that wait are told. */

@@ -387,7 +387,7 @@ public final class Manager implements AutoCloseable {
         begun = next;
         try {
             identities.begin(next.incarnation);
-            fates.find(coordinator);
+            fates.find(coordinator).forEach(committed::add);
             if (mirror != null) {
                 mirror.begin(next.incarnation);
             }

@@ -303,6 +303,17 @@ public class RecoveryTest {
     }
 
     @Test
+    public void aDatabaseThatWasPutBackSinceADecisionThatNobodyHeard() throws Exception {
+        world.dieAt("decided");
+        world.overBoth().commit();
+        World.eventually(() -> world.rows().isEmpty());
+        world.manager.close();
+        BranchXid xid = world.a.committed.get(0);
+        world.a.branches.put(xid, StandInResource.State.PREPARED);
+        refusedSinceItIsOver(xid);
+    }
+
+    @Test
     public void anOlderCopyOfALogOfTheSameSession() throws Exception {
         world.b.answer("commit", StandInResource.LOST_BEFORE);
         world.b.before = () -> world.b.isDown |= world.b.calls.contains("commit");
