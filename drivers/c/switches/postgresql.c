@@ -2,6 +2,7 @@
  * switches; nothing here knows of one. */
 #include "postgresql.h"
 
+#include <libpq-events.h>
 #include <stdio.h>
 #include <stdlib.h>
 #include <string.h>
@@ -26,12 +27,27 @@ static bool is_true(PGresult *result, ExecStatusType status)
 
 /* ** xa_open, xa_close */
 
+/* Looks at each result of the connection, also at those of the program's own statements. A branch
+ * that has changed a row needn't be asked whether it has written. */
+static int look_at_result(PGEventId event, void *info, void *connection)
+{
+    struct connection *c = connection;
+
+    if (event != PGEVT_RESULTCREATE)
+        return 1;
+    PGresult *result = ((PGEventResultCreate *)info)->result;
+    const char *tag = PQcmdStatus(result);
+    bool is_change = strncmp(tag, "INSERT ", 7) == 0 || strncmp(tag, "UPDATE ", 7) == 0 || strncmp(tag, "DELETE ", 7) == 0;
+    c->has_written = c->has_written || (is_change && atol(PQcmdTuples(result)) > 0);
+    return 1;
+}
+
 /* Work outside of a branch would be committed by itself: so one that begins later finds the
  * connection read-only. */
 static bool is_connected(struct connection *c, const char *info)
 {
     c->link = PQconnectdb(info);
-    if (PQstatus(c->link) == CONNECTION_OK
+    if (PQstatus(c->link) == CONNECTION_OK && PQregisterEventProc(c->link, look_at_result, "gf_postgresql", c) == 1
         && (!c->held.is_dynamic || is_true(PQexec(c->link, "SET default_transaction_read_only = on"), PGRES_COMMAND_OK)))
         return true;
     fprintf(stderr, "gf_postgresql: %s", PQerrorMessage(c->link));
@@ -95,6 +111,7 @@ static int begin(struct connection *c, const XID *xid, long flags)
     if (PQtransactionStatus(c->link) == PQTRANS_INTRANS || PQtransactionStatus(c->link) == PQTRANS_INERROR)
         return XAER_OUTSIDE;
     c->held.xid = *xid;
+    c->has_written = false;
     return call(c, STARTS, c->held.is_dynamic ? "BEGIN READ WRITE" : "BEGIN", NULL, flags);
 }
 
@@ -135,7 +152,11 @@ static int pg_prepare(XID *xid, int rmid, long flags)
     struct connection *c = connection_of(rmid);
     int refused = may_prepare(held_of(rmid), xid, flags);
 
-    return refused != XA_OK ? refused : call(c, LOOKS, "SELECT pg_current_xact_id_if_assigned()", NULL, flags);
+    if (refused != XA_OK)
+        return refused;
+    if (c->has_written)
+        return call(c, PREPARES, "PREPARE TRANSACTION", &c->held.xid, flags);
+    return call(c, LOOKS, "SELECT pg_current_xact_id_if_assigned()", NULL, flags);
 }
 
 static int pg_commit(XID *xid, int rmid, long flags)

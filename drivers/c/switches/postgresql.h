@@ -12,6 +12,7 @@ struct connection {
     enum step { NOTHING, STARTS, LOOKS, PREPARES, COMMITS, ROLLS_BACK, COMMITS_PREPARED, ROLLS_BACK_PREPARED } step;
     const XID *about;
     int vote;
+    bool has_written; /* a statement of the branch has said so */
     char tag[24], sqlstate[6];
     bool is_null;
     /* The page of a scan that comes next. */

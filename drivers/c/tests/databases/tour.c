@@ -187,6 +187,36 @@ static void ends(void)
     IS(holds("alone no"), 0);
 }
 
+/* Whether PostgreSQL is asked, before it prepares, if the branch has written. */
+static bool is_asked(const char *statement, const char *name)
+{
+    char text[8192] = "", of_mariadb[128];
+    FILE *trace = tmpfile();
+
+    snprintf(of_mariadb, sizeof of_mariadb, "INSERT INTO moved VALUES ('%s', 1)", name);
+    IS(tx_begin(), TX_OK);
+    IS(pg(statement), true);
+    IS(my(of_mariadb), true);
+    PGconn *link = gf_pg_connection(0);
+    PQtrace(link, trace);
+    IS(tx_commit(), TX_OK);
+    PQuntrace(link);
+    rewind(trace);
+    IS(fread(text, 1, sizeof text - 1, trace) > 0, true);
+    fclose(trace);
+    return strstr(text, "pg_current_xact_id_if_assigned") != NULL;
+}
+
+static void questions(void)
+{
+    story("one that has changed a row isn't asked whether it has");
+    IS(is_asked("INSERT INTO moved VALUES ('asked 1', 1)", "asked 1"), false);
+    IS(is_asked("UPDATE account SET balance = balance WHERE id = 1", "asked 2"), false);
+    IS(is_asked("UPDATE account SET balance = balance WHERE false", "asked 3"), true);
+    IS(is_asked("SELECT 1", "asked 4"), true);
+    IS(holds("asked 1"), 2);
+}
+
 static void votes(void)
 {
     story("a statement fails in PostgreSQL, and the program commits all the same");
@@ -397,6 +427,7 @@ int main(int count, char **words)
     mysql_real_connect(my_aside, NULL, "root", NULL, "bank", 0, words[2], 0);
     codes_of_tx();
     ends();
+    questions();
     votes();
     outside();
     chains();
