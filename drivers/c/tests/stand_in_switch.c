@@ -43,17 +43,21 @@ static _Thread_local bool is_opened[RMS];
 
 void stand_in_answers(int rmid, const char *call, int code, bool is_made)
 {
-    for (int i = 0; i < ANSWERS; i++)
-        if (!answers[i].is_due) {
-            answers[i] = (struct answer){.rm = rmid, .code = code, .call = call, .is_made = is_made, .is_due = true};
-            return;
-        }
+    int i = 0;
+
+    pthread_mutex_lock(&lock);
+    while (i < ANSWERS - 1 && answers[i].is_due)
+        i++;
+    answers[i] = (struct answer){.rm = rmid, .code = code, .call = call, .is_made = is_made, .is_due = true};
+    pthread_mutex_unlock(&lock);
 }
 
 void stand_in_takes(int rmid, const char *call, int milliseconds)
 {
+    pthread_mutex_lock(&lock);
     rms[rmid].slow = call;
     rms[rmid].milliseconds = milliseconds;
+    pthread_mutex_unlock(&lock);
 }
 
 void stand_in_is(int rmid, const char *identity)
@@ -239,18 +243,22 @@ static int answer(const char *call, XID *xid, int rm, long flags)
 
 static int open_it(char *info, int rm, long flags)
 {
+    int code = XA_OK;
+
     (void)info;
     note("xa_open", rm, flags);
+    pthread_mutex_lock(&lock);
+    if (is_opened[rm])
+        out_of_turn("xa_open");
     for (int i = 0; i < ANSWERS; i++)
         if (answers[i].is_due && answers[i].rm == rm && strcmp(answers[i].call, "xa_open") == 0) {
             answers[i].is_due = false;
-            is_opened[rm] = answers[i].code == XA_OK;
-            return answers[i].code;
+            code = answers[i].code;
+            break;
         }
-    if (is_opened[rm])
-        out_of_turn("xa_open");
-    is_opened[rm] = true;
-    return XA_OK;
+    is_opened[rm] = code == XA_OK;
+    pthread_mutex_unlock(&lock);
+    return code;
 }
 
 static int close_it(char *info, int rm, long flags)
