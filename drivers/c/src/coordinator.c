@@ -14,6 +14,7 @@
 enum { LINE = 65536 };
 
 _Thread_local struct thread *me;
+static _Thread_local pthread_cond_t woken = PTHREAD_COND_INITIALIZER;
 struct coordinator coordinator = {.lock = PTHREAD_MUTEX_INITIALIZER, .changed = PTHREAD_COND_INITIALIZER, .is_gone = true};
 
 /* All of it is under the lock. */
@@ -42,8 +43,8 @@ static void append(struct move **list, struct move *move)
 static void arrive(struct move *move)
 {
     move->is_here = true;
-    if (move->is_waited_for)
-        pthread_cond_signal(&move->woken);
+    if (move->woken != NULL)
+        pthread_cond_signal(move->woken);
 }
 
 static void lose(void)
@@ -179,10 +180,10 @@ static void write_all(void)
 /* Somebody has to read on: one of those that are asleep. False if there is none. */
 static bool is_reader_woken(struct move *list)
 {
-    while (list != NULL && !list->is_waited_for)
+    while (list != NULL && list->woken == NULL)
         list = list->next;
     if (list != NULL)
-        pthread_cond_signal(&list->woken);
+        pthread_cond_signal(list->woken);
     return list != NULL;
 }
 
@@ -191,9 +192,9 @@ static bool is_reader_woken(struct move *list)
 static void wait_for(struct move *move, double until)
 {
     if (is_read) {
-        move->is_waited_for = true;
-        pthread_cond_wait(&move->woken, &coordinator.lock);
-        move->is_waited_for = false;
+        move->woken = &woken;
+        pthread_cond_wait(&woken, &coordinator.lock);
+        move->woken = NULL;
         return;
     }
     bool is_late = now() >= until;
@@ -209,6 +210,7 @@ static void wait_until_here(struct move *move)
     double until = now() + settings.patience;
 
     pthread_mutex_lock(&coordinator.lock);
+    write_all();
     while (!move->is_here)
         wait_for(move, until);
     if (!is_read && !is_reader_woken(sent))
@@ -218,17 +220,17 @@ static void wait_until_here(struct move *move)
 
 /* ** of the calling thread */
 
-static void begin(struct move *move, bool decides)
+static void begin(struct move *move, enum haste haste)
 {
     move->reply[0] = '\0';
-    move->decides = decides;
+    move->decides = haste == DECIDING;
     move->is_asked = true;
     move->is_here = move->ends_line = false;
 }
 
-void move(bool decides, const char *format, ...)
+void move(enum haste haste, const char *format, ...)
 {
-    struct move *it = &me->move;
+    struct move *it = me->move;
     va_list words;
 
     replied(); /* there is one at a time */
@@ -236,18 +238,19 @@ void move(bool decides, const char *format, ...)
     vsnprintf(it->text, sizeof it->text, format, words);
     va_end(words);
     pthread_mutex_lock(&coordinator.lock);
-    begin(it, decides);
+    begin(it, haste);
     if (is_session_over())
         arrive(it);
     else
         append(&posted, it);
-    write_all();
+    if (haste != LATER)
+        write_all();
     pthread_mutex_unlock(&coordinator.lock);
 }
 
 const char *replied(void)
 {
-    struct move *it = &me->move;
+    struct move *it = me->move;
 
     if (!it->is_asked)
         return it->reply;
@@ -273,9 +276,9 @@ const char *lose_session(const char *why)
     if (me->session == coordinator.session)
         lose();
     pthread_mutex_unlock(&coordinator.lock);
-    me->move.is_asked = false;
-    me->move.reply[0] = '\0';
-    return me->move.reply;
+    me->move->is_asked = false;
+    me->move->reply[0] = '\0';
+    return me->move->reply;
 }
 
 /* ** its start and its end */
@@ -283,14 +286,14 @@ const char *lose_session(const char *why)
 /* The next line, which nothing asks for. */
 static void expect(struct move *move)
 {
-    begin(move, false);
+    begin(move, SOON);
     move->ends_line = true;
     append(&sent, move);
 }
 
 bool coordinator_start(char *const words[])
 {
-    static struct move version = {.woken = PTHREAD_COND_INITIALIZER}; /* what it says before it greets */
+    static struct move version; /* what it says before it greets */
     struct timespec patience = timespec_of(settings.patience);
     struct timeval longest = {.tv_sec = patience.tv_sec, .tv_usec = patience.tv_nsec / 1000};
     int started = process_start(words);
@@ -306,7 +309,7 @@ bool coordinator_start(char *const words[])
     coordinator.is_gone = is_silent = false;
     me->session = ++coordinator.session;
     expect(&version);
-    expect(&me->move);
+    expect(me->move);
     pthread_mutex_unlock(&coordinator.lock);
     wait_until_here(&version);
     if (strncmp(version.reply, "protocol 1 ", 11) != 0)

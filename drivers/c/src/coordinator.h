@@ -7,20 +7,26 @@
 #include <stddef.h>
 
 #include "settings.h"
+#include "xid.h"
 
 enum {
     MOVE = 4096, /* bytes of the longest, a page, with its end */
-    REPLY = 8192 /* of the longest, which names each resource manager */
+    REPLY = 8192, /* of the longest, which names each resource manager */
+    NUMBERS = 2 /* of a thread at the coordinator */
 };
 
-/* A move of a thread, and what it is replied: nothing, if the coordinator is gone. */
+/* A move of a thread by one of its numbers, and what it is replied: nothing, if the coordinator is
+ * gone. A thread changes its number once its transaction is committed, and tells that later: so it
+ * needn't wait for the name of its next transaction, which has begun by the other number. */
 struct move {
     struct move *next;
-    pthread_cond_t woken;
+    unsigned number;
+    XID xid; /* that has begun in the session: its transaction, or the next one, or all zeroes */
+    pthread_cond_t *woken; /* by which its thread is woken, while it is asleep */
     bool is_alone; /* no other may stand on its line */
     bool decides; /* it is replied once the log is written */
     bool is_asked; /* its reply is yet to be looked at */
-    bool ends_line, is_here, is_waited_for;
+    bool ends_line, is_here;
     char text[MOVE], reply[REPLY];
 };
 
@@ -37,8 +43,11 @@ bool is_changed_by(double moment);
 
 /* ** of the calling thread */
 
+/* LATER: it goes with whatever is sent next, at the latest when its reply is waited for or the keeper
+ * moves. DECIDING: it is replied once the log is written. */
+enum haste { SOON, LATER, DECIDING };
 /* Makes the next move, unless its session is over, and doesn't wait for the reply. */
-void move(bool decides, const char *format, ...) LIKE_PRINTF(2, 3);
+void move(enum haste haste, const char *format, ...) LIKE_PRINTF(2, 3);
 /* The reply to the last move; "" if the coordinator is gone, or said that it can't be. */
 const char *replied(void);
 bool is_session_over(void);

@@ -23,7 +23,7 @@ static bool is_process_started(void)
     int count = settings.name[0] == '\0' ? 7 : 9;
 
     snprintf(at_least, sizeof at_least, "%ld", last_incarnation());
-    snprintf(threads, sizeof threads, "%d", settings.threads + 1);
+    snprintf(threads, sizeof threads, "%d", (settings.threads < MOST_THREADS / NUMBERS ? settings.threads * NUMBERS : MOST_THREADS) + 1);
     snprintf(rms, sizeof rms, "%d", settings.rms);
     for (int rm = 0; rm < settings.rms; rm++) {
         words[count++] = "--rm";
@@ -87,8 +87,8 @@ static void tell_fates(void)
         char gtrid[2 * OWN + 1];
         if (it->fate != AWAITED)
             continue;
-        write_hex(gtrid, it->xid.data + strlen(settings.name), OWN);
-        move(false, "fate %s", gtrid);
+        write_hex(gtrid, it->move->xid.data + strlen(settings.name), OWN);
+        move(SOON, "fate %s", gtrid);
         const char *reply = replied();
         enum fate fate = is_reply(reply, "committed") ? COMMITTED : is_reply(reply, "rolled-back") ? ROLLED_BACK : UNKNOWN;
         pthread_mutex_lock(&coordinator.lock);
@@ -106,7 +106,7 @@ static void recover_due(void)
     int rms[MOST_RMS], count;
 
     all.is_owed = false;
-    move(false, "due");
+    move(SOON, "due");
     count = named_in(replied(), rms);
     for (int i = 0; i < count; i++)
         if (!is_recovered(rms[i]))
@@ -132,7 +132,7 @@ static void end_session(void)
 {
     char said[SAID];
 
-    move(false, "quit");
+    move(SOON, "quit");
     replied();
     coordinator_end(said, sizeof said);
     if (said[0] != '\0')
@@ -144,8 +144,8 @@ void *keep(void *unused)
 {
     (void)unused;
     me = &all.threads[0];
-    me->move.is_alone = true;
-    pthread_cond_init(&me->move.woken, NULL);
+    me->move = me->moves;
+    me->move->is_alone = true;
     pthread_mutex_lock(&coordinator.lock);
     while (!all.is_ending) {
         pthread_mutex_unlock(&coordinator.lock);
@@ -165,6 +165,5 @@ void *keep(void *unused)
         recover_due();
     end_session();
     close_lines();
-    pthread_cond_destroy(&me->move.woken);
     return NULL;
 }

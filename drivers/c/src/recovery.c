@@ -65,7 +65,7 @@ static void tell_page(int rm, struct list *list)
         *to++ = ' ';
         to += strlen(text_of(&list->xids[list->told++], to));
     }
-    move(false, "page %d%s", rm, page);
+    move(SOON, "page %d%s", rm, page);
 }
 
 /* Makes the call that is told, on `xa_<verb> <identifier>`. */
@@ -84,9 +84,9 @@ static void make_call(int rm, const char *reply)
     begin_call(rm, verb);
     int code = made(rm, verb);
     if (code == LOST)
-        move(false, "end %d lost", rm);
+        move(SOON, "end %d lost", rm);
     else
-        move(false, "end %d %d", rm, code);
+        move(SOON, "end %d %d", rm, code);
 }
 
 /* What no session over this log began is strange: the log isn't the one that the databases belong
@@ -95,7 +95,7 @@ static bool is_ended(int rm, struct list *list)
 {
     const char *reply;
 
-    move(false, "recover %d", rm);
+    move(SOON, "recover %d", rm);
     while ((reply = replied())[0] != '\0' && !is_reply(reply, "recovered") && !is_reply(reply, "later")) {
         if (is_reply(reply, "recover")) {
             tell_page(rm, list);

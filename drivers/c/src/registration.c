@@ -16,12 +16,12 @@ API int ax_reg(int rmid, XID *xid, long flags)
     }
     if (is_session_over())
         return TMER_TMERR;
-    me->line[rmid].xid = *xid = branch_of(&me->xid, me->number, rmid);
+    me->line[rmid].xid = *xid = branch_of(&me->move->xid, me->move->number, rmid);
     me->line[rmid].is_active = true;
     me->branches++;
     /* A thread that is cancelled is so behind it: it may write what others wait for. */
     pthread_setcancelstate(PTHREAD_CANCEL_DISABLE, &before);
-    move(false, "join %u %d", me->number, rmid);
+    move(SOON, "join %u %d", me->move->number, rmid);
     pthread_setcancelstate(before, &before);
     return TM_OK;
 }

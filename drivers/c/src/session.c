@@ -36,10 +36,8 @@ static bool is_keeper_started(void)
 
     if (!read_databases())
         return false;
-    if (all.threads == NULL && (all.threads = calloc((size_t)settings.threads + 1, sizeof *all.threads)) == NULL) {
-        explain("no memory");
-        return false;
-    }
+    if (all.threads == NULL && (all.threads = calloc((size_t)settings.threads + 1, sizeof *all.threads)) == NULL)
+        return explain("no memory");
     warn_of_place();
     all.has_failed = false;
     snprintf(all.fault, sizeof all.fault, "the coordinator doesn't start in time");
@@ -48,9 +46,7 @@ static bool is_keeper_started(void)
     pthread_sigmask(SIG_BLOCK, &every, &before);
     bool is_started = pthread_create(&all.keeper, NULL, keep, NULL) == 0;
     pthread_sigmask(SIG_SETMASK, &before, NULL);
-    if (!is_started)
-        explain("no thread for the keeper");
-    return is_started;
+    return is_started || explain("no thread for the keeper");
 }
 
 /* A thread of a number that is free. NULL if there is none, or no keeper. */
@@ -69,9 +65,10 @@ static struct thread *taken(void)
         return NULL;
     }
     struct thread *it = &all.threads[number];
-    it->number = (unsigned)number;
     it->is_taken = true;
-    pthread_cond_init(&it->move.woken, NULL);
+    it->move = it->moves;
+    for (int i = 0; i < NUMBERS; i++)
+        it->moves[i].number = (unsigned)(number + i * settings.threads);
     it->info = (TXINFO){.xid = {.formatID = -1}};
     all.open++;
     return it;
@@ -88,7 +85,6 @@ bool session_join(void)
 void session_leave(void)
 {
     pthread_mutex_lock(&coordinator.lock);
-    pthread_cond_destroy(&me->move.woken);
     me->is_taken = false;
     me = NULL;
     if (--all.open == 0) {
@@ -115,7 +111,8 @@ bool is_session_met(void)
     bool is_up = coordinator.is_up;
     if (is_up && me->session != coordinator.session) {
         me->session = coordinator.session;
-        me->move.reply[0] = '\0';
+        for (int i = 0; i < NUMBERS; i++)
+            me->moves[i].reply[0] = '\0';
     }
     if (!is_up)
         explain("%s", all.fault);

@@ -19,13 +19,14 @@ static const char *read_from; /* it, or what the environment names */
 static bool are_read;
 static pthread_mutex_t lock = PTHREAD_MUTEX_INITIALIZER;
 
-void explain(const char *format, ...)
+bool explain(const char *format, ...)
 {
     va_list words;
 
     va_start(words, format);
     vsnprintf(reason, sizeof reason, format, words);
     va_end(words);
+    return false;
 }
 
 API const char *gf_error(void)
@@ -33,11 +34,10 @@ API const char *gf_error(void)
     return reason;
 }
 
-/* Says what is wrong with the file: false. */
+/* Says what is wrong with the file. False. */
 static bool wrong(const char *name, const char *why)
 {
-    explain("%s: %s%s", read_from, name, why);
-    return false;
+    return explain("%s: %s%s", read_from, name, why);
 }
 
 static bool is_copied(char *to, size_t room, const char *text)
@@ -162,10 +162,8 @@ static bool is_file_read(void)
 
     read_from = path[0] != '\0' ? path : getenv("GARTERFOSSIL_SETTINGS");
     FILE *file = read_from == NULL ? NULL : fopen(read_from, "re");
-    if (file == NULL) {
-        explain("%s: there are no settings to read", read_from == NULL ? "GARTERFOSSIL_SETTINGS" : read_from);
-        return false;
-    }
+    if (file == NULL)
+        return explain("%s: there are no settings to read", read_from == NULL ? "GARTERFOSSIL_SETTINGS" : read_from);
     settings = (struct settings){.program = "xatm", .threads = 8, .patience = 30};
     while (is_right && fgets(line, sizeof line, file) != NULL)
         is_right = is_read(line);
@@ -187,9 +185,7 @@ API int gf_settings(const char *file)
     pthread_mutex_lock(&lock);
     bool is_kept = are_read || is_copied(path, sizeof path, file);
     pthread_mutex_unlock(&lock);
-    if (!is_kept)
-        explain("%s: the path is too long", file);
-    return is_kept && read_settings() ? 0 : -1;
+    return (is_kept || explain("%s: the path is too long", file)) && read_settings() ? 0 : -1;
 }
 
 API int gf_rmid(const char *name)

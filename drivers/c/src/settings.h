@@ -32,6 +32,6 @@ extern struct settings {
 
 /* Reads them, unless they were. False if they can't be read, with the reason in gf_error. */
 bool read_settings(void);
-/* Keeps what gf_error gives. */
-void explain(const char *format, ...) LIKE_PRINTF(1, 2);
+/* Keeps what gf_error gives. False. */
+bool explain(const char *format, ...) LIKE_PRINTF(1, 2);
 #endif

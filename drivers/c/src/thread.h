@@ -19,12 +19,11 @@ struct line {
 enum fate { UNKNOWN, AWAITED, COMMITTED, ROLLED_BACK };
 
 struct thread {
-    unsigned number, session; /* its number at the coordinator; the session in which it moves */
+    unsigned session; /* in which it moves */
     bool is_taken; /* somebody has it */
-    struct move move;
+    struct move moves[NUMBERS], *move; /* by its numbers at the coordinator; by which it moves now */
     bool is_in_transaction;
     int branches; /* so many the coordinator was told of */
-    XID xid; /* that has begun in the session: its transaction, or the next one, or all zeroes */
     _Atomic enum fate fate;
     TXINFO info;
     double deadline;
@@ -68,4 +67,6 @@ int commit_transaction(void);
 int roll_back_transaction(int result);
 /* Keeps the name of the next transaction, which the reply to the last move has. */
 void settle(void);
+/* Moves by its other number from now on, if it has one. */
+void change_number(void);
 #endif

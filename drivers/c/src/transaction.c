@@ -91,6 +91,13 @@ static enum fate fate_of(enum verb verb, bool are_right, const char *answers)
     return verb == PREPARE && are_right ? AWAITED : ROLLED_BACK;
 }
 
+void change_number(void)
+{
+    struct move *other = &me->moves[me->move == me->moves];
+
+    me->move = other->number <= MOST_THREADS ? other : me->move;
+}
+
 static int conducted(const char *reply, int rolled_back)
 {
     char answers[ANSWERS];
@@ -98,10 +105,13 @@ static int conducted(const char *reply, int rolled_back)
 
     for (enum verb verb; (verb = verb_of(reply)) != NO_VERB; reply = replied()) {
         bool are_right = are_made(verb, rms, named_in(reply, rms), verb == PREPARE ? XA_RDONLY : XA_OK, answers);
+        bool is_committed = are_right && (verb == COMMIT || verb == COMMIT_AT_ONCE);
         me->fate = fate_of(verb, are_right, answers);
-        move(verb == PREPARE && are_right, "tell %u%s", me->number, answers);
-        if (are_right && (verb == COMMIT || verb == COMMIT_AT_ONCE))
-            return TX_OK; /* no outcome is another, and the next transaction's name isn't needed yet */
+        move(is_committed ? LATER : verb == PREPARE && are_right ? DECIDING : SOON, "tell %u%s", me->move->number, answers);
+        if (is_committed) { /* no outcome is another */
+            change_number();
+            return TX_OK;
+        }
     }
     if (!is_reply(reply, "committed") && !is_reply(reply, "rolled-back") && !is_reply(reply, "unknown"))
         reply = lose_session("told no outcome");
@@ -118,14 +128,14 @@ int commit_transaction(void)
 {
     me->fate = ROLLED_BACK;
     if (me->branches == 0 || (me->branches == 1 && is_reply(replied(), "joined")))
-        move(false, "commit %u", me->number);
+        move(SOON, "commit %u", me->move->number);
     return conducted(replied(), TX_ROLLBACK);
 }
 
 int roll_back_transaction(int result)
 {
     me->fate = ROLLED_BACK;
-    move(false, "rollback %u", me->number);
+    move(SOON, "rollback %u", me->move->number);
     return conducted(replied(), result);
 }
 
@@ -145,8 +155,8 @@ void settle(void)
 {
     const char *reply = replied(), *next = strstr(reply, " next ");
 
-    me->xid = transaction_of(next == NULL ? "" : next + 6);
-    if (me->xid.gtrid_length == 0 && reply[0] != '\0')
+    me->move->xid = transaction_of(next == NULL ? "" : next + 6);
+    if (me->move->xid.gtrid_length == 0 && reply[0] != '\0')
         lose_session("told no next transaction");
 }
 
@@ -162,11 +172,11 @@ static bool is_named(void)
         if (!are_lines_open())
             return false;
         settle();
-        if (me->xid.gtrid_length == 0) {
-            move(false, "start %u", me->number);
+        if (me->move->xid.gtrid_length == 0) {
+            move(SOON, "start %u", me->move->number);
             settle();
         }
-        if (me->xid.gtrid_length > 0)
+        if (me->move->xid.gtrid_length > 0)
             return true;
     }
     return false;
@@ -181,7 +191,7 @@ static int start_branches(void)
 
     for (int rm = 0; rm < settings.rms; rm++)
         if (!is_dynamic(rm)) {
-            me->line[rm].xid = branch_of(&me->xid, me->number, rm);
+            me->line[rm].xid = branch_of(&me->move->xid, me->move->number, rm);
             rms[count++] = rm;
         }
     are_made(START, rms, count, XA_OK, text);
@@ -197,7 +207,7 @@ static int start_branches(void)
         }
     }
     if (me->branches > 0)
-        move(false, "join %u%s", me->number, text);
+        move(SOON, "join %u%s", me->move->number, text);
     return result;
 }
 

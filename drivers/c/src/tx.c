@@ -13,17 +13,17 @@ static pthread_once_t once = PTHREAD_ONCE_INIT;
 
 /* ** the calling thread */
 
-/* A thread that is cancelled is so behind the call: it may hold a lock, or read what others wait
- * for. */
-static int shielded(int (*call)(void))
-{
-    int before;
-
-    pthread_setcancelstate(PTHREAD_CANCEL_DISABLE, &before);
-    int result = call();
-    pthread_setcancelstate(before, &before);
-    return result;
-}
+/* A call of TX. A thread that is cancelled is so after it: it may hold a lock, or read what others
+ * wait for. */
+#define CALL(name, work) \
+    API int name(void) \
+    { \
+        int before; \
+        pthread_setcancelstate(PTHREAD_CANCEL_DISABLE, &before); \
+        int result = work(); \
+        pthread_setcancelstate(before, &before); \
+        return result; \
+    }
 
 /* TX_OK if the thread has called tx_open, and is within a transaction, or isn't, as it is to be. */
 static int see_place(bool is_within)
@@ -51,6 +51,8 @@ static void leave_all(void *thread)
     if (me->is_in_transaction)
         roll_back_transaction(TX_OK);
     me->is_in_transaction = false;
+    settle();
+    change_number();
     settle();
     close_lines();
     session_leave();
@@ -103,15 +105,8 @@ static int close_thread(void)
     return TX_OK;
 }
 
-API int tx_open(void)
-{
-    return shielded(open_thread);
-}
-
-API int tx_close(void)
-{
-    return shielded(close_thread);
-}
+CALL(tx_open, open_thread)
+CALL(tx_close, close_thread)
 
 /* ** tx_begin */
 
@@ -138,10 +133,7 @@ static int begin_transaction(void)
     return begin();
 }
 
-API int tx_begin(void)
-{
-    return shielded(begin_transaction);
-}
+CALL(tx_begin, begin_transaction)
 
 /* ** its end */
 
@@ -169,15 +161,8 @@ static int roll_back(void)
     return see_place(true) != TX_OK ? TX_PROTOCOL_ERROR : ended(roll_back_transaction(TX_OK));
 }
 
-API int tx_commit(void)
-{
-    return shielded(commit);
-}
-
-API int tx_rollback(void)
-{
-    return shielded(roll_back);
-}
+CALL(tx_commit, commit)
+CALL(tx_rollback, roll_back)
 
 /* ** what is told of it, and asked for the next */
 
@@ -189,7 +174,7 @@ API int tx_info(TXINFO *info)
         return me->is_in_transaction;
     *info = me->info;
     if (me->is_in_transaction) {
-        info->xid = me->xid;
+        info->xid = me->move->xid;
         info->transaction_state = now() >= me->deadline ? TX_TIMEOUT_ROLLBACK_ONLY : is_session_over() ? TX_ROLLBACK_ONLY : TX_ACTIVE;
     }
     return me->is_in_transaction;
