@@ -4,8 +4,9 @@ use std::sync::atomic::{AtomicBool, AtomicU64, Ordering};
 use std::thread;
 use xa_workers::{Gate, Point};
 
-/// How often a gate looks in vain before it gives up.
-const LOOKS: u32 = 1_000_000;
+/// How often a gate looks in vain before it gives up: for most of the minute that a test has, since
+/// on a busy machine the other worker may be kept waiting for long.
+const LOOKS: u32 = 30_000_000;
 
 /// A gate that holds nobody back, and counts the answers of all resource managers.
 #[derive(Drop)]
@@ -30,12 +31,15 @@ impl Gate for Counting {
     }
 }
 
-/// A gate that lets nobody through.
-pub(crate) struct Closed;
+/// A gate that lets nobody through at one point.
+#[derive(Drop)]
+pub(crate) struct Shut {
+    pub(crate) at: Point,
+}
 
-impl Gate for Closed {
-    fn at(&self, _point: Point) -> bool {
-        false
+impl Gate for Shut {
+    fn at(&self, point: Point) -> bool {
+        !(point == self.at)
     }
 }
 

@@ -1,8 +1,8 @@
 //! Runs whose gates hold workers back: that they work side by side, and in which order decisions
 //! and sweeps come.
 
-use crate::workers::gates::{After, Closed, Lagging, Meeting};
-use crate::workers::plans::{YES, end_at, fault_of, four_jobs, jobs, run, swept};
+use crate::workers::gates::{After, Lagging, Meeting, Shut};
+use crate::workers::plans::{YES, end_at, fault_of, jobs, run, swept};
 use std::alloc::Global;
 use std::process::Abort;
 use std::sync::Wait;
@@ -52,16 +52,33 @@ fn two_threads_decide_side_by_side(rt: HostRuntime) -> Result<(), Fail> {
     Ok(())
 }
 
-#[test]
-fn a_closed_gate_is_stuck(rt: HostRuntime) -> Result<(), Fail> {
-    let alloc = rt.alloc();
-    let four = four_jobs(alloc, 2)?;
-    let fault = fault_of(&rt, alloc, &four, MemLog::new(alloc), &Closed);
-    assert!(rt; matches!(fault, Some(WorkFault::Stuck)));
+/// Whether a run is stuck whose gate is shut at this point. It asks the gate a million times, which
+/// takes a second, and much of a test's minute on a busy machine: so each point has its own test.
+fn is_stuck<R: Threads + Wait + Clock + Sync + Abort>(
+    rt: &R,
+    alloc: Global,
+    at: Point,
+) -> Result<bool, Fail> {
     let one = swept(jobs(alloc, 1, 1, &[&[YES]])?);
-    let never = After::new(Point::Sweeping(0), Point::Sweeping(1), 1);
-    let fault = fault_of(&rt, alloc, &one, MemLog::new(alloc), &never);
-    assert!(rt; matches!(fault, Some(WorkFault::Stuck)));
+    let fault = fault_of(rt, alloc, &one, MemLog::new(alloc), &Shut { at });
+    Ok(matches!(fault, Some(WorkFault::Stuck)))
+}
+
+#[test]
+fn a_gate_that_is_shut_before_an_answer_is_stuck(rt: HostRuntime) -> Result<(), Fail> {
+    assert!(rt; is_stuck(&rt, rt.alloc(), Point::Answering(0))?);
+    Ok(())
+}
+
+#[test]
+fn a_gate_that_is_shut_before_a_decision_is_stuck(rt: HostRuntime) -> Result<(), Fail> {
+    assert!(rt; is_stuck(&rt, rt.alloc(), Point::Deciding(0))?);
+    Ok(())
+}
+
+#[test]
+fn a_gate_that_is_shut_before_a_sweep_is_stuck(rt: HostRuntime) -> Result<(), Fail> {
+    assert!(rt; is_stuck(&rt, rt.alloc(), Point::Sweeping(0))?);
     Ok(())
 }
 
