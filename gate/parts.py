@@ -14,16 +14,19 @@ from .crates import CACHE, summed, text_of
 # What a part passed and failed.
 Count = collections.namedtuple("Count", "passed failed")
 COUNTS = re.compile(r"(\d+) passed, (\d+) failed")
-# What is told of a part beside its counts: what it lacks here.
-LACKS = re.compile(r"(?m)left out: .*|skipped=\d+")
+# What a part says that it leaves out here; of Python's tests, each that is skipped says why.
+LACKS = re.compile(r"(?m)left out: (.*)")
+SKIPPED = re.compile(r"(?m)(?:^| )skipped [\"'](.*)[\"']$")
 
 
 class Part:
     """A program to run, and what to count of what it prints (count, of its status and its text). If
-    there is a sum of all that it rests on, it is run once, if all of it passes."""
+    there is a sum of all that it rests on, it is run once, if all of it passes. If it waits with a
+    limit, a busy machine may make it fail, and it says so (limits, of its text): then it is run
+    again by itself, and that counts."""
 
-    def __init__(self, name, words, folder, count, rests_on=None):
-        self.name, self.words, self.folder, self.count = name, words, folder, count
+    def __init__(self, name, words, folder, count, rests_on=None, limits=None):
+        self.name, self.words, self.folder, self.count, self.limits = name, words, folder, count, limits
         self.kept = rests_on and f"{CACHE}/tried/{summed([name, rests_on])}"
 
     def known(self):
@@ -84,12 +87,25 @@ def at_least_one_failed(status, count):
     return count if status == 0 or count.failed else Count(count.passed, 1)
 
 
+def faults_in(text):
+    """What is shown of a part that failed: of unittest, which names each test, only what failed."""
+    return text[max(text.find("\n======"), 0) :]
+
+
+def left_out(text):
+    """What a part leaves out for want of something, each reason once, and how many tests for it."""
+    skipped = collections.Counter(SKIPPED.findall(text))
+    return [*dict.fromkeys(LACKS.findall(text)), *(f"{count} test{'s' * (count > 1)}: {why}" for why, count in skipped.items())]
+
+
 class Runner:
     """Runs parts, and adds up what they come to. What they make, beside rt ci, lies in one folder,
     which goes with this."""
 
     def __init__(self, running):
         self.running, self.passed, self.failed, self.printing = running, 0, 0, threading.Lock()
+        # What is left out, and the parts that are to be run again.
+        self.lacks, self.again = [], []
         self.folder = tempfile.mkdtemp(prefix="xatm-check-")
         # rt runs programs as nobody
         os.chmod(self.folder, 0o755)
@@ -130,12 +146,31 @@ class Runner:
             text = "".join(lines) or out.read()
         count = part.count(status, text)
         part.keep(count)
-        took = "; ".join([f"in {time.time() - begun:.0f} seconds", *LACKS.findall(text)])
-        self.add(part, count, took, text if count.failed and not shows else "")
+        took = f"in {time.time() - begun:.0f} seconds"
+        if count.failed and part.limits and part.limits.search(text) and part not in self.again:
+            self.again.append(part)
+            with self.printing:
+                sys.stdout.write("" if shows else faults_in(text))
+                print(f"check: {part.name}: {count.failed} failed, {took}, beside others: it is run again by itself", flush=True)
+            return False
+        self.lacks += [f"{part.name}: {it}" for it in left_out(text)]
+        self.add(part, count, took, faults_in(text) if count.failed and not shows else "")
         return count.failed == 0
+
+    def run_again(self):
+        """Runs what may have failed because others ran beside it, one after the other."""
+        for it in self.again:
+            self.run(it)
 
     def add(self, part, count, how, text=""):
         with self.printing:
             self.passed, self.failed = self.passed + count.passed, self.failed + count.failed
             sys.stdout.write(text)
             print(f"check: {part.name}: {count.passed} passed, {count.failed} failed, {how}", flush=True)
+
+    def end(self):
+        """Says what was left out, and what all comes to; the status is 0 if nothing failed."""
+        for it in self.lacks:
+            self.say(f"left out: {it}")
+        print(f"{self.passed} passed, {self.failed} failed", flush=True)
+        return 1 if self.failed else 0
