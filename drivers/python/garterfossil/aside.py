@@ -64,7 +64,7 @@ class Aside:
             # There is no thread to be had any more, as at the interpreter's end.
             return step()
         interrupt: Optional[BaseException] = None
-        # (An exception may come behind the lock as well, when it is taken already.)
+        # (An exception may come after the lock as well, when it is taken already.)
         while not job.is_over:
             try:
                 job.is_done.acquire()

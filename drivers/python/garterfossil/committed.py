@@ -12,7 +12,7 @@ from .errors import SetupError
 
 log = logging.getLogger("garterfossil")
 
-#: What stands behind the log's own path. The file keeps so many transactions, each in so many bytes
+#: What is added to the log's own path. The file keeps so many transactions, each in so many bytes
 #: at a place by its number: those of a session take the places of those of earlier ones.
 SUFFIX, MOST, BYTES = "-committed", 65536, 16
 

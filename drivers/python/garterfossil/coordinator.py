@@ -347,7 +347,7 @@ class Coordinator:
         if not some:
             raise self._gone("its output ended")
         whole, end, self._begun = (self._begun + some).rpartition(b"\n")
-        # What isn't ASCII is seen where its line is taken, behind the replies that came before it.
+        # What isn't ASCII is seen as its line is taken, after the replies that came before it.
         return whole.decode("ascii", "replace").split("\n") if end else []
 
     def _silent(self) -> CoordinatorGone:
@@ -397,7 +397,7 @@ class Coordinator:
 
     def let_go(self) -> None:
         """In a process that was forked off: the pipes are the parent's, and a child that kept them would keep the coordinator up, and the
-        log in use, behind the end of the parent."""
+        log in use, after the end of the parent."""
         self._moves.close()
         self._replies.close()
         self._errors.close()

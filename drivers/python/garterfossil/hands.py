@@ -249,7 +249,7 @@ class Hands:
                 self.fate = told.outcome
                 return told
             answers = self._make(verb, parts)
-            # Nothing else can be told behind these, and so nobody waits for it.
+            # Nothing else can be told after these, and so nobody waits for it.
             is_over = verb in ("commit", "commit-at-once") and all(code is Code.OK for code in answers)
             said = ["lost" if code is None else str(int(code)) for code in answers]
             self._move("tell", *said, is_asked=not is_over)

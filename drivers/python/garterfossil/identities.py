@@ -16,7 +16,7 @@ from .errors import SetupError
 
 log = logging.getLogger("garterfossil")
 
-#: What stands behind the log's own path, and the version of what is in the file.
+#: What is added to the log's own path, and the version of what is in the file.
 SUFFIX, VERSION = "-databases", 1
 
 
@@ -59,7 +59,7 @@ class Identities:
     def _read(self) -> Optional[Dict[str, Any]]:
         try:
             with open(self.path, encoding="utf-8") as it:
-                # (Where somebody has removed the last line a comma stays behind.)
+                # (Where somebody has removed the last line a comma is left.)
                 found: Dict[str, Any] = json.loads(re.sub(r",\s*}\s*$", "}", it.read()))
             if found["version"] != VERSION:
                 raise SetupError(f"{self.path} is of another version of the driver")

@@ -19,7 +19,7 @@ log = logging.getLogger("garterfossil")
 
 #: A recovery that couldn't be done is tried again after so many seconds.
 RECOVERY_PAUSE = 1.0
-#: So many seconds behind the last commit the coordinator is asked what is due, by which rows leave the log that no branch needs.
+#: So many seconds after the last commit the coordinator is asked what is due, by which rows leave the log that no branch needs.
 IDLE = 1.0
 
 
@@ -33,7 +33,7 @@ class Keeper:
         # By database, the thread that recovers it, and since when.
         self._working: Dict[int, Tuple[threading.Thread, float]] = {}
         self._is_over = False
-        # When a transaction last left a row in the log, and whether a thread waits until the session is idle behind it.
+        # When a transaction last left a row in the log, and whether a thread waits until the session is idle after it.
         self._row = 0.0
         self._is_idle_awaited = False
         # Ends the pauses.

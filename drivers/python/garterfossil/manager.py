@@ -107,6 +107,10 @@ class TransactionManager:
         self._is_closed = False
         self._outcomes = Outcomes()
         self._looks: List[Callable[[Transaction], None]] = []
+        self._start()
+
+    def _start(self) -> None:
+        """Begins the first session."""
         try:
             aside(self._begin_first)
         except XaError:

@@ -177,7 +177,7 @@ class Mirror:
 
     def look(self, kept: Log, listings: Sequence[Optional[Sequence[Xid]]], is_name_drawn: bool) -> None:
         """Looks, before the coordinator starts, whether a session may begin over the log, of which this is known, and over databases
-        that list these branches. A start that is refused behind that has raised the log's incarnation, and after a few of them an older log
+        that list these branches. A start that is refused after that has raised the log's incarnation, and after a few of them an older log
         would pass for a newer one. Raises SetupError if the log is older than the mirror, and CoordinatorGone if the mirror can't be
         had. Makes its tables."""
         with _as_gone():
@@ -246,7 +246,7 @@ class Mirror:
 
     def _older(self, incarnation: int, before: int) -> SetupError:
         return SetupError(
-            f"the log {self._path} is older than its mirror, in session {incarnation} and not behind {before}: put the right one"
+            f"the log {self._path} is older than its mirror, in session {incarnation} and not after {before}: put the right one"
             " back, or make it of the mirror (python -m garterfossil failover)"
         )
 

@@ -86,7 +86,7 @@ def look(session: Session, rm: ResourceManager, connection: Connection) -> Tuple
     this session rolled it back. Raises SetupError for what only somebody can explain, and is to
     look at: that it is over, by all that the database answered before."""
     listed = _listed_at(session, connection)
-    # A transaction that has a branch by now, and isn't open any more behind the list, is over; what
+    # A transaction that has a branch by now, and isn't open any more after the list, is over; what
     # is listed once more stays.
     over = _over(session, rm, listed)
     if over:
@@ -119,7 +119,7 @@ def _over(session: Session, rm: ResourceManager, listed: Set[Xid]) -> Set[Xid]:
 
 
 def stop(session: Session, why: str) -> SetupError:
-    """Ends the session, and has none begin behind it, in this run of the program or another one,
+    """Ends the session, and has none begin after it, in this run of the program or another one,
     until somebody has looked: the next one would roll back what this one doesn't understand."""
     try:
         session.identities.shut(why)

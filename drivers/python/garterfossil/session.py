@@ -314,7 +314,7 @@ class Session:
                 self.mirror.close()
 
     def _end_at(self, rm: ResourceManager, until: float) -> None:
-        """Ends what the last transactions have left at a database, behind the recovery that is under way there."""
+        """Ends what the last transactions have left at a database, after the recovery that is under way there."""
         if rm.is_recovered.acquire(timeout=max(0.0, until - time.monotonic())):
             rm.is_recovered.release()
             if rm.is_recovery_due and self.owed_at(rm) and rm.can_be_reached():

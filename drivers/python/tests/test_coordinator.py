@@ -27,7 +27,7 @@ for line in sys.stdin:
     if line == "quit\\n":
         break
 """
-#: The same, and tells behind each move how many stood on its line. A move `hold` is replied to once there is a file.
+#: The same, and tells after each move how many stood on its line. A move `hold` is replied to once there is a file.
 GATHERED = """
 import os, sys, time
 print("restarted 1 0 0", flush=True)

@@ -48,7 +48,7 @@ class Calls(Case):
                 with self.subTest(wrong, move=move), self.manager() as xa:
                     self.move(xa)
                     self.says_in_place_of_a_reply(xa, move, wrong, is_asked=move == "tell")
-                    # Before the votes are told nothing is decided; behind that the next session knows it.
+                    # Before the votes are told nothing is decided; after that the next session knows it.
                     with self.assertRaises(RolledBack if move == "join" else OutcomeUnknown):
                         with xa.transaction() as t:
                             t[0].execute("take")

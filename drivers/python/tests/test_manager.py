@@ -347,7 +347,7 @@ class Runs(Case):
         self.assertIn("garterfossil_open 0", xa.metrics().splitlines())
 
     def test_no_call_is_made_before_it_is_told(self):
-        """What docs/MOVES.md asks for: each is made once, behind the reply that tells it."""
+        """What docs/MOVES.md asks for: each is made once, after the reply that tells it."""
         events = []
         with self.manager(threads=1) as xa:
             coordinator = xa._session.coordinator

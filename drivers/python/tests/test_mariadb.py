@@ -49,6 +49,8 @@ class Server:
         self.identity, self.uid, self.may_create = None, "AbC=", True
         #: What XA RECOVER lists besides, of other programs.
         self.others = []
+        #: Of what it warns as it rolls a branch back.
+        self.warnings = []
 
     def connect(self, **parameters):
         link = Link(self, len(self.links) + 1)
@@ -72,6 +74,7 @@ class Link:
     def __init__(self, server, number):
         self.server, self.number, self.statements = server, number, []
         self._sock, self.other_end = socket.socketpair()
+        self._result = types.SimpleNamespace(warning_count=0)
 
     def thread_id(self):
         return self.number
@@ -85,6 +88,7 @@ class Link:
 
     def query(self, statement):
         Cursor(self).execute(statement)
+        self._result.warning_count = len(self.server.warnings) if statement.startswith("XA ROLLBACK") else 0
 
     def _execute_command(self, command, statement):
         """The server does it at once, and says so later."""
@@ -146,6 +150,8 @@ class Cursor:
             if not self.server.may_create:
                 raise error(1142)
             self.server.identity = self.server.identity or statement.split("'")[1]
+        elif statement == "SHOW WARNINGS":
+            self.rows = self.server.warnings
         elif statement == "SHOW VARIABLES LIKE 'wsrep_on'":
             self.rows = [("wsrep_on", "ON" if self.server.is_in_cluster else "OFF")]
         elif statement.startswith("SELECT GET_LOCK("):
@@ -243,6 +249,17 @@ class MariaDBs(unittest.TestCase):
             self.connection.execute("UPDATE account")
         self.assertIs(self.do("prepare"), Code.RBINTEGRITY)
         self.assertIs(self.connection.reason, fault)
+
+    def test_a_table_that_keeps_what_is_rolled_back_is_warned_of(self):
+        """It may be one that was made since the tables were looked at."""
+        kept, other = ("Warning", 1196, "Some non-transactional changed tables couldn't be rolled back"), ("Note", 1051, "of something else")
+        with self.assertLogs("garterfossil", "WARNING") as logged:
+            for warning, verbs in ((kept, ["rollback"]), (kept, ["prepare", "rollback"]), (other, ["rollback"])):
+                self.server.warnings = [warning]
+                self.worked()
+                for verb in verbs:
+                    self.do(verb)
+        self.assertEqual([f"{XID} is rolled back" in line and "keeps it" in line for line in logged.output], [True, True])
 
     def test_a_call_that_is_sent_ahead_is_answered_once(self):
         self.worked()
@@ -391,7 +408,7 @@ class MariaDBs(unittest.TestCase):
 
 
 class Recovery(unittest.TestCase):
-    """A driver stops behind its decision and keeps its connections. The next one has to end them before it looks: to a
+    """A driver stops after its decision and keeps its connections. The next one has to end them before it looks: to a
     coordinator that is told XAER_NOTA the branch is over, and its row leaves the log."""
 
     def test_a_decided_branch_whose_connection_still_lives(self):

@@ -27,6 +27,7 @@ class ByMysqlclient:
                 fileno=lambda link: link._sock.fileno(),
                 send_query=lambda link, statement: link._execute_command(None, statement),
                 read_query_result=lambda link: link._read_query_result(),
+                warning_count=lambda link: link._result.warning_count,
             ),
             mock.patch.dict(sys.modules, {"MySQLdb": MySQLdb, "MySQLdb.cursors": MySQLdb.cursors}),
         ):

@@ -2,6 +2,8 @@
 
 from __future__ import annotations
 
+import contextlib
+import logging
 import math
 import re
 import uuid
@@ -13,6 +15,8 @@ from ..errors import ConnectionLost, SetupError, Unanswered
 from ..statements import MARIADB
 from ..xid import Xid
 from .base import Connection, Database, Parameters, Place, Result, varied
+
+log = logging.getLogger("garterfossil")
 
 #: Errors of MariaDB by their number.
 NO_SUCH_BRANCH, IN_USE = 1397, 1440
@@ -27,6 +31,8 @@ VOTES = {
     CHECK_FAILED: Code.RBINTEGRITY,
 }
 NO_SUCH_TABLE = 1146
+#: What it warns of as it rolls a branch back that wrote in a table without transactions.
+KEPT = 1196
 #: So many tables are named in a warning.
 MOST_NAMED = 10
 #: The view in a database that says which one it is, and how a server says that of itself.
@@ -251,6 +257,7 @@ class MariaDBConnection(Connection):
     def _roll_back(self, xid: Xid) -> None:
         try:
             self._xa("ROLLBACK", xid)
+            self._see_taken_back(xid)
         except self.errors.MySQLError as error:
             # A branch that MariaDB rolled back by itself isn't there any more, or says once more why.
             if error.args[0] != NO_SUCH_BRANCH and error.args[0] not in VOTES:
@@ -272,7 +279,20 @@ class MariaDBConnection(Connection):
             if (number == NO_SUCH_BRANCH or number in VOTES) and xid not in self._listed():
                 return VOTES.get(number, Code.NOTA)
             raise Unanswered(str(error)) from error
+        if verb == "ROLLBACK":
+            self._see_taken_back(xid)
         return Code.OK
+
+    def _see_taken_back(self, xid: Xid) -> None:
+        """Warns if a table has kept what the branch wrote: it may have been made since the tables were looked at."""
+        # The branch is over. A connection that is lost meanwhile is found by whoever uses it next.
+        with contextlib.suppress(ConnectionLost, self.errors.MySQLError):
+            if self._warning_count() and any(row[1] == KEPT for row in self.run("SHOW WARNINGS")):
+                log.warning("%s is rolled back, but wrote in a table of MariaDB that keeps it (MyISAM, Aria, MEMORY ..)", xid)
+
+    def _warning_count(self) -> int:
+        """Of how much the server has warned in its last answer."""
+        return int(self.link._result.warning_count)
 
     def _listed(self) -> List[Xid]:
         return [xid for xid in map(xid_of, self.run("XA RECOVER FORMAT='SQL'")) if xid is not None]

@@ -52,3 +52,6 @@ class MysqlclientConnection(mariadb.MariaDBConnection):
 
     def _read(self) -> None:
         self.link.read_query_result()
+
+    def _warning_count(self) -> int:
+        return int(self.link.warning_count())

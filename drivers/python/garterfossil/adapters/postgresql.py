@@ -47,7 +47,7 @@ REFUSALS = re.compile(
 SECRET = re.compile(r"(password\s*=\s*)(?:'(?:[^'\\]|\\.)*'?|[^\s&]+)|(://[^:/@]*:)[^@]*(?=@)", re.IGNORECASE)
 #: What the application_name of a connection ends with that ends others.
 RECOVERY = " recovery"
-#: PostgreSQL cuts an application_name off behind so many bytes.
+#: PostgreSQL cuts an application_name off after so many bytes.
 LONGEST_LABEL = 63
 #: What psycopg2's own connection shows to a program.
 SHOWN = frozenset(
