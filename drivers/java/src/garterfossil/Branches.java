@@ -71,7 +71,7 @@ final class Branches {
         branch.start();
         unjoined.add(rm.number);
         if (begun().size() > 1) {
-            // The calls of the first phase wait behind that, while the work goes on.
+            // The calls of the first phase wait after that, while the work goes on.
             join(true);
         }
         return branch;

@@ -164,7 +164,7 @@ public final class Command {
         for (String key : found.stringPropertyNames()) {
             String[] parts = key.split("\\.", 3);
             if (key.startsWith(RESOURCE) && (parts.length < 3 || parts[1].isEmpty() || parts[2].isEmpty())) {
-                throw new IllegalArgumentException("a resource's line has NAME.class behind " + RESOURCE
+                throw new IllegalArgumentException("a resource's line has NAME.class after " + RESOURCE
                     + ", or NAME and what is to be set, and not: " + key);
             }
             if (key.startsWith(RESOURCE)) {

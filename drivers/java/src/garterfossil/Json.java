@@ -26,7 +26,7 @@ final class Json {
 
     /** What a text says. Throws IllegalArgumentException if it is none of JSON. */
     static Object read(String text) {
-        // Where somebody has removed the last line a comma stays behind.
+        // Where somebody has removed the last line a comma is left.
         Json json = new Json(text.replaceFirst(",\\s*+\\}\\s*+$", "}"));
         Object found = json.value();
         json.next();

@@ -130,7 +130,7 @@ final class KeptLog {
     private static KeptLog drawn(Path log, String given, List<Resource> resources) throws Fault.Unavailable {
         if (given.length() + 1 + DRAWN > LONGEST) {
             throw new Fault.Unavailable("the log " + log + " is new, and the name " + given + " too long: it has at most "
-                + (LONGEST - 1 - DRAWN) + " letters, since " + DRAWN + " are drawn behind it");
+                + (LONGEST - 1 - DRAWN) + " letters, since " + DRAWN + " are drawn after it");
         }
         SecureRandom random = new SecureRandom();
         StringBuilder name = new StringBuilder(given.isEmpty() ? "" : given + "-");
@@ -237,7 +237,7 @@ final class KeptLog {
     }
 
     /**
-     * A manager that was given a name has a log of that name, alone or with what was drawn behind
+     * A manager that was given a name has a log of that name, alone or with what was drawn after
      * it.
      */
     private void seeManager(Path log, String given) throws Fault.Unavailable {

@@ -119,7 +119,7 @@ final class Mirror {
     }
 
     private Fault.Unavailable older(long next, long before) {
-        return new Fault.Unavailable("the log " + log + " is older than its mirror, in session " + next + " and not behind " + before
+        return new Fault.Unavailable("the log " + log + " is older than its mirror, in session " + next + " and not after " + before
             + ": put the right one back, or make it of the mirror (garterfossil.Command failover)");
     }
 

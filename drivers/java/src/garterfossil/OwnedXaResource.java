@@ -12,7 +12,7 @@ public interface OwnedXaResource extends XAResource {
 
     /**
      * Ends its connection at once, and what is active on it with that: a program that works on it
-     * would go on behind the end of its transaction, and each statement would be committed by
+     * would go on after the end of its transaction, and each statement would be committed by
      * itself. False if that can't be done.
      */
     default boolean cut() {

@@ -33,7 +33,7 @@ final class Session {
     /** A thread of the coordinator, for one transaction at a time. */
     final class Slot {
         final int number;
-        // The thread's next transaction; or the reply that has it, behind an end of this outcome.
+        // The thread's next transaction; or the reply that has it, after an end of this outcome.
         // Neither before its first.
         private String next;
         private Coordinator.Reply last, joined;
@@ -73,7 +73,7 @@ final class Session {
 
         /**
          * Branches began there. The coordinator is told now, if the calls of the first phase wait
-         * behind that.
+         * after that.
          */
         void join(List<Integer> rms, boolean isNow) throws Fault.Gone {
             joined = coordinator.post("join " + number + rms.stream().map(rm -> " " + rm).collect(Collectors.joining()));
@@ -82,7 +82,7 @@ final class Session {
             }
         }
 
-        /** What is told behind the branches that began last; null, if none began. */
+        /** What is told after the branches that began last; null, if none began. */
         Told joined() throws Fault {
             Coordinator.Reply asked = joined;
             joined = null;

@@ -25,8 +25,14 @@ import javax.jms.MessageConsumer;
 import javax.jms.MessageProducer;
 import javax.jms.Queue;
 import javax.jms.QueueBrowser;
+import javax.jms.QueueConnection;
+import javax.jms.QueueConnectionFactory;
+import javax.jms.QueueReceiver;
+import javax.jms.QueueSender;
+import javax.jms.QueueSession;
 import javax.jms.Session;
 import javax.jms.TextMessage;
+import javax.jms.TopicConnectionFactory;
 import javax.jms.XAConnection;
 import javax.jms.XAConnectionFactory;
 import javax.jms.XASession;
@@ -38,6 +44,10 @@ import org.junit.Test;
 
 /** Sessions of a broker, in transactions and outside. */
 public class BrokerTest {
+    /** As clients of brokers have it, it has the interface of queues that is older, too. */
+    private interface XaQueueSession extends XASession, QueueSession {
+    }
+
     @Rule
     public final World world = new World();
     private final StandInResource inner = new StandInResource("inner");
@@ -83,7 +93,9 @@ public class BrokerTest {
         methods.put("createTextMessage", (proxy, method, words) -> message((String) words[0]));
         InvocationHandler plain = methods.get("createProducer");
         methods.put("createProducer", (proxy, method, words) -> words[0] == queue ? identifying() : plain.invoke(proxy, method, words));
-        XASession session = of(XASession.class, methods);
+        methods.put("createSender", (proxy, method, words) -> of(QueueSender.class, Map.of("send", noting("a sender sends"))));
+        methods.put("createReceiver", (proxy, method, words) -> of(QueueReceiver.class, Map.of("receive", noting("a receiver receives"))));
+        XASession session = of(XaQueueSession.class, methods);
         ConnectionMetaData data = of(ConnectionMetaData.class, Map.of("getJMSProviderName", (proxy, method, words) -> "Stand-in"));
         return of(XAConnection.class, Map.of("createXASession", (proxy, method, words) -> session, "getMetaData", (proxy, method, words) -> data,
             "close", (proxy, method, words) -> {
@@ -167,6 +179,22 @@ public class BrokerTest {
         consumer.receive(10);
         session.commit();
         assertEquals(List.of("outside sends", "outside receives", "outside commits"), done);
+    }
+
+    @Test
+    public void theInterfacesOfQueuesThatAreOlder() throws Exception {
+        QueueConnection connection = ((QueueConnectionFactory) factory).createQueueConnection();
+        begin();
+        QueueSession session = connection.createQueueSession(true, Session.SESSION_TRANSACTED);
+        session.createSender(queue).send(null);
+        session.createReceiver(queue).receive(10);
+        transaction.commit();
+        assertThrows(IllegalStateException.class, () -> session.createSender(queue));
+        assertEquals(List.of("a sender sends", "a receiver receives"), done);
+        // That of sessions outside has no such interface, as it is said.
+        JMSException error = assertThrows(JMSException.class, () -> connection.createQueueSession(false, Session.AUTO_ACKNOWLEDGE));
+        assertTrue(error.getMessage(), error.getMessage().contains("QueueSession"));
+        ((TopicConnectionFactory) factory).createTopicConnection().close();
     }
 
     @Test

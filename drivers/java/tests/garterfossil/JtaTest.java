@@ -384,7 +384,7 @@ public class JtaTest {
 
     @Test
     public void aTimeOutOverAnotherPoolsConnection() throws Exception {
-        // No gate keeps the program from it: behind xa_rollback each statement would be committed
+        // No gate keeps the program from it: after xa_rollback each statement would be committed
         // by itself.
         StandInResource.StandInLink link = (StandInResource.StandInLink) world.a.connect();
         Owned own = new Owned(link);

@@ -9,11 +9,11 @@ import java.util.logging.LogRecord;
 import java.util.logging.Logger;
 
 /** What the driver says to its logger, from now on until this is closed. */
-final class Logged extends Handler implements AutoCloseable {
+public final class Logged extends Handler implements AutoCloseable {
     private final Logger logger = Logger.getLogger("garterfossil");
-    final List<String> said = Collections.synchronizedList(new ArrayList<>());
+    public final List<String> said = Collections.synchronizedList(new ArrayList<>());
 
-    Logged() {
+    public Logged() {
         logger.setLevel(Level.ALL);
         logger.addHandler(this);
     }

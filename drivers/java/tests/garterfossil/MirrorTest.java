@@ -155,7 +155,7 @@ public class MirrorTest {
         assertEquals("1", Files.readString(world.folder.resolve("incarnation")));
         mirror.managers.get(manager.name()).set(2, 7L);
         String text = refused(builder());
-        assertTrue(text, text.contains("is older than its mirror, in session 1 and not behind 7"));
+        assertTrue(text, text.contains("is older than its mirror, in session 1 and not after 7"));
     }
 
     @Test

@@ -268,7 +268,7 @@ public class RecoveryTest {
         // The right one is back, and somebody has looked.
         world.put("incarnation", "2");
         Path file = world.folder.resolve("log-databases");
-        // The line alone is removed, as is said: a comma stays behind.
+        // The line alone is removed, as is said: a comma is left.
         String text = Files.readString(file).replaceFirst("(?m)^ \"shut\".*\n", "");
         assertTrue(text, text.endsWith("],\n}\n"));
         Files.writeString(file, text);

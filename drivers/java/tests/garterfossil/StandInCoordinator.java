@@ -39,11 +39,11 @@ import java.util.stream.Collectors;
  *
  * <p>It writes each line that it reads to the file `requests` of its folder. Where `slow` is there,
  * a decision takes 20 ms. The file `stop-at` has the beginning of a move at which its memory fails,
- * once; `wrong-at` one to which it replies wrongly, once, and how, behind a line feed. Where the
+ * once; `wrong-at` one to which it replies wrongly, once, and how, after a line feed. Where the
  * file `die-at` has a word, it ends at the first move that begins with it, instead of a reply, and
  * removes the file; {@code decided} is a decision to commit that it makes and doesn't tell. It
  * begins with the line of the protocol where the file `protocol` has its words. Where `refusal` is
- * there, it ends with the status that this has, and says what stands behind that. The files `names`
+ * there, it ends with the status that this has, and says what stands after that. The files `names`
  * and `rows` have what {@code xatm log} prints of its log, and `in-use` is there if that says that
  * a program has it; what {@code xatm log --make} is given is in `made`. From the first move that
  * begins with the word of the file `silent` on, or from its start for `restarted`, it says nothing,

@@ -24,7 +24,7 @@ final class StandInResource implements Resource {
     enum State { ACTIVE, IDLE, ROLLBACK_ONLY, PREPARED }
 
     final List<String> calls = Collections.synchronizedList(new ArrayList<>());
-    /** The same, behind the number of the connection. */
+    /** The same, after the number of the connection. */
     final List<String> callsByLink = Collections.synchronizedList(new ArrayList<>());
     final Map<BranchXid, State> branches = new ConcurrentHashMap<>();
     /** The branches that were committed, and those that were rolled back. */

@@ -362,7 +362,7 @@ public class TransactionsTest {
         assertEquals(2, world.a.committed.size());
     }
 
-    /** The call behind that of this name is made once the other resource is called, too. */
+    /** The call after that of this name is made once the other resource is called, too. */
     private void meetBehind(String last, StandInResource resource, CyclicBarrier both) {
         if (resource.calls.get(resource.calls.size() - 1).equals(last)) {
             try {

@@ -5,6 +5,7 @@ import garterfossil.PreparesAtEnd;
 import garterfossil.Resource;
 import java.sql.Connection;
 import java.sql.SQLException;
+import java.sql.SQLWarning;
 import java.sql.Statement;
 import java.util.HexFormat;
 import javax.transaction.xa.XAException;
@@ -21,6 +22,8 @@ final class MariaDbXaResource extends JdbcXaResource implements PreparesAtEnd {
      * XA_RBDEADLOCK.
      */
     private static final int RMFAIL = 1399, RBROLLBACK = 1402, RBTIMEOUT = 1613, RBDEADLOCK = 1614;
+    /** What it warns of as it rolls a branch back that wrote in a table without transactions. */
+    private static final int KEPT = 1196;
 
     private final Connection connection;
 
@@ -55,6 +58,32 @@ final class MariaDbXaResource extends JdbcXaResource implements PreparesAtEnd {
             if (isOnePhase || error.errorCode != XAException.XA_RBROLLBACK || isListed(xid)) {
                 throw error;
             }
+        }
+    }
+
+    @Override
+    public void rollback(Xid xid) throws XAException {
+        super.rollback(xid);
+        bounded(() -> {
+            seeTakenBack(xid);
+            return null;
+        });
+    }
+
+    /**
+     * Warns if a table has kept what the branch wrote: it may have been made since the tables were
+     * looked at.
+     */
+    private void seeTakenBack(Xid xid) {
+        try {
+            for (SQLWarning it = connection.getWarnings(); it != null; it = it.getNextWarning()) {
+                if (it.getErrorCode() == KEPT) {
+                    System.getLogger("garterfossil").log(System.Logger.Level.WARNING, BranchXid.copyOf(xid)
+                        + " is rolled back, but wrote in a table of MariaDB that keeps it (MyISAM, Aria, MEMORY ..)");
+                }
+            }
+        } catch (SQLException error) {
+            // The branch is over. A connection that is lost is found by whoever uses it next.
         }
     }
 

@@ -56,7 +56,10 @@ public final class JmsResource extends PooledResource<JmsResource> {
         return this;
     }
 
-    /** Connections for programs: in a transaction of the manager each session takes part in it. */
+    /**
+     * Connections for programs: in a transaction of the manager each session takes part in it. It
+     * is a QueueConnectionFactory and a TopicConnectionFactory too.
+     */
     public ConnectionFactory connectionFactory(Manager of) {
         return PooledConnectionFactory.of(of, this, outside);
     }

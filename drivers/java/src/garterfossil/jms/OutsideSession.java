@@ -2,28 +2,16 @@ package garterfossil.jms;
 
 import garterfossil.GlobalTransaction;
 import garterfossil.Manager;
-import java.lang.reflect.Proxy;
-import java.util.ArrayList;
-import java.util.List;
 import javax.jms.IllegalStateException;
 import javax.jms.MessageConsumer;
 import javax.jms.MessageProducer;
-import javax.jms.QueueReceiver;
-import javax.jms.QueueSender;
-import javax.jms.QueueSession;
 import javax.jms.Session;
-import javax.jms.TopicPublisher;
-import javax.jms.TopicSession;
-import javax.jms.TopicSubscriber;
 
 /**
  * A session outside of any transaction. It does no work while its thread has one: what it sends and
  * receives would be no part of that, and so be lost or doubled where that is rolled back.
  */
 final class OutsideSession {
-    private static final List<Class<?>> FACES = List.of(Session.class, QueueSession.class, TopicSession.class, MessageConsumer.class,
-        QueueReceiver.class, TopicSubscriber.class, MessageProducer.class, QueueSender.class, TopicPublisher.class);
-
     private OutsideSession() {
     }
 
@@ -37,9 +25,7 @@ final class OutsideSession {
         if (!isWorking) {
             return target;
         }
-        List<Class<?>> faces = new ArrayList<>(FACES);
-        faces.removeIf(face -> !face.isInstance(target));
-        return Proxy.newProxyInstance(OutsideSession.class.getClassLoader(), faces.toArray(new Class<?>[0]), (proxy, method, words) -> {
+        return Faces.like(target, (proxy, method, words) -> {
             switch (method.getName()) {
                 case "equals": return proxy == words[0];
                 case "hashCode": return System.identityHashCode(proxy);

@@ -3,16 +3,16 @@ package garterfossil.jms;
 import garterfossil.Fault;
 import garterfossil.GlobalTransaction;
 import garterfossil.Manager;
-import java.lang.reflect.InvocationHandler;
 import java.lang.reflect.InvocationTargetException;
 import java.lang.reflect.Method;
-import java.lang.reflect.Proxy;
 import javax.jms.Connection;
 import javax.jms.ConnectionFactory;
 import javax.jms.ExceptionListener;
 import javax.jms.IllegalStateException;
 import javax.jms.JMSException;
+import javax.jms.QueueSession;
 import javax.jms.Session;
+import javax.jms.TopicSession;
 
 /**
  * Connections to a broker. A session that is made in a transaction takes part in it; outside of any
@@ -31,11 +31,7 @@ final class PooledConnectionFactory {
     }
 
     static ConnectionFactory of(Manager manager, JmsResource resource, ConnectionFactory outside) {
-        return proxied(ConnectionFactory.class, new PooledConnectionFactory(manager, resource, outside)::invoke);
-    }
-
-    private static <T> T proxied(Class<T> face, InvocationHandler handler) {
-        return face.cast(Proxy.newProxyInstance(PooledConnectionFactory.class.getClassLoader(), new Class<?>[] {face}, handler));
+        return (ConnectionFactory) Faces.proxied(Faces.FACTORIES, new PooledConnectionFactory(manager, resource, outside)::invoke);
     }
 
     private Object invoke(Object proxy, Method method, Object[] words) throws JMSException {
@@ -43,7 +39,7 @@ final class PooledConnectionFactory {
             case "equals": return proxy == words[0];
             case "hashCode": return System.identityHashCode(proxy);
             case "toString": return "connections to " + resource.name();
-            case "createConnection": return connection(words);
+            case "createConnection": case "createQueueConnection": case "createTopicConnection": return connection(words);
             default: throw new UnsupportedOperationException(method.getName() + ": connections are made by createConnection");
         }
     }
@@ -52,7 +48,7 @@ final class PooledConnectionFactory {
         if (words != null) {
             throw new JMSException("the user is that of the XAConnectionFactory");
         }
-        return proxied(Connection.class, new ConnectionHandle()::invoke);
+        return (Connection) Faces.proxied(Faces.CONNECTIONS, new ConnectionHandle()::invoke);
     }
 
     /** A connection as a program has it. */
@@ -76,6 +72,8 @@ final class PooledConnectionFactory {
                 case "start": isStarted = true; return alone == null ? null : direct(alone, method, words);
                 case "stop": isStarted = false; return alone == null ? null : direct(alone, method, words);
                 case "createSession": return session(method, words);
+                case "createQueueSession": return of(QueueSession.class, session(method, words));
+                case "createTopicSession": return of(TopicSession.class, session(method, words));
                 case "setClientID": throw new IllegalStateException("the connections of a pool have identifiers of their own");
                 case "getClientID": return null;
                 case "getExceptionListener": return alone == null ? null : alone.getExceptionListener();
@@ -91,10 +89,21 @@ final class PooledConnectionFactory {
             return null;
         }
 
-        private Object session(Method method, Object[] words) throws Throwable {
+        /** The session, if those of this broker's client have the interface. */
+        private <T> T of(Class<T> face, Session made) throws JMSException {
+            if (!face.isInstance(made)) {
+                made.close();
+                throw new JMSException("sessions of " + resource.name() + " have no " + face.getSimpleName());
+            }
+            return face.cast(made);
+        }
+
+        private Session session(Method method, Object[] words) throws Throwable {
             GlobalTransaction transaction = manager.current();
             if (transaction == null) {
-                return OutsideSession.of(manager, (Session) direct(alone(), method, words));
+                boolean isPlain = method.getName().equals("createSession");
+                return OutsideSession.of(manager,
+                    isPlain ? (Session) direct(alone(), method, words) : alone().createSession((boolean) words[0], (int) words[1]));
             }
             try {
                 GlobalTransaction.Enlisted branch = transaction.enlist(resource);

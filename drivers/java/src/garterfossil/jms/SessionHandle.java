@@ -5,7 +5,6 @@ import garterfossil.Gate;
 import garterfossil.GlobalTransaction;
 import garterfossil.Manager;
 import java.lang.reflect.Method;
-import java.lang.reflect.Proxy;
 import java.util.ArrayList;
 import java.util.List;
 import javax.jms.IllegalStateException;
@@ -39,7 +38,7 @@ final class SessionHandle {
 
     static Session of(Manager manager, JmsLink link, Gate gate, GlobalTransaction transaction) {
         SessionHandle handle = new SessionHandle(manager, link, gate, transaction);
-        return (Session) Proxy.newProxyInstance(SessionHandle.class.getClassLoader(), new Class<?>[] {Session.class}, handle::invoke);
+        return (Session) Faces.like(link.session(), handle::invoke);
     }
 
     private Object invoke(Object proxy, Method method, Object[] words) throws Throwable {
@@ -105,18 +104,18 @@ final class SessionHandle {
 
     private Object wrapped(Object made) {
         if (made instanceof MessageConsumer) {
-            return child(MessageConsumer.class, made, ((MessageConsumer) made)::close);
+            return child(made, ((MessageConsumer) made)::close);
         }
         if (made instanceof MessageProducer) {
-            return child(MessageProducer.class, made, ((MessageProducer) made)::close);
+            return child(made, ((MessageProducer) made)::close);
         }
-        return made instanceof QueueBrowser ? child(QueueBrowser.class, made, ((QueueBrowser) made)::close) : made;
+        return made instanceof QueueBrowser ? child(made, ((QueueBrowser) made)::close) : made;
     }
 
-    private Object child(Class<?> face, Object target, Gate.Work closing) {
+    private Object child(Object target, Gate.Work closing) {
         open.add(closing);
         link.opened(closing);
-        return Proxy.newProxyInstance(SessionHandle.class.getClassLoader(), new Class<?>[] {face}, (proxy, method, words) -> {
+        return Faces.like(target, (proxy, method, words) -> {
             switch (method.getName()) {
                 case "equals": return proxy == words[0];
                 case "hashCode": return System.identityHashCode(proxy);

@@ -67,7 +67,7 @@ public final class JtaTransaction implements Transaction {
             throw JtaTransactionManager.system(fault);
         } finally {
             GlobalTransaction after = manager.current();
-            // What a synchronization begins behind the end stays.
+            // What a synchronization begins after the end stays.
             if (after == inner || after == null) {
                 manager.associate(before == inner ? null : before);
             }

@@ -2,10 +2,13 @@ package garterfossil.jdbc;
 
 import static org.junit.Assert.assertEquals;
 import static org.junit.Assert.assertThrows;
+import static org.junit.Assert.assertTrue;
 
+import garterfossil.Logged;
 import java.lang.reflect.Proxy;
 import java.sql.Connection;
 import java.sql.SQLException;
+import java.sql.SQLWarning;
 import java.sql.Statement;
 import java.util.ArrayList;
 import java.util.List;
@@ -111,6 +114,20 @@ public class MariaDbXaResourceTest {
         answering(XAException.XA_RBROLLBACK, false).commit(xid, false);
         assertEquals(XAException.XA_RBROLLBACK,
             assertThrows(XAException.class, () -> answering(XAException.XA_RBROLLBACK, true).commit(xid, false)).errorCode);
+    }
+
+    @Test
+    public void aTableThatKeepsWhatIsRolledBackIsWarnedOf() throws Exception {
+        // It may be one that was made since the tables were looked at.
+        XAResource inner = of(XAResource.class, "rollback", words -> null);
+        try (Logged logged = new Logged()) {
+            for (int code : new int[] {1196, 1051}) {
+                SQLWarning warning = new SQLWarning("Some non-transactional changed tables couldn't be rolled back", "01000", code);
+                new MariaDbXaResource(null, Dialect.MARIADB, inner, of(Connection.class, "getWarnings", words -> warning)).rollback(xid);
+            }
+            assertEquals(1, logged.said.size());
+            assertTrue(logged.said.get(0), logged.said.get(0).contains("7:0102:03 is rolled back, but wrote in a table"));
+        }
     }
 
     @Test
