@@ -8,7 +8,7 @@ import sqlite3
 import time
 from concurrent.futures import ThreadPoolExecutor
 
-from garterfossil import ConnectionLost, OutcomeUnknown, Outcome, SetupError, TransactionManager, Xid
+from garterfossil import ConnectionLost, OutcomeUnknown, Outcome, RolledBack, SetupError, TransactionManager, Xid
 from garterfossil.configuration import Configuration
 from garterfossil.errors import CoordinatorGone
 from garterfossil.failover import fail_over
@@ -34,9 +34,9 @@ class Mirrors(Case):
         with open(self.log) as it:
             return json.load(it)["incarnation"]
 
-    def manager(self, **options):
+    def manager(self, log=None, **options):
         named = {"bank": self.left, "shop": self.right}
-        return TransactionManager(named, self.log, threads=2, patience=1.0, program=self.program, mirror=self.mirror, **options)
+        return TransactionManager(named, log or self.log, threads=2, patience=1.0, program=self.program, mirror=self.mirror, **options)
 
     def fail_over(self, **options):
         given = {"program": self.program, "patience": 1.0, "mirror": self.mirror}
@@ -201,6 +201,22 @@ class Mirrors(Case):
         with self.assertRaises(OutcomeUnknown):
             self.move(xa)
         self.assertEqual(self.written(), ([], []))
+
+    def test_of_a_log_and_its_copy_at_work_beside_it_one_decides(self):
+        """As where a machine is cloned while its program runs: both give out the same identifiers."""
+        xa, clone = self.manager(), self.machine + "-clone"
+        shutil.copytree(self.machine, clone)
+        clones = []
+        self.left.before["prepare"] = lambda: (self.left.before.clear(), clones.append(self.manager(os.path.join(clone, "log"))))
+        with self.assertRaises((OutcomeUnknown, RolledBack)):
+            self.move(xa)
+        self.assertEqual(self.written(), ([], []))
+        for _ in range(2):
+            with self.assertRaisesRegex(SetupError, "older than its mirror"):
+                self.move(xa)
+            self.move(clones[0])
+        self.assertEqual(self.written(), (["take"] * 2, ["give"] * 2))
+        clones[0].close()
 
     def test_whoever_is_taken_over_begins_no_session_however_often_it_tries(self):
         xa = self.manager()
