@@ -1,3 +1,4 @@
+mod DecisionLemmas
 mod HeadingLemmas
 mod LineLemmas
 mod RestoreLemmas

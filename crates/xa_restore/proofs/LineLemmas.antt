@@ -1,13 +1,18 @@
 -- The lines of a log behind its names: the first, those of the decisions, and the last.
-use Rattle.std.proofs.Common.{◌≡◌, ℕ, ◌+◌, ◌-◌, ◌<◌, List, [], ◌∷◌, ◌++◌, length, map, take, drop, get_or, suc, ap, refl, subst, sym, ◌∙◌, arith}
+use Rattle.std.proofs.Common.{◌≡◌, ℕ, ◌+◌, ◌-◌, ◌<◌, ◌≤◌, inl, inr, zero, List, [], ◌∷◌, ◌++◌, length, map, take, drop, get_or, suc, ap, refl, subst, sym, ◌∙◌, arith}
 use Rattle.std.specs.Borrow.{Bor}
 use Rattle.std.specs.Option.{option_map}
-use Rattle.std.specs.Prelude.{codes, Option, Some, None, slice_get}
-use Rattle.std.proofs.lemmas.List.{map-append, take_all, take_more}
+use Rattle.std.specs.Prelude.{codes, ◌⊎◌, Option, Some, None, IfSome, slice_get}
+use Rattle.std.proofs.lemmas.List.{map-append, take-map, take_all, take_more}
+use Rattle.std.proofs.lemmas.List.Elements.{All-from_recursion}
 use Rattle.xa_log.specs.declared.decision.Decision.{Decision}
 use Rattle.xa_names.specs.Lines.{line_renamed}
+use Rattle.xa_base.specs.declared.branch.Branch.{Branch}
 use Rattle.xa_base.specs.declared.branch.Gtrid.{Gtrid}
-use Rattle.xa_restore.specs.LogLines.{AreLogLinesOf, Rise, RiseBehind, StandsBehind, decision_row_line, incarnation_line, last_behind}
+use Rattle.xa_restore.specs.LogLines.{AreLogLinesOf, AreRowsOf, IsRow, Rise, RiseBehind, StandsBehind, decision_row_line, incarnation_line, last_behind, stated}
+use Rattle.xa_restore.specs.declared.faults.LineFault.{LineFault}
+use Rattle.xa_restore.specs.declared.faults.LineFault.TheVariants as Faults
+use Rattle.xa_restore.proofs.DecisionLemmas.{as_many, at_place}
 use Rattle.xa_restore.proofs.HeadingLemmas.{texts}
 
 map_texts : (f : List ℕ → List ℕ) (lines : List (Bor (List ℕ))) → map f (texts lines) ≡ map (λ line. f line.now) lines
@@ -48,6 +53,49 @@ lines_are (line ∷ lines) d e name n decisions some first last meant =
       meant = map_texts (line_renamed name) (take (length lines - 1) lines) ∙ subst HaveMeant rows_count meant;
     }
 
+-- and if they are those of a log, what stands in which of them
+ends_in : (lines : List (Bor (List ℕ))) (rows : List (List ℕ)) (text : List ℕ) → texts lines ≡ rows ++ text ∷ []
+    → (0 < length lines) × ((e : Bor (List ℕ)) → (get_or lines (length lines - 1) e).now ≡ text) × (texts (take (length lines - 1) lines) ≡ rows)
+ends_in [] [] text is = absurd (cc)
+ends_in [] (row ∷ rows) text is = absurd (cc)
+ends_in (line ∷ []) [] text is = let same : line.now ≡ text = cc in (omega arith, (λ e. same), refl)
+ends_in (line ∷ other ∷ lines) [] text is = absurd (cc)
+ends_in (line ∷ lines) (row ∷ rows) text is =
+    let first : line.now ≡ row = cc in
+    let others : texts lines ≡ rows ++ text ∷ [] = cc in
+    let there = ends_in lines rows text others in
+    let some : 0 < length lines = there.0 in
+    let place : suc (length lines - 1) ≡ length (line ∷ lines) - 1 = omega arith in
+    let LastIs : ℕ → Type 0 = λ i. (e : Bor (List ℕ)) → (get_or (line ∷ lines) i e).now ≡ text in
+    let RowsAre : ℕ → Type 0 = λ i. texts (take i (line ∷ lines)) ≡ row ∷ rows in
+    (omega arith, subst LastIs place there.1, subst RowsAre place (ap (λ l. l ∷ texts (take (length lines - 1) lines)) first ∙ ap (λ ls. row ∷ ls) there.2))
+
+pub record Stand (lines : List (Bor (List ℕ))) (name : List ℕ) (n : ℕ) (decisions : List Decision) : Type 0 where
+  pub some : 1 < length lines
+  pub first : (d : Bor (List ℕ)) → (get_or lines 0 d).now ≡ incarnation_line n
+  pub last : (e : Bor (List ℕ)) → (get_or lines (length lines - 1) e).now ≡ codes "end"
+  pub rows : map (λ line. line_renamed name line.now) (take ((length lines - 1) - 1) (drop 1 lines)) ≡ map decision_row_line decisions
+
+pub stand : (lines : List (Bor (List ℕ))) (name : List ℕ) (n : ℕ) (decisions : List Decision) → AreLogLinesOf name (texts lines) n decisions
+    → Stand lines name n decisions
+stand [] name n decisions are = let never = are.whole in absurd (cc)
+stand (line ∷ lines) name n decisions are =
+    let whole = are.whole in
+    let first : line.now ≡ incarnation_line n = cc in
+    let others : texts lines ≡ are.rows ++ codes "end" ∷ [] = cc in
+    let there = ends_in lines are.rows (codes "end") others in
+    let some : 0 < length lines = there.0 in
+    let place : suc (length lines - 1) ≡ length (line ∷ lines) - 1 = omega arith in
+    let count : length lines - 1 ≡ (length (line ∷ lines) - 1) - 1 = omega arith in
+    let LastIs : ℕ → Type 0 = λ i. (e : Bor (List ℕ)) → (get_or (line ∷ lines) i e).now ≡ codes "end" in
+    let AreMeant : ℕ → Type 0 = λ i. map (λ line. line_renamed name line.now) (take i lines) ≡ map decision_row_line decisions in
+    record {
+      some = omega arith;
+      first = λ d. first;
+      last = subst LastIs place there.1;
+      rows = subst AreMeant count (sym (map_texts (line_renamed name) (take (length lines - 1) lines)) ∙ ap (map (line_renamed name)) there.2 ∙ are.meant);
+    }
+
 -- ** decisions whose transactions rise
 
 last_more : (last : Option Gtrid) (d : Decision) (ds : List Decision)
@@ -71,3 +119,66 @@ pub rise_more : (ds more : List Decision) (d : Decision) (last : Option Gtrid) �
     → more ≡ ds ++ d ∷ [] → Rise more
 rise_more ds more d last up last_is behind is =
     subst Rise (sym is) (rise_on None ds d up (subst (λ l. StandsBehind l d.gtrid) last_is behind))
+
+-- ** the decision that a line is to state
+
+last_stated : Option Gtrid → List (Gtrid × List Branch) → Option Gtrid
+last_stated last [] = last
+last_stated last (s ∷ ss) = last_stated (Some s.0) ss
+
+last_by : (last : Option Gtrid) (ds : List Decision) → last_stated last (map stated ds) ≡ last_behind last ds
+unfolding last_stated
+last_by last [] = refl
+last_by last (d ∷ ds) = last_by (Some d.gtrid) ds
+
+same_last : (ds es : List Decision) → map stated ds ≡ map stated es → last_behind None es ≡ last_behind None ds
+same_last ds es same = sym (last_by None es) ∙ ap (last_stated None) (sym same) ∙ last_by None ds
+
+rise_at : (last : Option Gtrid) (ds : List Decision) (i : ℕ) (d : Decision) → RiseBehind last ds → i < length ds
+    → StandsBehind (last_behind last (take i ds)) (get_or ds i d).gtrid
+rise_at last [] i d up short = absurd (omega arith)
+rise_at last (e ∷ ds) zero d up short = up.0
+rise_at last (e ∷ ds) (suc i) d up short = rise_at (Some e.gtrid) ds i d up.1 (omega arith)
+
+-- a line states this decision, behind those that the earlier lines stated
+pub record IsNextRow (n : ℕ) (ds earlier : List Decision) (i : ℕ) (line : List ℕ) : Type 0 where
+  pub row : Decision
+  pub is : IsRow row
+  pub started : row.gtrid.incarnation ≤ n
+  pub behind : StandsBehind (last_behind None earlier) row.gtrid
+  pub line_is : line ≡ decision_row_line row
+  pub more : take (i + 1) (map stated ds) ≡ take i (map stated ds) ++ stated row ∷ []
+
+pub next_row : {X : Type 0} (f : X → List ℕ) (n : ℕ) (lines : List X) (ds earlier : List Decision) (i : ℕ) (line : X) → AreRowsOf n ds
+    → map f lines ≡ map decision_row_line ds → map stated earlier ≡ take i (map stated ds) → i < length lines
+    → IsNextRow n ds earlier i (f (get_or lines i line))
+next_row f n lines [] earlier i line rows same got short = let many = as_many f decision_row_line lines [] same in absurd (omega arith)
+next_row f n lines (d ∷ ds) earlier i line rows same got short =
+    let all = d ∷ ds in
+    let here = at_place f decision_row_line lines all i line d same short in
+    let Behind : Option Gtrid → Type 0 = λ last. StandsBehind last (get_or all i d).gtrid in
+    record {
+      row = get_or all i d;
+      is = All-from_recursion IsRow all rows.rows i d here.0;
+      started = All-from_recursion (λ (e : Decision). e.gtrid.incarnation ≤ n) all rows.started i d here.0;
+      behind = subst Behind (same_last earlier (take i all) (got ∙ take-map stated i all)) (rise_at None all i d rows.rise here.0);
+      line_is = here.1;
+      more = take-map stated (i + 1) all ∙ ap (map stated) (take_more all i d here.0) ∙ map-append stated (take i all) (get_or all i d ∷ [])
+          ∙ ap (λ ss. ss ++ stated (get_or all i d) ∷ []) (sym (take-map stated i all));
+    }
+
+pub no_fault : (found : Option LineFault) (fault : LineFault) (row : Decision) (g : Gtrid) (last : Option Gtrid) (n : ℕ) → found ≡ Some fault
+    → row.gtrid ≡ g → IfSome found (λ f. (f ≡ Faults.Later) ⊎ (f ≡ Faults.Order)) → (found ≡ Some Faults.Later → n < g.incarnation)
+    → (found ≡ Some Faults.Order → ¬ StandsBehind last g) → row.gtrid.incarnation ≤ n → StandsBehind last row.gtrid → ⊥
+no_fault found fault row g last n is same kind later order started behind =
+    let either = rw is at kind in
+    elim either [
+      | inl e ↦ let over = later (is ∙ ap Some e) in let at = ap (λ (h : Gtrid). h.incarnation) same in omega arith
+      | inr e ↦ order (is ∙ ap Some e) (subst (StandsBehind last) same behind)
+    ]
+
+pub rows_more : (ds earlier more : List Decision) (i : ℕ) (line : List ℕ) (n : ℕ) (d : Decision) (next : IsNextRow n ds earlier i line)
+    → map stated earlier ≡ take i (map stated ds) → stated d ≡ stated next.row → more ≡ earlier ++ d ∷ [] → map stated more ≡ take (i + 1) (map stated ds)
+rows_more ds earlier more i line n d next got same pushed =
+    ap (map stated) pushed ∙ map-append stated earlier (d ∷ []) ∙ ap (λ ss. ss ++ stated d ∷ []) got ∙ ap (λ s. take i (map stated ds) ++ s ∷ []) same
+    ∙ sym next.more

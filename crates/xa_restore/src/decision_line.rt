@@ -1,10 +1,14 @@
 //! The line of a decision.
 
-ghost use Rattle.std.specs.Prelude.{◌≡◌, ◌++◌, ◌↔◌, IfOk, IfSome, IsTrue, OnOk};
+ghost use Rattle.std.specs.Prelude.{◌≡◌, ◌++◌, ◌↔◌, All, IfOk, IfSome, IsSomeAnd, IsTrue, List, OnOk, Some, false, map};
 ghost use Rattle.std.specs.List.{AllByRecursion};
 ghost use Rattle.std.specs.String.{string_bytes};
+ghost use Rattle.xa_base.specs.Branch.{IsBranch, branch_eq, gtrid_text};
+ghost use Rattle.xa_base.specs.declared.branch.Branch.{Branch};
+ghost use Rattle.xa_base.specs.declared.branch.Gtrid.{Gtrid};
 ghost use Rattle.xa_log.specs.Contract.{FitsRow};
-ghost use Rattle.xa_restore.specs.LogLines.{AreOnce, OwnsBranches, branch_word, branch_words, decision_row_line};
+ghost use Rattle.xa_log.specs.declared.decision.Decision.{Decision};
+ghost use Rattle.xa_restore.specs.LogLines.{AreBranchesOf, AreOnce, IsRow, OwnsBranches, branch_text, branch_word, branch_words, decision_row_line, decision_words, stated};
 
 use crate::spelling::is_written;
 use std::alloc::Global;
@@ -42,14 +46,37 @@ fn decision_line(alloc: Global, decision: &Decision) -> Result<String, Memory>
 }
 
 /// The branch that a word names by its identifier.
-fn branch_named(word: &str) -> Option<Branch> {
+fn branch_named(word: &str) -> Option<Branch>
+    ensures found { (b : Branch) → IsBranch b → word.now ≡ branch_text b → result ≡ Some b }
+{
     Xid::parse(word).ok()?.branch()
 }
 
 /// The transaction that a word names by its digits: that of the branch whose identifier has these.
-fn gtrid_named(alloc: Global, word: &str) -> Result<Option<Gtrid>, Memory> {
+fn gtrid_named(alloc: Global, word: &str) -> Result<Option<Gtrid>, Memory>
+    ensures found { (g : Gtrid) → FitsRow g → word.now ≡ gtrid_text g →
+        IfOk result (λ found. found ≡ Some g) }
+{
     let text = format!(in alloc; "{}:{word}:0000000000000000", OWN_FORMAT)?;
-    Ok(branch_named(text.as_str()).map(|branch| branch.gtrid))
+    match branch_named(text.as_str()) {
+        Some(branch) => Ok(Some(branch.gtrid)),
+        None => Ok(None),
+    }
+}
+
+/// The branch of the transaction that a word names, if it is none of those before it.
+fn own_branch(gtrid: Gtrid, word: &str, earlier: &[Branch]) -> Option<Branch>
+    ensures own { IfSome result (λ b. b.gtrid ≡ gtrid) }
+    ensures once { IfSome result (λ b. All (λ c. branch_eq c b ≡ false) earlier.now) }
+    ensures found { (b : Branch) → IsBranch b → b.gtrid ≡ gtrid →
+        All (λ c. branch_eq c b ≡ false) earlier.now →
+        word.now ≡ branch_text b → result ≡ Some b }
+{
+    let branch = branch_named(word)?;
+    if branch.gtrid != gtrid || earlier.contains(&branch) {
+        return None;
+    }
+    Some(branch)
 }
 
 /// The branches that words name, where each is another one of the transaction.
@@ -57,15 +84,16 @@ fn own_branches(alloc: Global, gtrid: Gtrid, words: &[&str]) -> Result<Option<Ve
     ensures own { IfOk result (λ branches. IfSome branches (λ branches.
         AllByRecursion (λ b. b.gtrid ≡ gtrid) branches.items)) }
     ensures once { IfOk result (λ branches. IfSome branches (λ branches. AreOnce branches.items)) }
+    ensures found { (bs : List Branch) → AreBranchesOf gtrid bs →
+        map (λ word. word.now) words.now ≡ map branch_text bs →
+        IfOk result (λ found. IsSomeAnd found (λ branches. branches.items ≡ bs)) }
 {
     let mut branches = Vec::with_capacity(alloc, words.len())?;
     for word in words {
-        match branch_named(word) {
-            Some(branch) if branch.gtrid == gtrid && !branches.contains(&branch) => {
-                branches.push(branch)?;
-            }
-            _ => return Ok(None),
-        }
+        let Some(branch) = own_branch(gtrid, word, &branches) else {
+            return Ok(None);
+        };
+        branches.push(branch)?;
     }
     Ok(Some(branches))
 }
@@ -74,6 +102,9 @@ fn own_branches(alloc: Global, gtrid: Gtrid, words: &[&str]) -> Result<Option<Ve
 fn decision_in(alloc: Global, words: &[&str]) -> Result<Option<Decision>, Memory>
     ensures own { IfOk result (λ decision. IfSome decision OwnsBranches) }
     ensures once { IfOk result (λ decision. IfSome decision (λ d. AreOnce d.participants.items)) }
+    ensures found { (d : Decision) → IsRow d →
+        map (λ word. word.now) words.now ≡ decision_words d →
+        IfOk result (λ found. IsSomeAnd found (λ e. stated e ≡ stated d)) }
 {
     let [gtrid, _count, branches @ ..] = words else {
         return Ok(None);
@@ -88,6 +119,17 @@ fn decision_in(alloc: Global, words: &[&str]) -> Result<Option<Decision>, Memory
         }),
         None => None,
     })
+}
+
+/// What a line says of a transaction and its participants, if it does.
+fn decision_in_line(alloc: Global, line: &str) -> Result<Option<Decision>, Memory>
+    ensures own { IfOk result (λ decision. IfSome decision OwnsBranches) }
+    ensures once { IfOk result (λ decision. IfSome decision (λ d. AreOnce d.participants.items)) }
+    ensures found { (d : Decision) → IsRow d → line.now ≡ decision_row_line d →
+        IfOk result (λ found. IsSomeAnd found (λ e. stated e ≡ stated d)) }
+{
+    let words: Vec<&str> = line.split(' ').collect(alloc)?;
+    decision_in(alloc, &words)
 }
 
 /// Whether the numbers of a transaction fit into a row.
@@ -105,9 +147,10 @@ pub(crate) fn read_decision(alloc: Global, line: &str) -> Result<Option<Decision
     ensures own { IfOk result (λ decision. IfSome decision OwnsBranches) }
     ensures once { IfOk result (λ decision. IfSome decision (λ d. AreOnce d.participants.items)) }
     ensures fits { IfOk result (λ decision. IfSome decision (λ d. FitsRow d.gtrid)) }
+    ensures found { (d : Decision) → IsRow d → line.now ≡ decision_row_line d →
+        IfOk result (λ found. IsSomeAnd found (λ e. stated e ≡ stated d)) }
 {
-    let words: Vec<&str> = line.split(' ').collect(alloc)?;
-    let Some(decision) = decision_in(alloc, &words)? else {
+    let Some(decision) = decision_in_line(alloc, line)? else {
         return Ok(None);
     };
     if !fits_row(decision.gtrid) {

@@ -1,10 +1,11 @@
 //! The lines of a log.
 
-ghost use Rattle.std.specs.Prelude.{◌≡◌, ◌<◌, ◌≤◌, ◌⊎◌, ℕ, map, IfNone, IfOk, IfSome, None, Some};
+ghost use Rattle.std.specs.Prelude.{◌≡◌, ◌<◌, ◌≤◌, ◌⊎◌, ℕ, List, map, IfErr, IfNone, IfOk, IfSome, None, Some};
 ghost use Rattle.std.specs.List.{AllByRecursion};
 ghost use Rattle.xa_log.specs.Contract.{FitsRow};
+ghost use Rattle.xa_log.specs.declared.decision.Decision.{Decision};
 ghost use Rattle.xa_names.specs.Lines.{line_renamed};
-ghost use Rattle.xa_restore.specs.LogLines.{AreLogLinesOf, AreOnce, OwnsBranches, Rise, StandsBehind, decision_row_line, incarnation_line, last_behind};
+ghost use Rattle.xa_restore.specs.LogLines.{AreLogLinesOf, AreOnce, AreRowsOf, OwnsBranches, Rise, StandsBehind, decision_row_line, incarnation_line, last_behind, stated};
 
 use crate::decision_line::read_decision;
 use crate::faults::{LineFault, RestoreFault};
@@ -94,6 +95,12 @@ fn read_decisions(
     ensures started { IfOk result (λ decisions.
         AllByRecursion (λ d. d.gtrid.incarnation ≤ incarnation) decisions.items) }
     ensures rise { IfOk result (λ decisions. Rise decisions.items) }
+    ensures found { (ds : List Decision) → AreRowsOf incarnation ds →
+        map (λ line. line_renamed name.now line.now) lines.now ≡ map decision_row_line ds →
+        IfOk result (λ decisions. map stated decisions.items ≡ map stated ds) }
+    ensures taken { (ds : List Decision) → AreRowsOf incarnation ds →
+        map (λ line. line_renamed name.now line.now) lines.now ≡ map decision_row_line ds →
+        IfErr result (λ fault. fault ≡ RestoreFault.Memory) }
 {
     let mut decisions: Vec<Decision> = Vec::with_capacity(alloc, lines.len())?;
     for (at, line) in lines.iter().enumerate() {
@@ -127,6 +134,13 @@ pub fn read_log(alloc: Global, name: &ManagerName, lines: &[&str]) -> Result<Log
         AllByRecursion (λ d. d.gtrid.incarnation ≤ log.incarnation) log.decisions.items) }
     ensures rise { IfOk result (λ log. Rise log.decisions.items) }
     ensures most { IfOk result (λ log. log.incarnation ≤ MOST_STARTS) }
+    ensures found { (n : ℕ) (ds : List Decision) → n ≤ MOST_STARTS → AreRowsOf n ds →
+        AreLogLinesOf name.now (map (λ line. line.now) lines.now) n ds →
+        IfOk result (λ log. (log.incarnation ≡ n) ×
+        (map stated log.decisions.items ≡ map stated ds)) }
+    ensures taken { (n : ℕ) (ds : List Decision) → n ≤ MOST_STARTS → AreRowsOf n ds →
+        AreLogLinesOf name.now (map (λ line. line.now) lines.now) n ds →
+        IfErr result (λ fault. fault ≡ RestoreFault.Memory) }
 {
     let [first, rows @ .., last] = lines else {
         return Err(RestoreFault::Line(lines.len() + 1, LineFault::End));

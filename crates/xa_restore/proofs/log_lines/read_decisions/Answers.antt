@@ -1,7 +1,10 @@
-use Rattle.std.proofs.Common.{◌∙◌, ap, arith, subst}
+use Rattle.std.proofs.Common.{◌∙◌, ℕ, List, ap, arith, subst, sym}
 use Rattle.std.proofs.lemmas.Grind.{common_steps}
 use Rattle.std.specs.Prelude.{IfNone, None}
-use Rattle.xa_restore.proofs.LineLemmas.{rise_more}
+use Rattle.std.specs.Borrow.{Bor}
+use Rattle.xa_names.specs.Lines.{line_renamed}
+use Rattle.xa_restore.proofs.DecisionLemmas.{same_gtrid}
+use Rattle.xa_restore.proofs.LineLemmas.{next_row, no_fault, rise_more, rows_more}
 use Rattle.xa_restore.specs.LogLines.{StandsBehind, last_behind}
 use Rattle.xa_restore.proofs.log_lines.read_decisions.Goals as goal
 
@@ -16,4 +19,28 @@ loop-at-preserved c = record {
       (c.last_gtrid-last.ensures ∙ ap (last_behind None) c.deref.ensures.value)
       (subst (λ r. IfNone r (StandsBehind c.last_gtrid-last.result c.in-Some.decision.gtrid)) c.in_default-fault_of.is c.fault_of.ensures.behind)
       c.in_ok-push.ensures.items;
+  found = λ ds rows same.
+      let got = c.loop-at.invariant.found ds rows same in
+      let next = next_row (λ (line : Bor (List ℕ)). line_renamed c.args.name.now line.now) c.args.incarnation c.args.lines.now ds
+      c.loop-at.decisions.items c.loop-at.at _ rows same got (omega arith) in
+      let read = rw c.in-Some.is at (c.in_ok-decision.ensures.found next.row next.is (c.as_str.ensures.value ∙ c.in_ok-meant.ensures ∙ next.line_is)) in
+      rows_more ds c.loop-at.decisions.items c.push.new.self.items c.loop-at.at _ c.args.incarnation c.in-Some.decision next got read
+      c.in_ok-push.ensures.items;
 }
+
+pub returns-in_default-clause-taken : goal.returns-in_default-clause-taken
+returns-in_default-clause-taken c = λ ds rows same.
+    let next = next_row (λ (line : Bor (List ℕ)). line_renamed c.args.name.now line.now) c.args.incarnation c.args.lines.now ds c.loop-at.decisions.items
+    c.loop-at.at _ rows same (c.loop-at.invariant.found ds rows same) (omega arith) in
+    let read = rw c.in_default.is at (c.in_ok-decision.ensures.found next.row next.is (c.as_str.ensures.value ∙ c.in_ok-meant.ensures ∙ next.line_is)) in
+    absurd read
+
+pub returns-in-Some-fault_of-clause-taken : goal.returns-in-Some-fault_of-clause-taken
+returns-in-Some-fault_of-clause-taken c = λ ds rows same.
+    let next = next_row (λ (line : Bor (List ℕ)). line_renamed c.args.name.now line.now) c.args.incarnation c.args.lines.now ds c.loop-at.decisions.items
+    c.loop-at.at _ rows same (c.loop-at.invariant.found ds rows same) (omega arith) in
+    let read = rw c.in-Some.is at (c.in_ok-decision.ensures.found next.row next.is (c.as_str.ensures.value ∙ c.in_ok-meant.ensures ∙ next.line_is)) in
+    let last = c.last_gtrid-last.ensures ∙ ap (last_behind None) c.deref.ensures.value in
+    absurd (no_fault c.fault_of.result c.in-Some-fault_of.fault next.row c.in-Some.decision.gtrid c.last_gtrid-last.result c.args.incarnation
+    c.in-Some-fault_of.is (same_gtrid next.row c.in-Some.decision read) c.fault_of.ensures.kind c.fault_of.ensures.later c.fault_of.ensures.order
+    next.started (subst (λ l. StandsBehind l next.row.gtrid) (sym last) next.behind))
