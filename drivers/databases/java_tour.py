@@ -6,7 +6,8 @@ import shutil
 import subprocess
 import tempfile
 
-from jdbc import BITRONIX, compiled, driver_of, paths_of
+from broker import BrokerServer
+from jdbc import ACTIVEMQ, BITRONIX, compiled, driver_of, paths_of
 from servers import MariaDBServer, Missing, PostgreSQLServer, free_port, processes_of
 from world import TOP
 
@@ -135,6 +136,34 @@ def see_command(world, folder, path):
     return not is_right
 
 
+def see_broker(world, path):
+    """A branch that a broker's crash left is ended while messages come: none of them is lost in another crash. How much was wrong."""
+    broker = BrokerServer(world.home, "broker", path)
+
+    def said(*words):
+        # On a busy machine a broker that was killed may take long to greet its first client.
+        for _ in range(5):
+            done = subprocess.run(["java", "-cp", ":".join(path), *words, broker.url()], stdout=subprocess.PIPE, stderr=subprocess.DEVNULL, text=True)
+            if done.returncode == 0:
+                break
+        return done.stdout.split()
+
+    broker.start()
+    try:
+        found = []
+        for phase in ("prepare", "end"):
+            found = said("Leftover", phase)
+            broker.kill()
+            broker.start()
+        held = [*found, *said("Drain")[1:]]
+    finally:
+        broker.stop()
+    sent = ["left", *(f"before{number}" for number in range(5)), *(f"after{number}" for number in range(30))]
+    is_right = sorted(held) == sorted(sent)
+    print(f"{'ok   ' if is_right else 'WRONG'} Java: a branch that a broker's crash left is ended: of 36 messages {len(held)} are there", flush=True)
+    return not is_right
+
+
 def run(world):
     """Prints each story. How many were wrong."""
     if {type(server) for server in world.servers} != {PostgreSQLServer, MariaDBServer}:
@@ -142,8 +171,15 @@ def run(world):
         return 0
     folder = tempfile.mkdtemp(dir=world.home)
     os.chmod(folder, 0o755)
+    names = ["Tour", "Grow", "Halt", "Hooks", "Speed"]
+    for needed, more, what in ((ACTIVEMQ, ["Broker", "Drain", "Leftover"], "a broker"),):
+        try:
+            paths_of(needed)
+            names += more
+        except Missing as missing:
+            print(f"tour: without {what}: {missing}")
     try:
-        path = [folder, *paths_of(dict(driver_of(server) for server in world.servers)), *compiled(folder, ["Tour", "Grow", "Halt", "Hooks", "Speed"])]
+        path = [folder, *paths_of(dict(driver_of(server) for server in world.servers)), *compiled(folder, names)]
     except Missing as missing:
         print(f"tour: without Java: {missing}")
         return 0
@@ -157,6 +193,7 @@ def run(world):
             words = ["java", "-cp", ":".join(path), "Tour", folder, world.coordinator, *urls, processes]
             wrong = subprocess.run(words, stderr=log).returncode != 0
         wrong += see_set_ups(world, folder, path) + see_command(world, folder, path) + see_grown(world, folder, path)
+        wrong += see_broker(world, path) if "Broker" in names else 0
         return wrong + sum(see_failover(world, folder, path, mirror) for mirror in (0, 1))
     finally:
         for server in world.servers:

@@ -1,5 +1,7 @@
 import java.io.File;
 import org.apache.activemq.broker.BrokerService;
+import org.apache.activemq.broker.region.policy.PolicyEntry;
+import org.apache.activemq.broker.region.policy.PolicyMap;
 import org.apache.activemq.store.kahadb.KahaDBPersistenceAdapter;
 
 /**
@@ -7,6 +9,10 @@ import org.apache.activemq.store.kahadb.KahaDBPersistenceAdapter;
  *
  * <p>It keeps all of its journal. If it is killed its index may lack messages that the journal has,
  * and it would delete a file of the journal of which the index names no message.
+ *
+ * <p>And it hands out what its store has, and not what it keeps beside that: with such a cache it
+ * reads messages a second time once a branch is ended that a crash has left, takes them for
+ * duplicates, and removes them.
  */
 public class Broker {
     public static void main(String[] words) throws Exception {
@@ -20,6 +26,10 @@ public class Broker {
         broker.setSchedulerSupport(false);
         broker.setDataDirectoryFile(new File(words[0], "data"));
         broker.setPersistenceAdapter(store);
+        PolicyEntry queues = new PolicyEntry();
+        queues.setUseCache(false);
+        broker.setDestinationPolicy(new PolicyMap());
+        broker.getDestinationPolicy().setDefaultEntry(queues);
         broker.addConnector("tcp://127.0.0.1:" + words[1]);
         broker.start();
         broker.waitUntilStopped();

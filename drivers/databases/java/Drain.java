@@ -13,7 +13,16 @@ import org.apache.activemq.ActiveMQXAConnectionFactory;
  * it takes out. Usage: Drain URL.
  */
 public class Drain {
+    /** A failure ends the process: threads of the broker's client would keep it. */
+    static void endsByFailure() {
+        Thread.currentThread().setUncaughtExceptionHandler((thread, error) -> {
+            error.printStackTrace();
+            Runtime.getRuntime().halt(1);
+        });
+    }
+
     public static void main(String[] words) throws Exception {
+        endsByFailure();
         ActiveMQXAConnection xa = (ActiveMQXAConnection) new ActiveMQXAConnectionFactory(words[0]).createXAConnection();
         xa.start();
         XASession branches = xa.createXASession();
