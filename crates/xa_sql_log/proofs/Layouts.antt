@@ -3,11 +3,26 @@ use Rattle.std.proofs.Common.{◌≡◌, refl, is_some, codes, true, false, IsTr
 use Rattle.sqlite_schema.specs.Names.{table_named}
 use Rattle.sqlite_tied.specs.Compute.{everything}
 use Rattle.sqlite.specs.State.{State, IsUnchanged}
-use Rattle.xa_sql_log.specs.Tables.{old_schema, log_schema}
+use Rattle.xa_sql_log.specs.Layouts.{layout_in}
+use Rattle.xa_sql_log.specs.Tables.{no_tables, old_schema, log_schema}
+use Rattle.xa_sql_log.specs.declared.layout.Layout.TheVariants.{Missing, Version1, Version2}
 use Rattle.xa_sql_log.specs.Rows.{IsOldLog, content_of, old_content_of}
 use Rattle.xa_sql_log.specs.OpenedDatabase.{HasMetaRow}
 use Rattle.xa_sql_log.specs.PreparedDatabase.{IsUntouched, LeavesSame}
 use Rattle.xa_sql_log.specs.Sql.{IsOldReady, HasLogTables, IsShutOrAsBefore, Rests}
+
+-- a blank database has no table of a log, and the tables of each version are known for it
+pub layout_of_none : layout_in no_tables ≡ Missing
+unfolding everything layout_in
+layout_of_none = refl
+
+pub layout_of_old : layout_in old_schema ≡ Version1
+unfolding everything layout_in
+layout_of_old = refl
+
+pub layout_of_log : layout_in log_schema ≡ Version2
+unfolding everything layout_in
+layout_of_log = refl
 
 pub meta_in_old : is_some (table_named old_schema (codes "tm_meta")) ≡ true
 unfolding everything

@@ -3,6 +3,7 @@ pub mod Faults
 pub mod Halves
 pub mod HeldContents
 pub mod Labels
+pub mod Layouts
 pub mod OpenedDatabase
 pub mod PreparedDatabase
 pub mod Rows

@@ -8,8 +8,8 @@ ghost use Rattle.xa_log.specs.Contract.{IsStoreFault};
 ghost use Rattle.xa_sql_log.specs.Labels.{is_label, labelled};
 ghost use Rattle.xa_sql_log.specs.OpenedDatabase.{IsBlank};
 
+use crate::layout::has_log;
 use crate::statements::of_store;
-use crate::tables::has_log;
 use sqlite::{Alter, Connection};
 use std::alloc::{AllocError, Global};
 use xa_log::LogFault;

@@ -7,6 +7,7 @@ mod fields;
 mod groups;
 mod heuristics;
 mod label;
+mod layout;
 mod meta;
 mod participants;
 mod removals;

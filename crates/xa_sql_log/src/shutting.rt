@@ -13,8 +13,9 @@ ghost use Rattle.xa_sql_log.specs.Sql.{IsOrderly, IsReadyWith};
 
 use crate::fields::number;
 use crate::label::find_label;
+use crate::layout::{has_log, refuse_other};
 use crate::statements::{of_store, run};
-use crate::tables::{SET_VERSION, has_log};
+use crate::tables::SET_VERSION;
 use crate::version::{READ_META, check_version};
 use sqlite::{Alter, Connection, Row};
 use std::alloc::Global;
@@ -60,6 +61,7 @@ pub(crate) fn reopen<S: Alter>(conn: &mut Connection<S>) -> Result<(), LogFault>
         HasCleanDisk (state S.Store conn.new) →
         OnOk result (IsReadyWith c (state S.Store conn.new)) }
 {
+    refuse_other(conn)?;
     check_version(conn, SHUT_VERSION)?;
     of_store(conn.execute(SET_VERSION, &[]))?;
     Ok(())
@@ -96,6 +98,7 @@ pub(crate) fn find_head<S: Alter>(
     if !has_log(conn) {
         return Ok(None);
     }
+    refuse_other(conn)?;
     let (version, incarnation) = find_meta(conn)?;
     let Some(label) = find_label(alloc, conn)? else {
         return Ok(None);

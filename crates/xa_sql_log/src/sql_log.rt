@@ -1,7 +1,8 @@
 //! A decision log in a database.
-ghost use Rattle.std.specs.Prelude.{◌≡◌, Ok, Err, IsTrue, IfOk, IfErr};
+ghost use Rattle.std.specs.Prelude.{◌≡◌, false, Ok, Err, IsTrue, IfOk, IfErr};
 ghost use Rattle.sqlite.specs.State.{HasCleanDisk};
 ghost use Rattle.sqlite.specs.Held.{state};
+ghost use Rattle.xa_sql_log.specs.Layouts.{HasOtherTables};
 ghost use Rattle.xa_sql_log.specs.OpenedDatabase.{IsFoundLog, IsKnownDatabase};
 ghost use Rattle.xa_sql_log.specs.PreparedDatabase.{Prepares};
 
@@ -39,8 +40,9 @@ impl<S: Alter + Drop> SqlLog<S> {
     /// log's; of such a database the contract says only that each call is safe.
     ///
     /// - [`LogFault::Version`]: the tables name another version, or lack a number or have one that doesn't fit its
-    ///   type. Nothing has changed.
-    /// - [`LogFault::Store`]: the store failed, a transaction is open, or other tables have these names.
+    ///   type; or they have names of a log's and aren't a log's, as where one is missing or has other columns. Nothing
+    ///   has changed.
+    /// - [`LogFault::Store`]: the store failed, or a transaction is open.
     /// - [`LogFault::Memory`]: a request for memory was refused.
     ///
     /// In the contract `ok` says what the log then holds and `err` what a failure leaves, each by `Prepares`:
@@ -61,6 +63,9 @@ impl<S: Alter + Drop> SqlLog<S> {
     pub fn adopt(mut conn: Connection<S>) -> Result<SqlLog<S>, (LogFault, Connection<S>)>
         ensures faults { IfOk result (λ log. log.faults ≡ 0) }
         ensures busy { IsTrue conn.in_transaction → result ≡ Err (LogFault.Store, conn) }
+        // Tables that aren't a log's are refused, and nothing is written.
+        ensures other { conn.in_transaction ≡ false → HasOtherTables (state S.Store conn) →
+            result ≡ Err (LogFault.Version, conn) }
         // What the log then holds, or what a failure leaves.
         ensures ok { IfOk result (λ log. HasCleanDisk (state S.Store log.conn) →
             Prepares (state S.Store conn) (state S.Store log.conn) (Ok tt)) }

@@ -1,16 +1,17 @@
 //! The tables of a log: made where there is none, and migrated from version 1.
-ghost use Rattle.std.specs.Prelude.{◌≡◌, ◌⊎◌, false, true, IsTrue, [], Err, IfErr, OnOk};
+ghost use Rattle.std.specs.Prelude.{◌≡◌, ◌⊎◌, false, IsTrue, Err, IfErr, OnOk};
 ghost use Rattle.sqlite.specs.State.{HasCleanDisk, KeepsCommit, Survives};
 ghost use Rattle.sqlite.specs.Held.{state};
 ghost use Rattle.xa_log.specs.Content.{nothing};
 ghost use Rattle.xa_log.specs.Contract.{IsStoreFault};
+ghost use Rattle.xa_sql_log.specs.Layouts.{HasOtherTables};
 ghost use Rattle.xa_sql_log.specs.Rows.{old_content_of, IsOldLog};
-ghost use Rattle.xa_sql_log.specs.Tables.{old_schema, log_schema};
 ghost use Rattle.xa_sql_log.specs.Sql.{IsNewLog, AreNewTrees, IsOldReady, Rests};
 ghost use Rattle.xa_sql_log.specs.OpenedDatabase.{IsBlank, HasTables, NamesVersion, NamesKnown, RunsInside};
 ghost use Rattle.xa_sql_log.specs.Labels.{MakesParticipants};
 ghost use Rattle.xa_sql_log.specs.PreparedDatabase.{LeavesSame, MakesLog, Prepares};
 
+use crate::layout::{Layout, layout_of};
 use crate::statements::of_store;
 use crate::version::check_version;
 use sqlite::{Alter, Connection, Transaction};
@@ -35,14 +36,6 @@ const CREATE_PARTICIPANT: &str = "CREATE TABLE participant (inc INTEGER NOT NULL
 const FIRST_META: &str = "INSERT INTO tm_meta (k, version, incarnation) VALUES (1, 2, 0)";
 
 pub(crate) const SET_VERSION: &str = "UPDATE tm_meta SET version = 2";
-
-/// The tables of a database, by their names.
-#[derive(Clone, Copy, Debug, PartialEq, Eq)]
-enum Layout {
-    Missing,
-    Version1,
-    Version2,
-}
 
 /// Runs one statement of a transaction, which has no parameters.
 fn execute<S: Alter>(tx: &mut Transaction<'_, S>, sql: &str) -> Result<(), LogFault>
@@ -173,39 +166,13 @@ fn upgrade<S: Alter>(conn: &mut Connection<S>) -> Result<(), LogFault>
     migrate(conn)
 }
 
-/// Which tables the database has.
-fn layout_of<S: Alter>(conn: &Connection<S>) -> Layout
-    ensures missing { IsBlank (state S.Store conn.now) → result ≡ Layout.Missing }
-    ensures version_1 { (state S.Store conn.now).now.schema ≡ old_schema →
-        result ≡ Layout.Version1 }
-    ensures version_2 { (state S.Store conn.now).now.schema ≡ log_schema →
-        result ≡ Layout.Version2 }
-{
-    let tables = conn.schema();
-    if tables.table_named(b"participant").is_some() {
-        Layout::Version2
-    } else if tables.table_named(b"tm_meta").is_some() {
-        Layout::Version1
-    } else {
-        Layout::Missing
-    }
-}
-
-/// Whether the database has tables of a log.
-pub(crate) fn has_log<S: Alter>(conn: &Connection<S>) -> bool
-    ensures blank { IsBlank (state S.Store conn.now) → result ≡ false }
-    ensures tables { HasTables (state S.Store conn.now) → result ≡ true }
-{
-    match layout_of(conn) {
-        Layout::Missing => false,
-        Layout::Version1 | Layout::Version2 => true,
-    }
-}
-
-/// Makes the tables where there is none, migrates those of version 1, and keeps those of version 2.
+/// Makes the tables where there is none, migrates those of version 1, and keeps those of version 2. Others that have a log's names are
+/// refused, and nothing is read or written then.
 pub(crate) fn prepare<S: Alter>(conn: &mut Connection<S>) -> Result<(), LogFault>
     ensures busy { IsTrue conn.old.in_transaction →
         (result ≡ Err LogFault.Store) × (conn.new ≡ conn.old) }
+    ensures other { conn.old.in_transaction ≡ false → HasOtherTables (state S.Store conn.old) →
+        (result ≡ Err LogFault.Version) × (conn.new ≡ conn.old) }
     ensures prepares { HasCleanDisk (state S.Store conn.new) →
         Prepares (state S.Store conn.old) (state S.Store conn.new) result }
 {
@@ -216,5 +183,6 @@ pub(crate) fn prepare<S: Alter>(conn: &mut Connection<S>) -> Result<(), LogFault
         Layout::Missing => make_plain_tables(conn),
         Layout::Version1 => upgrade(conn),
         Layout::Version2 => check_version(conn, 2),
+        Layout::Other => Err(LogFault::Version),
     }
 }

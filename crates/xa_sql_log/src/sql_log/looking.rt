@@ -11,8 +11,8 @@ ghost use Rattle.xa_sql_log.specs.PreparedDatabase.{IsOverFiles};
 
 use super::SqlLog;
 use super::files::{copies_of, options_of};
+use crate::layout::has_log;
 use crate::statements::{of_store, store_fault};
-use crate::tables::has_log;
 use sqlite::{Alter, Connection, FileFrom, FileStore, Files, Unknown};
 use sqlite_disk::{Disk, Start};
 use std::alloc::Global;

@@ -64,3 +64,22 @@ returns-in-Version2-clause-prepares g c clean =
       crash = search rules;
       crash_kept = search rules;
     }
+
+pub returns-in-Other-clause-prepares : goal.returns-in-Other-clause-prepares
+returns-in-Other-clause-prepares g c clean =
+    let old = state g.S.Store c.args.conn.now in
+    record {
+      honest = clean;
+      made = search rules;
+      migrated = search rules;
+      kept = search rules;
+      found = found_kept old (search rules);
+      found_err = found_known old (search rules);
+      known = search rules;
+      version = search rules;
+      unknown = search rules;
+      refused = search rules;
+      undone = search rules;
+      crash = search rules;
+      crash_kept = search rules;
+    }
