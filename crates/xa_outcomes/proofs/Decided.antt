@@ -243,7 +243,7 @@ whole_commits RollbackOnly h = absurd h
 whole_commits s h = h
 
 -- the row is there as long as a branch of its transaction is prepared
-row_of_prepared : (tr : Trace) (c : Branch) (g : Gtrid) → AllRight tr → c.gtrid ≡ g → had_row tr g ≡ true → standing tr c ≡ Prepared
+pub row_of_prepared : (tr : Trace) (c : Branch) (g : Gtrid) → AllRight tr → c.gtrid ≡ g → had_row tr g ≡ true → standing tr c ≡ Prepared
     → has_row tr g ≡ true
 row_of_prepared tr c g right same had prepared = by (has_row tr g) refl
   where

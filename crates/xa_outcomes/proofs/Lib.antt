@@ -7,6 +7,8 @@ mod Reached
 mod Recovered
 mod ServedOutcomes
 mod ServedSessions
+pub mod ServedTransactions
+mod Transactions
 mod Undecided
 mod Untold
 mod WorkedLines

@@ -19,7 +19,7 @@ use Rattle.xa_outcomes.proofs.Reached.{IsOneHistory, reached}
 use Rattle.xa_outcomes.specs.Parts.{SessionsAreParts}
 
 -- a branch is committed by its row, or in one phase
-committed_by : (tr : Trace) → AllRight tr → (b : Branch) → standing tr b ≡ Committed → (had_row tr b.gtrid ≡ true) ⊎ (handed_over tr b.gtrid ≡ true)
+pub committed_by : (tr : Trace) → AllRight tr → (b : Branch) → standing tr b ≡ Committed → (had_row tr b.gtrid ≡ true) ⊎ (handed_over tr b.gtrid ≡ true)
 committed_by tr right b e = by (always tr right) ((always tr right).committed b e)
   where
     by : Inv tr → ((had_row tr b.gtrid ≡ true) ⊎ (handed_over tr b.gtrid ≡ true)) ⊎ IsOlder tr b

@@ -87,6 +87,12 @@ module _ {L : Type 0} (moment : L → Moment) (name : List ℕ) where
       pub so_far : IsUntoldSoFar moment name g last f served → IsUndecidedSoFar g log f after
       pub parts : (whole : Trace) → IsOfSessions log f after whole → IsOfServed moment name last f served whole
 
+    -- they are sessions that saw what these told
+    pub record SawTold (last : Option (Server L)) (f : Branch → Standing) (served : AreServed moment name last f) : Type 0 where
+      pub log : Log
+      pub after : AfterSessions log f
+      pub some : ToldIn Saw last f served → SawIn Saw log f after
+
     module _ (last : Option (Server L)) (from to : Branch → Standing) (handed : L) (o : Origin) (told : Seen) (now : Server L)
         (before : AreServed moment name last from) (handed_on : IsHandedOn moment last handed) (is : IsSession moment name handed o told now) (seen : Seen) (left : Server L)
         (is_left : IsSessionLeft moment told now seen left) (honest : (moment (log_in left.session.manager)).is_honest) (done cut : List Line)
@@ -211,6 +217,48 @@ module _ {L : Type 0} (moment : L → Moment) (name : List ℕ) where
               (InAnswer t r named code call left waits performs) honest done cut may prior_so (lists_so left performs.keeps honest)
               told (inl refl) (λ s. s) (λ d. d) (λ h. h) None (λ x. x) (session_so None tt) (done ++ line t r ∷ []) cut may_before next finds
 
+      -- one more of them, whatever log it leaves
+      saw_by : (seen : Seen) (left : Server L) (is_left : IsSessionLeft moment told now seen left) (honest : (moment (log_in left.session.manager)).is_honest)
+          (done cut : List Line) (may : MayAllStand o seen (λ b. Comes seen b (broken (from b))) done cut to) (fails : Option Fault)
+          → (Saw told → Saw seen) → GoesOnFrom last from before o → Is_session o seen fails
+          → SawTold (Some left) to (OneMore last from to handed o told seen now left done cut before handed_on is is_left honest may)
+      saw_by seen left is_left honest done cut may fails saw goes session = record {
+        log = LeftBy o seen fails;
+        after = One_session goes.log from to o seen fails done cut goes.after goes.finds session may;
+        some = some_so;
+      }
+        where
+          some_so : Saw told ⊎ ToldIn Saw last from before → Saw seen ⊎ SawIn Saw goes.log from goes.after
+          some_so (inl s) = inl (saw s)
+          some_so (inr e) = inr (goes.some e)
+
+      one_saw : (seen : Seen) (left : Server L) (is_left : IsSessionLeft moment told now seen left) (honest : (moment (log_in left.session.manager)).is_honest)
+          (done cut : List Line) (may : MayAllStand o seen (λ b. Comes seen b (broken (from b))) done cut to)
+          → SawTold (Some left) to (OneMore last from to handed o told seen now left done cut before handed_on is is_left honest may)
+      one_saw _ _ AfterLine honest done cut may =
+          saw_by told now AfterLine honest done cut may None (λ s. s) (before_it now (same_keeps moment now now refl) honest) (session_so None tt)
+      one_saw _ _ (InRequest request left asks performs) honest done cut may =
+          let failed = fails_as_asked moment laws.decision laws.settlement laws.done o told now left is.tracks g request asks performs in
+          saw_by told left (InRequest request left asks performs) honest done cut may (Some failed.fault) (λ s. s) (before_it left performs.keeps honest)
+          (session_so (Some failed.fault) failed.fails.step.may_fail)
+      one_saw _ _ (InAnswer t r named code call left waits performs) honest done cut may =
+          saw_by (Answered told (line t r) call (Ret code)) left (InAnswer t r named code call left waits performs) honest done cut may None
+          (still told (line t r) call (Ret code)) (before_it left performs.keeps honest) session
+        where
+          failed : IsFailedToHear t r code call now left
+          failed = failed_in_answer moment now left t r named code call waits performs
+
+          found : IsFailedAnswer o told now.session (line t r) call (Ret code)
+          found = laws.answer o told now.session t r (Ret code) call is.tracks failed.fit failed.first
+
+          session : Is_session o (Answered told (line t r) call (Ret code)) None
+          session = record {
+            old = old moment laws name handed o told now is;
+            keeps = found.keeps;
+            on_branches = (on_branches moment laws name handed o told now is, tt);
+            may_fail = tt;
+          }
+
     -- ** all of them
 
     pub all_on : (last : Option (Server L)) (f : Branch → Standing) (served : AreServed moment name last f) (c : Content) → WasLeft moment last c
@@ -239,3 +287,11 @@ module _ {L : Type 0} (moment : L → Moment) (name : List ℕ) where
           so_far = b.so_far;
           parts = λ whole of. (of.0, b.parts of.0 of.1, of.2);
         }
+
+    pub all_saw : (last : Option (Server L)) (f : Branch → Standing) (served : AreServed moment name last f) → SawTold last f served
+    all_saw _ _ NoneYet = record { log = Empty 0; after = No_session 0; some = λ told. told }
+    all_saw _ _ (OneMore last from to handed o told seen now left done cut before handed_on is is_left honest may) =
+        one_saw last from to handed o told now before handed_on is (all_on last from before) seen left is_left honest done cut may
+    all_saw _ _ (Between last from to d how before was_prepared final) =
+        let b = all_saw last from before in
+        record { log = b.log; after = Ends_between b.log from to d how b.after was_prepared final; some = b.some }

@@ -7,6 +7,8 @@ ghost use Rattle.xa_outcomes.specs.Recovered.{ServedRecoveriesComplete};
 ghost use Rattle.xa_outcomes.specs.Served.{FoundRowsWillCommit, NeverToldIsNeverCommitted, OwedAreLogged};
 ghost use Rattle.xa_outcomes.specs.Served.{OwedTellsOfRows, ServedSessionsAreParts, ToldDecidedWillCommit};
 ghost use Rattle.xa_outcomes.specs.Served.{ToldHeuristicEndsStay, UntoldIsLeftUndecided};
+ghost use Rattle.xa_outcomes.specs.ServedTransactions.{ServedCommitRowStays, ServedCommitStands};
+ghost use Rattle.xa_outcomes.specs.ServedTransactions.{ServedRollbackStands};
 
 use xa_log::DecisionLog;
 use xa_server::laws::heard_ends_stay;
@@ -62,6 +64,26 @@ pub fn told_outcomes_stand<L: DecisionLog + Drop>()
     ensures never { NeverToldIsNeverCommitted L.moment }
     ensures decided { ToldDecidedWillCommit L.moment }
     ensures heuristic { ToldHeuristicEndsStay L.moment }
+{
+    starts_are_histories();
+    starts_find_the_log::<L>();
+    sessions_are_explained::<L>();
+    waiting_calls_are_tracked::<L>();
+}
+
+/// What the lines of a session and their replies told of a whole transaction is so after all
+/// sessions.
+///
+/// - `committed`: once a commit was replied by `decided`, or XA_OK to an xa_commit of a branch was
+///   heard, each branch of the transaction is committed, or stands prepared still, or its database
+///   ended it by itself; or it only read, or never began. None is ever rolled back or lost;
+/// - `row_stays`: the log that is left then has the row, as long as one stands prepared;
+/// - `rolled_back`: once a rollback was replied by `decided`, or an xa_commit of a branch was
+///   answered by an XA_RB code, as it may be in one phase, no branch of it is ever committed.
+pub fn told_transactions_stand<L: DecisionLog + Drop>()
+    ensures committed { ServedCommitStands L.moment }
+    ensures row_stays { ServedCommitRowStays L.moment }
+    ensures rolled_back { ServedRollbackStands L.moment }
 {
     starts_are_histories();
     starts_find_the_log::<L>();
