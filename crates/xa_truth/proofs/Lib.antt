@@ -1,0 +1,5 @@
+mod HeardCommits
+mod OutcomeLemmas
+mod SeenRequests
+mod SessionLemmas
+mod WordLemmas

@@ -1,0 +1,4 @@
+pub mod Outcomes
+pub mod Replies
+pub mod Sessions
+pub mod Unknown
