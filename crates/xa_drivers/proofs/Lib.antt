@@ -1,0 +1,5 @@
+mod Following
+mod Paths
+mod Standing
+mod Steps
+mod Waiting
