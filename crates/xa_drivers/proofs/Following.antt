@@ -11,7 +11,7 @@ use Rattle.xa_base.specs.declared.state.Standing.TheVariants.{Completed, Prepare
 use Rattle.xa_drivers.proofs.Paths.{IsSound, Path, Path.Alone, Path.Here, Path.Step, TakenFirst, same_path, take_next}
 use Rattle.xa_drivers.proofs.Steps.{OwnLine, StepAlone, StepBy, StepByAnswer, broken_shut}
 use Rattle.xa_drivers.proofs.Waiting.{AllWait, Elsewhere, MovedUp, all_wait, lost_wait, told_wait, waits_behind, waits_elsewhere, waits_on}
-use Rattle.xa_drivers.specs.Deeds.{AnswersByTable, Deeds, Deeds.Ended, Deeds.Made, Deeds.Nothing, Deeds.Read, Deeds.Severed, Deeds.Told, Deeds.ToldLost, IsAnswer, ObeyTable, seen_of, stands}
+use Rattle.xa_drivers.specs.Deeds.{AnswersByTable, Deeds, Deeds.Ended, Deeds.Made, Deeds.Nothing, Deeds.Did, Deeds.Severed, Deeds.Told, Deeds.ToldLost, IsAnswer, ObeyTable, seen_of, stands}
 use Rattle.xa_drivers.specs.Faithful.{IsLostNext, IsLostNext.FirstMade, IsLostNext.NoneMade, IsNext, Keeps, Keeps.Begins, Keeps.Ends, Keeps.Loses, Keeps.Makes, Keeps.Reads, Keeps.Tells, Keeps.TellsLoss, MayMake, Untold, Untold.ALoss, Untold.AnAnswer, begins, is_open, is_severed, made_on}
 use Rattle.xa_model.specs.Facts.Standings.{moved_by}
 use Rattle.xa_model.specs.Trace.{Answer, Branch, Call, Code, Happening, How, Line, Origin, line_eq, line_of}
@@ -168,12 +168,12 @@ module _ (o : Origin) (mine : Branch → Bool) (from : Branch → Standing) wher
             (lost_wait (MovedUp l (Waiting o (seen_of ds))) l lost mid rest next behind);
       }
 
-  read : (ds : Deeds) (us : List Untold) (e : Happening) → IsManagers e → Follows o mine from ds us → Follows o mine from (Read ds e) us
+  read : (ds : Deeds) (us : List Untold) (e : Happening) → IsManagers e → Follows o mine from ds us → Follows o mine from (Did ds e) us
   read ds us e is r = record {
     mid = r.mid;
     comes = r.comes;
     path = r.path;
-    waits = all_wait (Waiting o (seen_of ds)) (Waiting o (seen_of (Read ds e))) (λ m n d w. (w.0, waits_on o (seen_of ds) e m n d is w.1)) us r.waits;
+    waits = all_wait (Waiting o (seen_of ds)) (Waiting o (seen_of (Did ds e))) (λ m n d w. (w.0, waits_on o (seen_of ds) e m n d is w.1)) us r.waits;
   }
 
   -- all of them

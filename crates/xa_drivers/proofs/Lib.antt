@@ -1,5 +1,6 @@
 mod Following
 mod Paths
+mod Sessions
 mod Standing
 mod Steps
 mod Waiting

@@ -9,7 +9,7 @@ use Rattle.xa_base.specs.declared.state.Standing.TheVariants.{Prepared}
 use Rattle.xa_model.specs.Facts.Standings.{moved_by}
 use Rattle.xa_model.specs.Protocol.{Lists}
 use Rattle.xa_model.specs.Trace.{Answer, Branch, Call, Code, Happening, How, Line, Name.Ours, Vote, line_eq, line_of}
-use Rattle.xa_monitor.specs.Seen.{HasAnswer, Seen, Seen.Answered, Seen.Did, Seen.Lost, Seen.Start}
+use Rattle.xa_monitor.specs.Seen.{HasAnswer, Seen, Seen.Answered, Seen.Did as Saw, Seen.Lost, Seen.Start}
 
 -- ** deeds
 
@@ -18,7 +18,7 @@ use Rattle.xa_monitor.specs.Seen.{HasAnswer, Seen, Seen.Answered, Seen.Did, Seen
 -- told, and took: the answer to a call; the loss of a line, on which this call waited first.
 pub data Deeds : Type 0 where
   Nothing : Deeds
-  Read : Deeds → Happening → Deeds
+  Did : Deeds → Happening → Deeds
   Made : Deeds → Line → Call → Answer → Deeds
   Severed : Deeds → Line → Deeds
   Ended : Deeds → Branch → How → Deeds
@@ -28,7 +28,7 @@ pub data Deeds : Type 0 where
 -- what the coordinator sees of them
 abbrev pub seen_of : Deeds → Seen
 seen_of Nothing = Start
-seen_of (Read ds e) = Did (seen_of ds) e
+seen_of (Did ds e) = Saw (seen_of ds) e
 seen_of (Made ds l c a) = seen_of ds
 seen_of (Severed ds l) = seen_of ds
 seen_of (Ended ds b how) = seen_of ds
@@ -46,7 +46,7 @@ after_call c (Page names) b f = f
 -- database may end it by itself. What is told moves none.
 abbrev pub stands : (from : Branch → Standing) → Deeds → Branch → Standing
 stands from Nothing b = from b
-stands from (Read ds e) b = stands from ds b
+stands from (Did ds e) b = stands from ds b
 stands from (Made ds l c a) b = after_call c a b (stands from ds b)
 stands from (Severed ds l) b = if line_eq l (line_of b) then broken (stands from ds b) else stands from ds b
 stands from (Ended ds d how) b = if branch_eq d b then completed (stands from ds b) how else stands from ds b
@@ -67,7 +67,7 @@ IsAnswer mine f l c (Page names) = (b : Branch) → mine b ≡ true → Lists na
 -- prepared.
 abbrev pub ObeyTable : (mine : Branch → Bool) (from : Branch → Standing) → Deeds → Type 0
 ObeyTable mine from Nothing = Unit
-ObeyTable mine from (Read ds e) = ObeyTable mine from ds
+ObeyTable mine from (Did ds e) = ObeyTable mine from ds
 ObeyTable mine from (Made ds l c a) = ObeyTable mine from ds × HasAnswer c a × IsAnswer mine (stands from ds) l c a
 ObeyTable mine from (Severed ds l) = ObeyTable mine from ds
 ObeyTable mine from (Ended ds b how) = ObeyTable mine from ds × (mine b ≡ true → stands from ds b ≡ Prepared)

@@ -4,7 +4,7 @@ use Rattle.xa_base.specs.StateTable.{Kind, Kind.Start, asks_of}
 use Rattle.xa_base.specs.declared.answer.Answer.TheVariants.{Page, Ret}
 use Rattle.xa_base.specs.declared.state.Standing.{Standing}
 use Rattle.xa_base.specs.declared.state.Standing.TheVariants.{Active, Idle, RollbackOnly}
-use Rattle.xa_drivers.specs.Deeds.{Deeds, Deeds.Ended, Deeds.Made, Deeds.Nothing, Deeds.Read, Deeds.Severed, Deeds.Told, Deeds.ToldLost, ObeyTable, seen_of, stands}
+use Rattle.xa_drivers.specs.Deeds.{Deeds, Deeds.Ended, Deeds.Made, Deeds.Nothing, Deeds.Did, Deeds.Severed, Deeds.Told, Deeds.ToldLost, ObeyTable, seen_of, stands}
 use Rattle.xa_model.specs.Protocol.{Lists}
 use Rattle.xa_model.specs.Trace.{Answer, Branch, Call, Happening, How, Line, Name.Ours, Origin, line_eq, line_of}
 use Rattle.xa_monitor.specs.Agreement.{IsLineOf, MayAllStand, WaitsAt}
@@ -92,7 +92,7 @@ pub record MayMake (o : Origin) (from : Branch → Standing) (ds : Deeds) (us : 
 -- (`TellsLoss`). Connections are severed (`Loses`) and branches are ended by their databases (`Ends`) at any moment.
 pub data Keeps (o : Origin) (from : Branch → Standing) : Deeds → List Untold → Type 0 where
   Begins : Keeps o from Nothing []
-  Reads : (ds : Deeds) (us : List Untold) (e : Happening) → Keeps o from ds us → IsManagers e → Keeps o from (Read ds e) us
+  Reads : (ds : Deeds) (us : List Untold) (e : Happening) → Keeps o from ds us → IsManagers e → Keeps o from (Did ds e) us
   Makes :
       (ds : Deeds) (us : List Untold) (l : Line) (c : Call) (a : Answer) → Keeps o from ds us → MayMake o from ds us l c
       → Keeps o from (Made ds l c a) (AnAnswer l c a ∷ us)

@@ -1,9 +1,48 @@
 //! That the rules of a driver suffice. These functions do nothing: each contract is a theorem.
 
 ghost use Rattle.xa_drivers.specs.Faithful.{DriversSuffice};
+ghost use Rattle.xa_drivers.specs.Sessions.{DrivenAreServed, DrivenAreServedFor, DrivenSessionsAgree};
+ghost use Rattle.xa_drivers.specs.Sessions.{DrivenTransactionsAgree, DriversSufficeFor};
+
+use xa_log::DecisionLog;
+use xa_server::laws::{served_sessions_agree, served_transactions_agree};
 
 /// If a driver is faithful in a session (`IsFaithful`) and its databases obey the branch state table
 /// (`ObeyTable`), the branches stand where the theorem of sessions supposes that they do.
+///
+/// - `all`: all of them do;
+/// - `each`: those of one transaction do, if the databases obey the table as far as these go.
 pub fn drivers_suffice()
-    ensures { DriversSuffice }
+    ensures all { DriversSuffice }
+    ensures each { DriversSufficeFor }
 {}
+
+/// So databases agree through sessions of faithful drivers, one after another over one log
+/// (`AreDriven`). Nothing is supposed of where branches stand: only what drivers and databases do.
+///
+/// - `served`: such sessions are of those that
+///   [`served_sessions_agree`](xa_server::laws::served_sessions_agree) speaks of, and all that it
+///   says holds of them;
+/// - `agree`: no branch of any transaction is committed beside one that is rolled back or lost.
+pub fn driven_sessions_agree<L: DecisionLog + Drop>()
+    ensures served { DrivenAreServed L.moment }
+    ensures agree { DrivenSessionsAgree L.moment }
+{
+    drivers_suffice();
+    served_sessions_agree::<L>();
+}
+
+/// And each transaction agrees for itself (`AreDrivenFor`): the databases are supposed to obey the
+/// table only as far as its branches go.
+///
+/// - `served`: such sessions are of those that
+///   [`served_transactions_agree`](xa_server::laws::served_transactions_agree) speaks of;
+/// - `agree`: none of its branches is committed beside one that is rolled back or lost, and the log
+///   that is left decides of what is prepared still.
+pub fn driven_transactions_agree<L: DecisionLog + Drop>()
+    ensures served { DrivenAreServedFor L.moment }
+    ensures agree { DrivenTransactionsAgree L.moment }
+{
+    drivers_suffice();
+    served_transactions_agree::<L>();
+}
