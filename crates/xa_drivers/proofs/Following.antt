@@ -12,7 +12,7 @@ use Rattle.xa_drivers.proofs.Paths.{IsSound, Path, Path.Alone, Path.Here, Path.S
 use Rattle.xa_drivers.proofs.Steps.{OwnLine, StepAlone, StepBy, StepByAnswer, broken_shut}
 use Rattle.xa_drivers.proofs.Waiting.{AllWait, Elsewhere, MovedUp, all_wait, lost_wait, told_wait, waits_behind, waits_elsewhere, waits_on}
 use Rattle.xa_drivers.specs.Deeds.{AnswersByTable, Deeds, Deeds.Ended, Deeds.Made, Deeds.Nothing, Deeds.Did, Deeds.Severed, Deeds.Told, Deeds.ToldLost, IsAnswer, ObeyTable, seen_of, stands}
-use Rattle.xa_drivers.specs.Faithful.{IsLostNext, IsLostNext.FirstMade, IsLostNext.NoneMade, IsNext, Keeps, Keeps.Begins, Keeps.Ends, Keeps.Loses, Keeps.Makes, Keeps.Reads, Keeps.Tells, Keeps.TellsLoss, MayMake, Untold, Untold.ALoss, Untold.AnAnswer, begins, is_open, is_severed, made_on}
+use Rattle.xa_drivers.specs.Faithful.{IsLostNext, IsLostNext.FirstMade, IsLostNext.NoneMade, IsNext, Keeps, Keeps.Begins, Keeps.Ends, Keeps.Loses, Keeps.Makes, Keeps.Reads, Keeps.Tells, Keeps.TellsLoss, MayMake, Untold, Untold.ALoss, Untold.AnAnswer, begins, is_open, is_severed, made_on, open_on}
 use Rattle.xa_model.specs.Facts.Standings.{moved_by}
 use Rattle.xa_model.specs.Trace.{Answer, Branch, Call, Code, Happening, How, Line, Origin, line_eq, line_of}
 use Rattle.xa_monitor.proofs.UntoldCalls.{one_if}
@@ -72,11 +72,11 @@ module _ (o : Origin) (mine : Branch → Bool) (from : Branch → Standing) wher
   -- ** a connection that is gone, and a branch that its database ended
 
   severed : (ds : Deeds) (us : List Untold) (l : Line) → Follows o mine from ds us
-      → Follows o mine from (Severed ds l) (ALoss l (λ b. line_eq l (line_of b) && is_open (stands from ds b)) ∷ us)
+      → Follows o mine from (Severed ds l) (ALoss l (open_on (stands from ds) l) ∷ us)
   severed ds us l r = record {
     mid = r.mid;
     comes = r.comes;
-    path = Step (ALoss l _) us (stands from ds) (stands from (Severed ds l)) r.path tt
+    path = Step (ALoss l (open_on (stands from ds) l)) us (stands from ds) (stands from (Severed ds l)) r.path tt
         (λ b is. (refl, λ on none. broken_shut (stands from ds b) (shut (line_eq l (line_of b)) (is_open (stands from ds b)) on none)));
     waits = r.waits;
   }

@@ -1,6 +1,8 @@
 mod Following
 mod Paths
+mod Refused
 mod Sessions
 mod Standing
 mod Steps
 mod Waiting
+mod Worked

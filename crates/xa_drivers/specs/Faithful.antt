@@ -20,6 +20,10 @@ is_open Idle = true
 is_open RollbackOnly = true
 is_open _ = false
 
+-- the branches that are open on a line
+abbrev pub open_on : (Branch → Standing) → Line → Branch → Bool
+open_on f l b = line_eq l (line_of b) && is_open (f b)
+
 -- what was done on a line, and isn't told yet: the answer to a call; or the loss of the connection, with the branches that were open on it
 pub data Untold : Type 0 where
   AnAnswer : Line → Call → Answer → Untold
@@ -98,7 +102,7 @@ pub data Keeps (o : Origin) (from : Branch → Standing) : Deeds → List Untold
       → Keeps o from (Made ds l c a) (AnAnswer l c a ∷ us)
   Loses :
       (ds : Deeds) (us : List Untold) (l : Line) → Keeps o from ds us
-      → Keeps o from (Severed ds l) (ALoss l (λ b. line_eq l (line_of b) && is_open (stands from ds b)) ∷ us)
+      → Keeps o from (Severed ds l) (ALoss l (open_on (stands from ds) l) ∷ us)
   Ends : (ds : Deeds) (us : List Untold) (b : Branch) (how : How) → Keeps o from ds us → Keeps o from (Ended ds b how) us
   Tells :
       (ds : Deeds) (us rest : List Untold) (l : Line) (c : Call) (a : Answer) → Keeps o from ds us → IsNext (AnAnswer l c a) us rest

@@ -1,3 +1,4 @@
 pub mod Deeds
 pub mod Faithful
 pub mod Sessions
+pub mod Worked

@@ -3,6 +3,7 @@
 ghost use Rattle.xa_drivers.specs.Faithful.{DriversSuffice};
 ghost use Rattle.xa_drivers.specs.Sessions.{DrivenAreServed, DrivenAreServedFor, DrivenSessionsAgree};
 ghost use Rattle.xa_drivers.specs.Sessions.{DrivenTransactionsAgree, DriversSufficeFor};
+ghost use Rattle.xa_drivers.specs.Worked.{FaithfulDriversAreThere, RulesRefuseOthers};
 
 use xa_log::DecisionLog;
 use xa_server::laws::{served_sessions_agree, served_transactions_agree};
@@ -46,3 +47,13 @@ pub fn driven_transactions_agree<L: DecisionLog + Drop>()
     drivers_suffice();
     served_transactions_agree::<L>();
 }
+
+/// What is supposed of drivers can be met, and isn't met by others.
+///
+/// - `there`: a driver that is faithful over databases that obey the table, worked out: one branch is
+///   committed, which isn't told yet, and the other is prepared still, its connection lost;
+/// - `refused`: drivers that break one rule each aren't faithful.
+pub fn faithful_drivers_are_there()
+    ensures there { FaithfulDriversAreThere }
+    ensures refused { RulesRefuseOthers }
+{}

@@ -1,0 +1,83 @@
+-- A faithful driver, worked out; and drivers that aren't, one for each rule.
+use Rattle.std.specs.Prelude.{◌≡◌, ◌≢◌, true, false, List, [], ◌∷◌, Some, pos}
+use Rattle.xa_base.specs.StateTable.{Kind, asks_of}
+use Rattle.xa_base.specs.declared.answer.Answer.TheVariants.{Page, Ret}
+use Rattle.xa_base.specs.declared.call.Call.TheVariants as Calls
+use Rattle.xa_base.specs.declared.code.Code.TheVariants.{Success}
+use Rattle.xa_base.specs.declared.state.Standing.{Standing}
+use Rattle.xa_base.specs.declared.state.Standing.TheVariants.{Committed, Prepared, Unstarted}
+use Rattle.xa_base.specs.declared.step.Outcome.TheVariants as Outcomes
+use Rattle.xa_drivers.specs.Deeds.{Deeds, Deeds.Did, Deeds.Made, Deeds.Nothing, Deeds.Severed, Deeds.Told, Deeds.ToldLost, ObeyTable, stands}
+use Rattle.xa_drivers.specs.Faithful.{IsFaithful, is_open}
+use Rattle.xa_model.specs.Trace.{Answer, Branch, Call, Gtrid, Happening.Begun, Happening.Decided, Happening.Issued, Line, Name.Ours, Origin, line_eq, line_of}
+use Rattle.xa_monitor.specs.Agreement.{IsLineOf}
+use Rattle.xa_monitor.specs.Explained.{HasOnlyOlderRows}
+
+-- ** a faithful one
+
+-- the branch of a transaction that is begun on this line
+abbrev pub at : Gtrid → Line → Branch
+at g l = record { gtrid = g; thread = l.thread; rm = l.rm }
+
+-- each of these calls is issued on the line, made, and answered XA_OK, which is told
+abbrev pub each : Line → List Call → Deeds → Deeds
+each l [] ds = ds
+each l (c ∷ cs) ds = each l cs (Told (Made (Did ds (Issued l c)) l c (Ret Success)) l c (Ret Success))
+
+-- the calls on a branch up to its vote
+abbrev pub votes : Gtrid → Line → Deeds → Deeds
+votes g l ds = each l (Calls.OpenRm ∷ Calls.Start (at g l) false ∷ Calls.End (at g l) false ∷ Calls.Prepare (at g l) ∷ []) ds
+
+abbrev pub commit : Gtrid → Line → Call
+commit g l = Calls.Commit (at g l) false
+
+-- A branch on each of two lines votes. The transaction is decided to commit, and an xa_commit of each is issued.
+abbrev pub decided : Gtrid → (l m : Line) → Deeds
+decided g l m =
+    Did (Did (Did (votes g m (votes g l (Did Nothing (Begun g)))) (Decided g Outcomes.Commit)) (Issued l (commit g l))) (Issued m (commit g m))
+
+-- The one is committed, which isn't told yet. The other's connection is gone before its xa_commit was made, and that is told.
+abbrev pub half_committed : Gtrid → (l m : Line) → Deeds
+half_committed g l m = ToldLost (Severed (Made (decided g l m) l (commit g l) (Ret Success)) m) m (Some (commit g m))
+
+-- This driver is faithful over databases that obey the table, and one branch stands committed beside one that is prepared still.
+pub record IsWorked (o : Origin) (g : Gtrid) (l m : Line) : Type 0 where
+  pub faithful : IsFaithful o (λ b. Unstarted) (half_committed g l m)
+  pub obey : ObeyTable (λ b. true) (λ b. Unstarted) (half_committed g l m)
+  pub committed : stands (λ b. Unstarted) (half_committed g l m) (at g l) ≡ Committed
+  pub prepared : stands (λ b. Unstarted) (half_committed g l m) (at g m) ≡ Prepared
+
+abbrev pub FaithfulDriversAreThere : Type 0
+FaithfulDriversAreThere =
+    (o : Origin) (g : Gtrid) (l m : Line) → line_eq l m ≡ false → IsLineOf o l → IsLineOf o m → IsWorked o g l m
+
+-- ** and some that aren't
+
+-- a page that lists this branch alone
+abbrev pub recover : Call
+recover = Calls.Recover (pos 32) true true
+
+abbrev pub listing : Branch → Answer
+listing b = Page (Ours b ∷ [])
+
+-- No driver is faithful that makes a call which wasn't issued (`unissued`); makes one on a connection that is gone, before that is told
+-- (`gone`); calls an open branch on another line (`elsewhere`); tells the answer to a second call before that to the first (`order`); tells
+-- that a line is lost while its connection is there (`connected`), or while the answer to the first of two calls that were made on it isn't
+-- told (`two_made`); tells a page before the xa_prepare of a branch that it lists (`page`); tells an answer that wasn't given (`answer`).
+pub record RulesRefuse (o : Origin) (from : Branch → Standing) : Type 0 where
+  pub unissued : HasOnlyOlderRows o → (l : Line) (c : Call) (a : Answer) → IsFaithful o from (Made Nothing l c a) → ⊥
+  pub gone : (ds : Deeds) (l : Line) (c : Call) (a : Answer) → IsFaithful o from (Made (Severed ds l) l c a) → ⊥
+  pub elsewhere :
+      (ds : Deeds) (l : Line) (b : Branch) (a : Answer) → is_open (stands from ds b) ≡ true → l ≢ line_of b
+      → IsFaithful o from (Made ds l (Calls.Rollback b) a) → ⊥
+  pub order : (l : Line) (c d : Call) (a x : Answer) → c ≢ d → IsFaithful o from (Told (Made (Made Nothing l c a) l d x) l d x) → ⊥
+  pub connected : (l : Line) (c d : Call) (a : Answer) → IsFaithful o from (ToldLost (Made Nothing l c a) l (Some d)) → ⊥
+  pub two_made :
+      (l : Line) (c d : Call) (a x : Answer) → IsFaithful o from (ToldLost (Severed (Made (Made Nothing l c a) l d x) l) l (Some c)) → ⊥
+  pub page :
+      (l m : Line) (b : Branch)
+      → IsFaithful o from (Told (Made (Made Nothing l (Calls.Prepare b) (Ret Success)) m recover (listing b)) m recover (listing b)) → ⊥
+  pub answer : (l : Line) (c : Call) (a x : Answer) → a ≢ x → IsFaithful o from (Told (Made Nothing l c a) l c x) → ⊥
+
+abbrev pub RulesRefuseOthers : Type 0
+RulesRefuseOthers = (o : Origin) (from : Branch → Standing) → RulesRefuse o from
