@@ -1,24 +1,24 @@
 -- What a faithful driver tells is what happened, as far as it is told: by recursion on the deeds.
-use Rattle.std.proofs.Common.{◌≡◌, ◌∙◌, ◌⊎◌, inl, inr, Bool, true, false, ℕ, List, ◌∷◌, Option, Some, None, refl, sym, ap, subst}
+use Rattle.std.proofs.Common.{◌≡◌, ◌∙◌, inl, inr, Bool, true, false, ℕ, List, ◌∷◌, Option, Some, None, refl, sym, ap, subst}
 use Rattle.std.proofs.lemmas.Bool.{true≢false}
 use Rattle.std.specs.Prelude.{◌&&◌, ◌||◌, if◌then◌else◌}
-use Rattle.xa_base.proofs.BranchKeys.{branch_eq-refl, branch_eq-true}
+use Rattle.xa_base.proofs.BranchKeys.{branch_eq-true}
 use Rattle.xa_base.specs.Branch.{branch_eq}
 use Rattle.xa_base.specs.StateTable.{Kind, answer, asks_of, broken, completed, moved, state_of}
 use Rattle.xa_base.specs.declared.answer.Answer.TheVariants.{Page, Ret}
 use Rattle.xa_base.specs.declared.state.Standing.{Standing}
 use Rattle.xa_base.specs.declared.state.Standing.TheVariants.{Completed, Prepared}
-use Rattle.xa_drivers.proofs.Paths.{IsSound, Path, Path.Alone, Path.Here, Path.Step, TakenFirst, same_path, take_next}
-use Rattle.xa_drivers.proofs.Steps.{OwnLine, StepAlone, StepBy, StepByAnswer, broken_shut}
+use Rattle.xa_drivers.proofs.Paths.{Path, Path.Alone, Path.Here, Path.Step, same_path, take_next}
+use Rattle.xa_drivers.proofs.Steps.{StepAlone, StepBy, StepByAnswer, broken_shut}
 use Rattle.xa_drivers.proofs.Waiting.{AllWait, Elsewhere, MovedUp, all_wait, lost_wait, told_wait, waits_behind, waits_elsewhere, waits_on}
-use Rattle.xa_drivers.specs.Deeds.{AnswersByTable, Deeds, Deeds.Ended, Deeds.Made, Deeds.Nothing, Deeds.Did, Deeds.Severed, Deeds.Told, Deeds.ToldLost, IsAnswer, ObeyTable, seen_of, stands}
-use Rattle.xa_drivers.specs.Faithful.{IsLostNext, IsLostNext.FirstMade, IsLostNext.NoneMade, IsNext, Keeps, Keeps.Begins, Keeps.Ends, Keeps.Loses, Keeps.Makes, Keeps.Reads, Keeps.Tells, Keeps.TellsLoss, MayMake, Untold, Untold.ALoss, Untold.AnAnswer, begins, is_open, is_severed, made_on, open_on}
+use Rattle.xa_drivers.specs.Deeds.{AnswersByTable, Deeds, Deeds.Ended, Deeds.Made, Deeds.Did, Deeds.Severed, Deeds.Told, Deeds.ToldLost, IsAnswer, ObeyTable, seen_of, stands}
+use Rattle.xa_drivers.specs.Faithful.{IsLostNext, IsLostNext.FirstMade, IsLostNext.NoneMade, IsNext, Keeps, Keeps.Begins, Keeps.Ends, Keeps.Loses, Keeps.Makes, Keeps.Reads, Keeps.Tells, Keeps.TellsLoss, MayMake, Untold, Untold.ALoss, Untold.AnAnswer, begins, is_open, open_on}
 use Rattle.xa_model.specs.Facts.Standings.{moved_by}
 use Rattle.xa_model.specs.Trace.{Answer, Branch, Call, Code, Happening, How, Line, Origin, line_eq, line_of}
 use Rattle.xa_monitor.proofs.UntoldCalls.{one_if}
 use Rattle.xa_monitor.specs.Agreement.{IsLineOf, WaitsAt}
 use Rattle.xa_monitor.specs.Seen.{IsManagers, Seen}
-use Rattle.xa_monitor.specs.Standings.{Comes, Explained, Explains, ExplainsAsked, ExplainsIf, MayBeDone}
+use Rattle.xa_monitor.specs.Standings.{Comes, Explained, ExplainsIf, MayBeDone}
 
 -- the call is one of the session's, and waits there
 abbrev pub Waiting : Origin → Seen → Line → ℕ → Call → Type 0
@@ -158,9 +158,12 @@ module _ (o : Origin) (mine : Branch → Bool) (from : Branch → Standing) wher
       let behind = told_wait (Waiting o (seen_of ds)) l c a us mid first r.waits in
       record {
         mid = t.next;
-        comes = λ b is.
-            (r.mid b, r.comes b is, lost_step l lost (Some c) b (r.mid b) (s.next b) (t.next b)
-            (first_done l c a b (r.mid b) (s.next b) (s.step b is)) (t.step b is));
+        comes = λ b is. (
+          r.mid b,
+          r.comes b is,
+          lost_step l lost (Some c) b (r.mid b) (s.next b) (t.next b)
+              (first_done l c a b (r.mid b) (s.next b) (s.step b is)) (t.step b is),
+        );
         path = t.path;
         waits = all_wait (Elsewhere l (MovedUp l (Waiting o (seen_of ds)))) (Waiting o (seen_of (ToldLost ds l (Some c))))
             (λ m n d w. let x = subst (λ z. Waiting o (seen_of ds) m (one_if z n) d) w.0 w.1 in

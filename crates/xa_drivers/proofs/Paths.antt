@@ -3,7 +3,6 @@
 use Rattle.std.proofs.Common.{◌≡◌, ◌∙◌, All, Bool, true, false, List, [], ◌∷◌, refl, sym, subst}
 use Rattle.std.proofs.lemmas.List.Elements.{All-head, All-tail}
 use Rattle.std.proofs.lemmas.Bool.{true≢false}
-use Rattle.xa_base.specs.declared.answer.Answer.TheVariants.{Page, Ret}
 use Rattle.xa_base.specs.declared.state.Standing.{Standing}
 use Rattle.xa_base.specs.declared.state.Standing.TheVariants.{Unstarted}
 use Rattle.xa_drivers.proofs.Steps.{StepAlone, StepBy, absorb, behind, names_it, swap}
@@ -63,7 +62,7 @@ module _ (mine : Branch → Bool) (mid : Branch → Standing) (u : Untold) where
   }
   take_first _ _ to (Step v us f g p s st) apart sound steps =
       let m = choose mine (λ b x. StepBy u b (f b) x × StepBy v b x (to b))
-          (λ b is. let w = swap u v (All-head (AreApart u) v us apart) b (f b) (g b) (to b) (st b is) (steps b is) in (w.0, (w.1, w.2))) in
+      (λ b is. let w = swap u v (All-head (AreApart u) v us apart) b (f b) (g b) (to b) (st b is) (steps b is) in (w.0, (w.1, w.2))) in
       let t = take_first us f m.at p (All-tail (AreApart u) v us apart) sound (λ b is. (m.so b is).0) in
       record { next = t.next; sound = t.sound; step = t.step; path = Step v us m.at to t.path s (λ b is. (m.so b is).1) }
   take_first us _ to (Alone _ d how f g p is_mine st) apart sound steps = by (names_it u d) refl (λ m st. take_first us f m p apart sound st)
@@ -72,7 +71,7 @@ module _ (mine : Branch → Bool) (mid : Branch → Standing) (u : Untold) where
       by true e below = below to (λ b is. absorb u d how e b (f b) (g b) (to b) (st b is) (steps b is))
       by false e below =
           let m = choose mine (λ b x. StepBy u b (f b) x × StepAlone d how b x (to b))
-              (λ b is. let w = behind u d how e b (f b) (g b) (to b) (st b is) (steps b is) in (w.0, (w.1, w.2))) in
+          (λ b is. let w = behind u d how e b (f b) (g b) (to b) (st b is) (steps b is) in (w.0, (w.1, w.2))) in
           let t = below m.at (λ b is. (m.so b is).0) in
           record { next = t.next; sound = t.sound; step = t.step; path = Alone us d how m.at to t.path is_mine (λ b is. (m.so b is).1) }
 

@@ -1,11 +1,11 @@
 -- Drivers that break a rule aren't faithful.
-use Rattle.std.proofs.Common.{◌≡◌, ◌≢◌, ◌∙◌, ◌⊎◌, inl, inr, All, Bool, true, false, ℕ, List, [], ◌∷◌, Option, Some, None, refl, sym, ap, subst}
+use Rattle.std.proofs.Common.{◌≡◌, ◌≢◌, ◌∙◌, ◌⊎◌, inl, inr, All, Bool, true, false, List, [], ◌∷◌, Option, Some, None, refl, sym, ap, subst}
 use Rattle.std.proofs.lemmas.Bool.{true≢false}
 use Rattle.std.proofs.lemmas.List.Elements.{All-head}
-use Rattle.std.specs.Prelude.{◌&&◌, ◌||◌, if◌then◌else◌}
+use Rattle.std.specs.Prelude.{◌||◌, if◌then◌else◌}
 use Rattle.xa_base.specs.HeldBranch.{new_branch}
-use Rattle.xa_base.specs.StateTable.{Kind.Rollback, asks_of}
-use Rattle.xa_base.specs.declared.answer.Answer.TheVariants.{Page, Ret}
+use Rattle.xa_base.specs.StateTable.{Kind.Rollback}
+use Rattle.xa_base.specs.declared.answer.Answer.TheVariants.{Ret}
 use Rattle.xa_base.specs.declared.call.Call.TheVariants as Calls
 use Rattle.xa_base.specs.declared.code.Code.TheVariants.{Success}
 use Rattle.xa_base.specs.declared.state.Standing.{Standing}
@@ -16,9 +16,9 @@ use Rattle.xa_drivers.specs.Worked.{RulesRefuse, RulesRefuseOthers, listing, rec
 use Rattle.xa_model.proofs.Keys.{line_eq-refl}
 use Rattle.xa_model.specs.Facts.{fits}
 use Rattle.xa_model.specs.Protocol.{OldOrigin}
-use Rattle.xa_model.specs.Trace.{Answer, Branch, Call, Line, Name.Ours, Origin, line_eq, line_of}
+use Rattle.xa_model.specs.Trace.{Answer, Branch, Call, Line, Origin, line_eq, line_of}
 use Rattle.xa_monitor.specs.Explained.{HasOnlyOlderRows}
-use Rattle.xa_monitor.specs.Seen.{IsHistory.Starts, IsManagers, start_with}
+use Rattle.xa_monitor.specs.Seen.{IsHistory.Starts, start_with}
 
 module _ (o : Origin) (from : Branch → Standing) where
   -- ** what the last deed asks for
@@ -99,7 +99,7 @@ module _ (o : Origin) (from : Branch → Standing) where
 
   order : (l : Line) (c d : Call) (a x : Answer) → c ≢ d → IsFaithful o from (Told (Made (Made Nothing l c a) l d x) l d x) → ⊥
   order l c d a x differ f = by (next_of (AnAnswer l d x) (AnAnswer l d x ∷ AnAnswer l c a ∷ []) f.untold
-          (subst (λ z. IsNext (AnAnswer l d x) z f.untold) (two_made l l c d a x m.0 m.1) m.2))
+      (subst (λ z. IsNext (AnAnswer l d x) z f.untold) (two_made l l c d a x m.0 m.1) m.2))
     where
       m : LastOf (Told (Made (Made Nothing l c a) l d x) l d x) f.untold
       m = last_of (Told (Made (Made Nothing l c a) l d x) l d x) f.untold f.keeps
@@ -157,7 +157,7 @@ module _ (o : Origin) (from : Branch → Standing) where
 
   answer : (l : Line) (c : Call) (a x : Answer) → a ≢ x → IsFaithful o from (Told (Made Nothing l c a) l c x) → ⊥
   answer l c a x differ f = by (next_of (AnAnswer l c x) (AnAnswer l c a ∷ []) f.untold
-          (subst (λ z. IsNext (AnAnswer l c x) z f.untold) (one_made l c a m.0 m.1) m.2))
+      (subst (λ z. IsNext (AnAnswer l c x) z f.untold) (one_made l c a m.0 m.1) m.2))
     where
       m : LastOf (Told (Made Nothing l c a) l c x) f.untold
       m = last_of (Told (Made Nothing l c a) l c x) f.untold f.keeps

@@ -1,16 +1,15 @@
 -- Sessions of faithful drivers are served sessions.
-use Rattle.std.proofs.Common.{◌≡◌, ℕ, true, List, Option, Some, subst}
+use Rattle.std.proofs.Common.{◌≡◌, subst, sym}
 use Rattle.xa_base.specs.StateTable.{broken}
-use Rattle.xa_base.specs.declared.state.Standing.{Standing}
-use Rattle.xa_drivers.specs.Deeds.{seen_of, stands}
+use Rattle.xa_drivers.specs.Deeds.{stands}
 use Rattle.xa_drivers.specs.Faithful.{DriversSuffice}
-use Rattle.xa_drivers.specs.Sessions.{AreDriven, AreDriven.Between, AreDriven.NoneYet, AreDriven.OneMore, AreDrivenFor, AreDrivenFor.Between as BetweenFor, AreDrivenFor.NoneYet as NoneYetFor, AreDrivenFor.OneMore as OneMoreFor, DrivenAreServed, DrivenAreServedFor, DriversSufficeFor, at_start}
+use Rattle.xa_drivers.specs.Sessions.{AreDriven.Between, AreDriven.NoneYet, AreDriven.OneMore, AreDrivenFor.Between as BetweenFor, AreDrivenFor.NoneYet as NoneYetFor, AreDrivenFor.OneMore as OneMoreFor, DrivenAreServed, DrivenAreServedFor, DrivenSessionsGoOn, DriversSufficeFor, at_start}
 use Rattle.xa_log.specs.Contract.{Moment}
-use Rattle.xa_model.specs.Trace.{Branch}
 use Rattle.xa_monitor.specs.Agreement.{MayAllStand}
 use Rattle.xa_monitor.specs.Standings.{Comes}
-use Rattle.xa_server.specs.Sessions.{AreServed, AreServed.Between as BetweenServed, AreServed.NoneYet as NoneServed, AreServed.OneMore as OneServed}
-use Rattle.xa_server.specs.Transactions.{AreServedFor, AreServedFor.Between as BetweenServedFor, AreServedFor.NoneYet as NoneServedFor, AreServedFor.OneMore as OneServedFor, MayStandFor}
+use Rattle.xa_server.specs.LeftSessions.{SessionsGoOn, under}
+use Rattle.xa_server.specs.Sessions.{AreServed.Between as BetweenServed, AreServed.NoneYet as NoneServed, AreServed.OneMore as OneServed}
+use Rattle.xa_server.specs.Transactions.{AreServedFor.Between as BetweenServedFor, AreServedFor.NoneYet as NoneServedFor, AreServedFor.OneMore as OneServedFor, MayStandFor}
 
 module _ {L : Type 0} (moment : L → Moment) where
   pub served : DriversSuffice → DrivenAreServed moment
@@ -21,6 +20,14 @@ module _ {L : Type 0} (moment : L → Moment) where
       (subst (λ x. MayAllStand o x (λ b. Comes x b (broken (from b))) s.done s.cut (stands (at_start from) ds)) deeds.tell s.may)
   served suffice name last _ (Between _ from to d how before was final) =
       BetweenServed last from to d how (served suffice name last from before) was final
+
+  pub go_on : DriversSuffice → SessionsGoOn moment → DrivenSessionsGoOn moment
+  go_on suffice on name from to c d found more handed o told seen now left ds have decided has is is_left honest deeds obey there leaves =
+      let s = suffice o (at_start (under name from)) ds deeds.faithful obey in
+      on name from to c d found more handed o told seen now left s.done s.cut have decided has is is_left honest
+      (subst (MayAllStand o seen (λ b. Comes seen b (broken (under name from b))) s.done s.cut)
+      (let same : stands (at_start (under name from)) ds ≡ under name to = λ i b. (sym (there b)) i in same)
+      (subst (λ x. MayAllStand o x (λ b. Comes x b (broken (under name from b))) s.done s.cut (stands (at_start (under name from)) ds)) deeds.tell s.may)) leaves
 
   pub served_for : DriversSufficeFor → DrivenAreServedFor moment
   served_for suffice name g _ _ (NoneYetFor c empty) = NoneServedFor c empty

@@ -1,5 +1,5 @@
 -- From what isn't told yet to where all branches may stand.
-use Rattle.std.proofs.Common.{◌≡◌, ◌∙◌, Bool, true, false, ℕ, suc, List, [], ◌∷◌, Some, refl, sym, ap, subst}
+use Rattle.std.proofs.Common.{◌≡◌, ◌∙◌, Bool, true, false, suc, List, [], ◌∷◌, Some, refl, sym, ap, subst}
 use Rattle.std.specs.Prelude.{◌||◌, if◌then◌else◌}
 use Rattle.xa_base.proofs.BranchKeys.{branch_eq-refl, gtrid_eq-refl}
 use Rattle.xa_base.specs.Branch.{branch_eq, gtrid_eq}
@@ -9,13 +9,13 @@ use Rattle.xa_base.specs.declared.call.Call.TheVariants as Calls
 use Rattle.xa_base.specs.declared.code.Code.TheVariants as Codes
 use Rattle.xa_base.specs.declared.state.Standing.{Standing}
 use Rattle.xa_base.specs.declared.state.Standing.TheVariants.{Completed, Prepared}
-use Rattle.xa_drivers.proofs.Following.{Follows, Waiting, follows}
-use Rattle.xa_drivers.proofs.Paths.{IsSound, Path, Path.Alone, Path.Here, Path.Step}
+use Rattle.xa_drivers.proofs.Following.{Waiting, follows}
+use Rattle.xa_drivers.proofs.Paths.{Path, Path.Alone, Path.Here, Path.Step}
 use Rattle.xa_drivers.proofs.Steps.{StepBy}
 use Rattle.xa_drivers.proofs.Waiting.{AllWait}
 use Rattle.xa_drivers.specs.Deeds.{seen_of, stands}
 use Rattle.xa_drivers.specs.Sessions.{DriversSufficeFor, of_transaction}
-use Rattle.xa_drivers.specs.Faithful.{DriversSuffice, StandByTold, Untold, Untold.ALoss, Untold.AnAnswer, is_severed, made_on}
+use Rattle.xa_drivers.specs.Faithful.{DriversSuffice, Untold, Untold.ALoss, Untold.AnAnswer, is_severed, made_on}
 use Rattle.xa_model.specs.Trace.{Answer, Branch, Call, Code, How, Line, Origin, line_eq, line_of}
 use Rattle.xa_server.specs.Transactions.{MayStandFor, MayStandFor.AsTold as AsToldFor, MayStandFor.CutOff as CutOffFor, MayStandFor.EndedAlone as EndedAloneFor, MayStandFor.UnderWay as UnderWayFor}
 use Rattle.xa_monitor.specs.Agreement.{IsLineOf, MayAllStand, MayAllStand.AsTold, MayAllStand.CutOff, MayAllStand.EndedAlone, MayAllStand.UnderWay, WaitsAt, is_line_among, times}
@@ -100,14 +100,14 @@ pub suffice : DriversSuffice
 suffice o from ds faithful obey =
     let r = follows o (λ b. true) from ds faithful.untold faithful.keeps obey in
     let x = led (λ b. true) o (seen_of ds) r.mid
-        (MayAllStand o (seen_of ds) (λ b. Comes (seen_of ds) b (from b)))
-        (record {
-          as_told = λ f same. AsTold f (λ b. subst (Comes (seen_of ds) b (from b)) (sym (same b refl)) (r.comes b refl));
-          under_way = λ done cut f g l c a may of open_line waits steps. UnderWay done cut f g l c may of open_line waits (a, λ b. steps b refl);
-          cut_off = λ done cut f g l may steps. CutOff done cut f g l may (λ b. steps b refl);
-          ended_alone = λ done cut f g d how may was steps. EndedAlone done cut f g d how may was (λ b. steps b refl);
-        })
-        faithful.untold (stands from ds) r.path r.waits in
+    (MayAllStand o (seen_of ds) (λ b. Comes (seen_of ds) b (from b)))
+    (record {
+      as_told = λ f same. AsTold f (λ b. subst (Comes (seen_of ds) b (from b)) (sym (same b refl)) (r.comes b refl));
+      under_way = λ done cut f g l c a may of open_line waits steps. UnderWay done cut f g l c may of open_line waits (a, λ b. steps b refl);
+      cut_off = λ done cut f g l may steps. CutOff done cut f g l may (λ b. steps b refl);
+      ended_alone = λ done cut f g d how may was steps. EndedAlone done cut f g d how may was (λ b. steps b refl);
+    })
+    faithful.untold (stands from ds) r.path r.waits in
     record { done = x.done; cut = x.cut; may = x.may }
 
 -- ** those of one transaction
@@ -118,14 +118,14 @@ suffice_for g o from ds faithful obey =
     let is_mine = λ (b : Branch) (is : b.gtrid ≡ g). let e : gtrid_eq b.gtrid g ≡ true = subst (λ z. gtrid_eq z g ≡ true) (sym is) (gtrid_eq-refl g) in e in
     let r = follows o mine from ds faithful.untold faithful.keeps obey in
     let x = led mine o (seen_of ds) r.mid
-        (MayStandFor g o (seen_of ds) (λ b. Comes (seen_of ds) b (from b)))
-        (record {
-          as_told = λ f same.
-              AsToldFor f (λ b is. subst (Comes (seen_of ds) b (from b)) (sym (same b (is_mine b is))) (r.comes b (is_mine b is)));
-          under_way = λ done cut f h l c a may of open_line waits steps.
-              UnderWayFor done cut f h l c may of open_line waits (a, λ b is. steps b (is_mine b is));
-          cut_off = λ done cut f h l may steps. CutOffFor done cut f h l may (λ b is. steps b (is_mine b is));
-          ended_alone = λ done cut f h d how may was steps. EndedAloneFor done cut f h d how may was (λ b is. steps b (is_mine b is));
-        })
-        faithful.untold (stands from ds) r.path r.waits in
+    (MayStandFor g o (seen_of ds) (λ b. Comes (seen_of ds) b (from b)))
+    (record {
+      as_told = λ f same.
+          AsToldFor f (λ b is. subst (Comes (seen_of ds) b (from b)) (sym (same b (is_mine b is))) (r.comes b (is_mine b is)));
+      under_way = λ done cut f h l c a may of open_line waits steps.
+          UnderWayFor done cut f h l c may of open_line waits (a, λ b is. steps b (is_mine b is));
+      cut_off = λ done cut f h l may steps. CutOffFor done cut f h l may (λ b is. steps b (is_mine b is));
+      ended_alone = λ done cut f h d how may was steps. EndedAloneFor done cut f h d how may was (λ b is. steps b (is_mine b is));
+    })
+    faithful.untold (stands from ds) r.path r.waits in
     record { done = x.done; cut = x.cut; may = x.may }

@@ -1,22 +1,21 @@
 -- What happened to one branch: a step by an answer or by a loss that isn't told yet, or by its database alone. Steps that are apart may be
 -- taken in the other order.
-use Rattle.std.proofs.Common.{◌≡◌, ◌≢◌, ◌∙◌, ◌⊎◌, inl, inr, All, Bool, true, false, List, [], ◌∷◌, Option, Some, None, refl, sym, ap, subst}
+use Rattle.std.proofs.Common.{◌≡◌, ◌≢◌, ◌∙◌, ◌⊎◌, inl, inr, Bool, true, false, List, Option, Some, None, refl, sym, ap, subst}
 use Rattle.std.proofs.lemmas.Bool.{or_parts, true≢false}
 use Rattle.std.specs.Prelude.{◌||◌, if◌then◌else◌}
 use Rattle.xa_base.proofs.BranchKeys.{branch_eq-refl, branch_eq-true}
 use Rattle.xa_base.specs.Branch.{branch_eq}
 use Rattle.xa_base.specs.Standing.{is_in_doubt}
-use Rattle.xa_base.specs.StateTable.{Kind, Kind.Commit, Kind.End, Kind.Forget, Kind.Join, Kind.OnePhase, Kind.Prepare, Kind.Rollback, Kind.Start, after_commit, asks_of, broken, moved}
+use Rattle.xa_base.specs.StateTable.{Kind, Kind.Commit, Kind.Start, after_commit, asks_of, broken, moved}
 use Rattle.xa_base.specs.declared.answer.Answer.TheVariants.{Page, Ret}
 use Rattle.xa_base.specs.declared.code.Code.TheVariants as Codes
 use Rattle.xa_base.specs.declared.state.Standing.{Standing}
 use Rattle.xa_base.specs.declared.state.Standing.TheVariants.{Active, Committed, Completed, Forgotten, Idle, Lost, Prepared, ReadOnly, RollbackOnly, RolledBack, Unstarted}
-use Rattle.xa_drivers.specs.Faithful.{AreApart, Asks, IsAbout, IsNext, IsNext.Before, IsNext.Newest, Untold, Untold.ALoss, Untold.AnAnswer, begins, is_open, line_on}
+use Rattle.xa_drivers.specs.Faithful.{AreApart, Asks, IsAbout, Untold, Untold.ALoss, Untold.AnAnswer, begins, is_open, line_on}
 use Rattle.xa_model.proofs.Keys.{line_eq-refl, line_eq-true}
 use Rattle.xa_model.specs.Protocol.{Lists}
-use Rattle.xa_model.specs.Trace.{Answer, Branch, Call, Code, How, Line, Name, Name.Ours, line_eq, line_of}
-use Rattle.xa_monitor.specs.Seen.{HasAnswer}
-use Rattle.xa_monitor.specs.Standings.{Explained, Explains, ExplainsAsked, ExplainsIf}
+use Rattle.xa_model.specs.Trace.{Branch, Call, Code, How, Line, Name, Name.Ours, line_eq, line_of}
+use Rattle.xa_monitor.specs.Standings.{Explains, ExplainsAsked, ExplainsIf}
 
 -- ** steps of one branch
 
@@ -192,9 +191,11 @@ swap_answer (Some (k, d)) l c a v asks apart b f g h s t = by (branch_eq d b) re
     by true e x =
         let is : d ≡ b = branch_eq-true d b e in
         let same : g ≡ f = left v b f g s (none is) in
-        let y : Explains f k a h = subst (λ z. Explains z k a h) same x in
-        (h, (subst (λ z. ExplainsIf z f k a h) (sym e) y, subst (OwnLine (Some (k, d)) l b) same t.1),
-        stay v b h (none is) (shut v apart.lines s (none is) is y))
+        let y : Explains f k a h = subst (λ z. Explains z k a h) same x in (
+          h,
+          (subst (λ z. ExplainsIf z f k a h) (sym e) y, subst (OwnLine (Some (k, d)) l b) same t.1),
+          stay v b h (none is) (shut v apart.lines s (none is) is y),
+        )
     by false e x = (f, (subst (λ z. ExplainsIf z f k a f) (sym e) refl, λ is o. absurd (true≢false (sym (subst (λ z. branch_eq d z ≡ true) is (branch_eq-refl d)) ∙ e))), subst (StepBy v b f) (sym x) s)
 
 -- a loss before what is older
@@ -234,9 +235,11 @@ swap_loss l lost v apart b f g h s t = by (line_eq l (line_of b)) refl t.0
         on : (z : Bool) → lost b ≡ z → Swapped (ALoss l lost) v b f h
         on true i =
             let never : IsAbout v b → ⊥ = apart.branches b i in
-            let same : h ≡ broken f = x ∙ ap broken (left v b f g s never) in
-            (broken f, (ap (λ z. if z then broken f else f) (sym e), λ o j. absurd (true≢false (sym i ∙ j))),
-            subst (StepBy v b (broken f)) (sym same) (stay v b (broken f) never (twice v)))
+            let same : h ≡ broken f = x ∙ ap broken (left v b f g s never) in (
+              broken f,
+              (ap (λ z. if z then broken f else f) (sym e), λ o j. absurd (true≢false (sym i ∙ j))),
+              subst (StepBy v b (broken f)) (sym same) (stay v b (broken f) never (twice v)),
+            )
           where
             twice : (v : Untold) → IsShutOn v b (broken f)
             twice (AnAnswer m c a) = tt
@@ -249,9 +252,11 @@ swap_loss l lost v apart b f g h s t = by (line_eq l (line_of b)) refl t.0
 -- a page before what is older
 page_swap : (l : Line) (c : Call) (names : List Name) (v : Untold) → AreApart (AnAnswer l c (Page names)) v → (b : Branch) (f g h : Standing)
     → StepBy v b f g → StepBy (AnAnswer l c (Page names)) b g h → Swapped (AnAnswer l c (Page names)) v b f h
-page_swap l c names v apart b f g h s t =
-    (f, (refl, λ lists. let x = t.1 lists in (x.0, subst (λ z. is_in_doubt z ≡ true) (left v b f g s (apart.branches b lists)) x.1)),
-    subst (StepBy v b f) (sym t.0) s)
+page_swap l c names v apart b f g h s t = (
+  f,
+  (refl, λ lists. let x = t.1 lists in (x.0, subst (λ z. is_in_doubt z ≡ true) (left v b f g s (apart.branches b lists)) x.1)),
+  subst (StepBy v b f) (sym t.0) s,
+)
 
 pub swap : (u v : Untold) → AreApart u v → (b : Branch) (f g h : Standing) → StepBy v b f g → StepBy u b g h → Swapped u v b f h
 swap (AnAnswer l c (Ret a)) v apart b f g h s t = swap_answer (asks_of c) l c a v refl apart b f g h s t

@@ -1,16 +1,16 @@
 -- What was made and isn't told yet waits on its line, in turn.
-use Rattle.std.proofs.Common.{◌≡◌, ◌+◌, ◌∙◌, All, Bool, true, false, ℕ, zero, suc, length, List, [], ◌∷◌, ◌++◌, Option, Some, None, refl, sym, ap, subst}
-use Rattle.std.proofs.lemmas.Bool.{or_parts, true≢false}
+use Rattle.std.proofs.Common.{◌≡◌, ◌+◌, ◌∙◌, All, Bool, true, false, ℕ, zero, suc, length, List, [], ◌∷◌, ◌++◌, Option, Some, refl, sym, ap, subst}
+use Rattle.std.proofs.lemmas.Bool.{or_parts}
 use Rattle.std.proofs.lemmas.List.{append-nil}
 use Rattle.std.proofs.lemmas.List.Elements.{All-head, All-tail}
 use Rattle.std.specs.Prelude.{◌||◌, if◌then◌else◌, slice_get}
-use Rattle.xa_drivers.specs.Faithful.{AreApart, IsLostNext, IsLostNext.FirstMade, IsLostNext.NoneMade, IsNext, IsNext.Before, IsNext.Newest, Untold, Untold.ALoss, Untold.AnAnswer, is_severed, line_on, made_on}
+use Rattle.xa_drivers.specs.Faithful.{AreApart, IsNext, IsNext.Before, IsNext.Newest, Untold, Untold.ALoss, Untold.AnAnswer, is_severed, line_on, made_on}
 use Rattle.xa_model.specs.Facts.{issued, taken}
-use Rattle.xa_model.specs.Trace.{Answer, Branch, Call, Happening, Happening.Begun, Happening.Claimed, Happening.Decided, Happening.Done, Happening.Heard, Happening.Issued, Happening.Nothing, Happening.Resolved, Happening.ResolvedOpen, Happening.Took, Line, Origin, Trace, Trace.Then, line_eq}
+use Rattle.xa_model.specs.Trace.{Answer, Branch, Call, Happening, Happening.Begun, Happening.Claimed, Happening.Decided, Happening.Done, Happening.Issued, Happening.Nothing, Happening.Resolved, Happening.ResolvedOpen, Happening.Took, Line, Origin, Trace, Trace.Then, line_eq}
 use Rattle.xa_monitor.proofs.Names.{alone_ran}
 use Rattle.xa_monitor.proofs.UntoldCalls.{alone_calls, heard_calls, one_if, taken_calls}
 use Rattle.xa_monitor.specs.Agreement.{WaitsAt, waiting_call_at}
-use Rattle.xa_monitor.specs.Seen.{IsHistory, IsHistory.Does, IsHistory.Hears, IsHistory.Loses, IsHistory.LosesAnswer, IsManagers, Seen, Seen.Answered, Seen.Did, Seen.Lost, break_of}
+use Rattle.xa_monitor.specs.Seen.{IsHistory.Does, IsHistory.Hears, IsHistory.Loses, IsHistory.LosesAnswer, IsManagers, Seen, Seen.Answered, Seen.Did, Seen.Lost, break_of}
 
 -- ** calls that wait
 

@@ -15,9 +15,9 @@ use Rattle.xa_base.specs.declared.state.Standing.TheVariants.{Active, Committed,
 use Rattle.xa_base.specs.declared.step.Outcome.TheVariants as Outcomes
 use Rattle.xa_base.specs.declared.vote.Vote.TheVariants.{Yes}
 use Rattle.xa_drivers.proofs.Waiting.{waits_on}
-use Rattle.xa_drivers.specs.Deeds.{Deeds, Deeds.Did, Deeds.Made, Deeds.Nothing, Deeds.Severed, Deeds.Told, Deeds.ToldLost, ObeyTable, seen_of, stands}
-use Rattle.xa_drivers.specs.Faithful.{AreApart, IsLostNext.NoneMade, IsNext.Newest, Keeps, Keeps.Begins, Keeps.Loses, Keeps.Makes, Keeps.Reads, Keeps.Tells, Keeps.TellsLoss, MayMake, Untold, Untold.ALoss, Untold.AnAnswer, begins, is_open, open_on}
-use Rattle.xa_drivers.specs.Worked.{FaithfulDriversAreThere, IsWorked, at, commit, decided, each, half_committed, votes}
+use Rattle.xa_drivers.specs.Deeds.{Deeds, Deeds.Did, Deeds.Made, Deeds.Nothing, Deeds.Severed, Deeds.Told, ObeyTable, seen_of, stands}
+use Rattle.xa_drivers.specs.Faithful.{AreApart, IsLostNext.NoneMade, IsNext.Newest, Keeps, Keeps.Begins, Keeps.Loses, Keeps.Makes, Keeps.Reads, Keeps.Tells, Keeps.TellsLoss, Untold, Untold.ALoss, Untold.AnAnswer, begins, is_open, open_on}
+use Rattle.xa_drivers.specs.Worked.{FaithfulDriversAreThere, at, commit, decided, each, half_committed, votes}
 use Rattle.xa_model.proofs.Keys.{line_eq-refl, line_eq-true}
 use Rattle.xa_model.specs.Facts.{issued, taken}
 use Rattle.xa_model.specs.Trace.{Answer, Branch, Call, Gtrid, Happening.Begun, Happening.Decided, Happening.Issued, Line, Origin, Trace, Trace.Then, line_eq, line_of}

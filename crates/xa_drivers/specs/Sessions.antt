@@ -1,5 +1,5 @@
 -- Sessions of faithful drivers one after another. Each is a session of which the theorem of sessions speaks, so databases agree.
-use Rattle.std.specs.Prelude.{◌≡◌, ℕ, Bool, true, false, if◌then◌else◌, List, Option, Some, None, is_some}
+use Rattle.std.specs.Prelude.{◌≡◌, ℕ, Bool, true, false, if◌then◌else◌, List, ◌++◌, Option, Some, None, is_some}
 use Rattle.std.specs.FinMap.{get}
 use Rattle.xa_base.specs.Branch.{branch_eq, gtrid_eq}
 use Rattle.xa_base.specs.StateTable.{broken}
@@ -13,6 +13,7 @@ use Rattle.xa_model.specs.Trace.{Branch, Gtrid, How, Line, Origin}
 use Rattle.xa_monitor.specs.Agreement.{StandAlike}
 use Rattle.xa_monitor.specs.Seen.{Seen}
 use Rattle.xa_monitor.specs.Standings.{Comes}
+use Rattle.xa_server.specs.LeftSessions.{AreFoundDecided, Databases, HaveLeft, under}
 use Rattle.xa_server.specs.Sessions.{AreServed, HoldsLeft, IsEmptyLog, IsHandedOn, IsSession, IsSessionLeft}
 use Rattle.xa_server.specs.Transactions.{AreServedFor, IsAlike, MayStandFor, MayTurn}
 use Rattle.xa_server.specs.declared.server.Server.{Server}
@@ -54,6 +55,19 @@ DrivenAreServed {L} moment =
 abbrev pub DrivenSessionsAgree : {L : Type 0} → (L → Moment) → Type 0
 DrivenSessionsAgree {L} moment =
     (name : List ℕ) (last : Option (Server L)) (f : Branch → Standing) → AreDriven moment name last f → StandAlike f
+
+-- ** processes of which each has a log of a type of its own
+
+-- One session more of a manager of this name, over a log in order that holds what was left (`SessionsGoOn` of `xa_server`), by a faithful
+-- driver over databases that obey the table: what its log then holds is left, and the databases as the deeds leave them.
+abbrev pub DrivenSessionsGoOn : {L : Type 0} → (L → Moment) → Type 0
+DrivenSessionsGoOn {L} moment =
+    (name : List ℕ) (from to : Databases) (c d : Content) (found more : List Branch) (handed : L) (o : Origin) (told seen : Seen)
+    (now left : Server L) (ds : Deeds)
+    → HaveLeft name from c found → AreFoundDecided name from c more → HoldsLeft moment c handed → IsSession moment name handed o told now
+    → IsSessionLeft moment told now seen left → (moment (log_in left.session.manager)).is_honest → AreDeeds o (under name from) seen ds
+    → ObeyTable (λ b. true) (at_start (under name from)) ds → ((b : Branch) → under name to b ≡ stands (at_start (under name from)) ds b)
+    → LeavesContent moment left.session.manager d → HaveLeft name to d (more ++ found)
 
 -- ** one transaction alone
 

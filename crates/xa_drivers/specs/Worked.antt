@@ -1,6 +1,5 @@
 -- A faithful driver, worked out; and drivers that aren't, one for each rule.
 use Rattle.std.specs.Prelude.{◌≡◌, ◌≢◌, true, false, List, [], ◌∷◌, Some, pos}
-use Rattle.xa_base.specs.StateTable.{Kind, asks_of}
 use Rattle.xa_base.specs.declared.answer.Answer.TheVariants.{Page, Ret}
 use Rattle.xa_base.specs.declared.call.Call.TheVariants as Calls
 use Rattle.xa_base.specs.declared.code.Code.TheVariants.{Success}

@@ -2,11 +2,12 @@
 
 ghost use Rattle.xa_drivers.specs.Faithful.{DriversSuffice};
 ghost use Rattle.xa_drivers.specs.Sessions.{DrivenAreServed, DrivenAreServedFor, DrivenSessionsAgree};
-ghost use Rattle.xa_drivers.specs.Sessions.{DrivenTransactionsAgree, DriversSufficeFor};
+ghost use Rattle.xa_drivers.specs.Sessions.{DrivenSessionsGoOn, DrivenTransactionsAgree};
+ghost use Rattle.xa_drivers.specs.Sessions.{DriversSufficeFor};
 ghost use Rattle.xa_drivers.specs.Worked.{FaithfulDriversAreThere, RulesRefuseOthers};
 
 use xa_log::DecisionLog;
-use xa_server::laws::{served_sessions_agree, served_transactions_agree};
+use xa_server::laws::{served_sessions_agree, served_transactions_agree, sessions_go_on};
 
 /// If a driver is faithful in a session (`IsFaithful`) and its databases obey the branch state table
 /// (`ObeyTable`), the branches stand where the theorem of sessions supposes that they do.
@@ -31,6 +32,15 @@ pub fn driven_sessions_agree<L: DecisionLog + Drop>()
 {
     drivers_suffice();
     served_sessions_agree::<L>();
+}
+
+/// The same of sessions of which each has a log of a type of its own, as the processes have that open
+/// the files at one path: a session of a faithful driver goes on from what was left (`HaveLeft`).
+pub fn driven_sessions_go_on<L: DecisionLog + Drop>()
+    ensures { DrivenSessionsGoOn L.moment }
+{
+    drivers_suffice();
+    sessions_go_on::<L>();
 }
 
 /// And each transaction agrees for itself (`AreDrivenFor`): the databases are supposed to obey the
