@@ -12,7 +12,7 @@ use Rattle.xa_drivers.proofs.Paths.{Path, Path.Alone, Path.Here, Path.Step, same
 use Rattle.xa_drivers.proofs.Steps.{StepAlone, StepBy, StepByAnswer, broken_shut}
 use Rattle.xa_drivers.proofs.Waiting.{AllWait, Elsewhere, MovedUp, all_wait, lost_wait, told_wait, waits_behind, waits_elsewhere, waits_on}
 use Rattle.xa_drivers.specs.Deeds.{AnswersByTable, Deeds, Deeds.Ended, Deeds.Made, Deeds.Did, Deeds.Severed, Deeds.Told, Deeds.ToldLost, IsAnswer, ObeyTable, seen_of, stands}
-use Rattle.xa_drivers.specs.Faithful.{IsLostNext, IsLostNext.FirstMade, IsLostNext.NoneMade, IsNext, Keeps, Keeps.Begins, Keeps.Ends, Keeps.Loses, Keeps.Makes, Keeps.Reads, Keeps.Tells, Keeps.TellsLoss, MayMake, Untold, Untold.ALoss, Untold.AnAnswer, begins, is_open, open_on}
+use Rattle.xa_drivers.specs.Faithful.{IsLostNext, IsLostNext.FirstMade, IsLostNext.NoneMade, IsNext, Keeps, Keeps.Begins, Keeps.Ends, Keeps.Loses, Keeps.Makes, Keeps.Does, Keeps.Tells, Keeps.TellsLoss, MayMake, Untold, Untold.ALoss, Untold.AnAnswer, begins, is_open, open_on}
 use Rattle.xa_model.specs.Facts.Standings.{moved_by}
 use Rattle.xa_model.specs.Trace.{Answer, Branch, Call, Code, Happening, How, Line, Origin, line_eq, line_of}
 use Rattle.xa_monitor.proofs.UntoldCalls.{one_if}
@@ -127,7 +127,7 @@ module _ (o : Origin) (mine : Branch → Bool) (from : Branch → Standing) wher
             (told_wait (Waiting o (seen_of ds)) l c a us rest next r.waits);
       }
 
-  -- a loss that is told, behind a call that may have been made
+  -- a loss that is told, after a call that may have been made
   lost_step : (l : Line) (lost : Branch → Bool) (c : Option Call) (b : Branch) (f e g : Standing) → MayBeDone c b f e → StepBy (ALoss l lost) b e g
       → (end : Standing) × MayBeDone c b f end × (g ≡ (if line_eq l (line_of b) then broken end else end))
   lost_step l lost c b f e g may s = (e, may, s.0)
@@ -182,7 +182,7 @@ module _ (o : Origin) (mine : Branch → Bool) (from : Branch → Standing) wher
   -- all of them
   pub follows : (ds : Deeds) (us : List Untold) → Keeps o from ds us → ObeyTable mine from ds → Follows o mine from ds us
   follows _ _ Begins obey = record { mid = from; comes = λ b is. refl; path = Here from (λ b is. refl); waits = tt }
-  follows _ _ (Reads ds us e keeps is) obey = read ds us e is (follows ds us keeps obey)
+  follows _ _ (Does ds us e keeps is) obey = read ds us e is (follows ds us keeps obey)
   follows _ _ (Makes ds us l c a keeps may) obey = made ds us l c a may obey (follows ds us keeps obey.0)
   follows _ _ (Loses ds us l keeps) obey = severed ds us l (follows ds us keeps obey)
   follows _ _ (Ends ds us b how keeps) obey = ended ds us b how obey.1 (follows ds us keeps obey.0)

@@ -1,5 +1,5 @@
--- From where the branches stand by what was told to where they stand: a step for each thing that isn't told yet. What is told next may be
--- taken before all that is older.
+-- From where the branches stand by what was told to where they stand: a step for each thing that
+-- isn't told yet. What is told next may be taken before all that is older.
 use Rattle.std.proofs.Common.{◌≡◌, ◌∙◌, All, Bool, true, false, List, [], ◌∷◌, refl, sym, subst}
 use Rattle.std.proofs.lemmas.List.Elements.{All-head, All-tail}
 use Rattle.std.proofs.lemmas.Bool.{true≢false}
@@ -15,7 +15,8 @@ abbrev pub IsSound : Untold → Type 0
 IsSound (AnAnswer l c a) = HasAnswer c a
 IsSound (ALoss l lost) = Unit
 
--- From the one standing of these branches to the other by what isn't told yet, the newest last; in between, databases ended branches.
+-- From the one standing of these branches to the other by what isn't told yet, the newest last; in
+-- between, databases ended branches.
 pub data Path (mine : Branch → Bool) (mid : Branch → Standing) : List Untold → (Branch → Standing) → Type 0 where
   Here : (to : Branch → Standing) → ((b : Branch) → mine b ≡ true → to b ≡ mid b) → Path mine mid [] to
   Step :

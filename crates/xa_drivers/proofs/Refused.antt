@@ -11,7 +11,7 @@ use Rattle.xa_base.specs.declared.code.Code.TheVariants.{Success}
 use Rattle.xa_base.specs.declared.state.Standing.{Standing}
 use Rattle.xa_base.specs.declared.state.Standing.TheVariants.{Unstarted}
 use Rattle.xa_drivers.specs.Deeds.{Deeds, Deeds.Did, Deeds.Ended, Deeds.Made, Deeds.Nothing, Deeds.Severed, Deeds.Told, Deeds.ToldLost, stands}
-use Rattle.xa_drivers.specs.Faithful.{AreApart, IsFaithful, IsLostNext, IsLostNext.FirstMade, IsLostNext.NoneMade, IsNext, IsNext.Before, IsNext.Newest, Keeps, Keeps.Begins, Keeps.Ends, Keeps.Loses, Keeps.Makes, Keeps.Reads, Keeps.Tells, Keeps.TellsLoss, MayMake, Untold, Untold.ALoss, Untold.AnAnswer, is_open, is_severed, line_on, open_on}
+use Rattle.xa_drivers.specs.Faithful.{AreApart, IsFaithful, IsLostNext, IsLostNext.FirstMade, IsLostNext.NoneMade, IsNext, IsNext.Before, IsNext.Newest, Keeps, Keeps.Begins, Keeps.Ends, Keeps.Loses, Keeps.Makes, Keeps.Does, Keeps.Tells, Keeps.TellsLoss, MayMake, Untold, Untold.ALoss, Untold.AnAnswer, is_open, is_severed, line_on, open_on}
 use Rattle.xa_drivers.specs.Worked.{RulesRefuse, RulesRefuseOthers, listing, recover}
 use Rattle.xa_model.proofs.Keys.{line_eq-refl}
 use Rattle.xa_model.specs.Facts.{fits}
@@ -34,7 +34,7 @@ module _ (o : Origin) (from : Branch → Standing) where
 
   last_of : (ds : Deeds) (us : List Untold) → Keeps o from ds us → LastOf ds us
   last_of _ _ Begins = refl
-  last_of _ _ (Reads ds us e k is) = k
+  last_of _ _ (Does ds us e k is) = k
   last_of _ _ (Makes ds us l c a k may) = (us, k, may, refl)
   last_of _ _ (Loses ds us l k) = (us, k, refl)
   last_of _ _ (Ends ds us b how k) = k
@@ -56,7 +56,8 @@ module _ (o : Origin) (from : Branch → Standing) where
 
   -- ** what is next
 
-  -- it is the newest, and nothing is older on its line or about its branches; or it is an older one
+  -- it is the newest, and nothing is older on its line or about its branches; or it is an older
+  -- one
   abbrev NextOf : Untold → List Untold → List Untold → Type 0
   NextOf u [] rest = ⊥
   NextOf u (v ∷ vs) rest = ((v ≡ u) × All (AreApart u) vs × (rest ≡ vs)) ⊎ ((ws : List Untold) × (rest ≡ v ∷ ws) × NextOf u vs ws)

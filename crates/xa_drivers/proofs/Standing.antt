@@ -22,7 +22,8 @@ use Rattle.xa_monitor.specs.Agreement.{IsLineOf, MayAllStand, MayAllStand.AsTold
 use Rattle.xa_monitor.specs.Seen.{HasAnswer, Seen}
 use Rattle.xa_monitor.specs.Standings.{Comes, ExplainsAsked}
 
--- Where these branches may stand after some calls under way, on lines of which some are cut off: a relation that each of the four leads on.
+-- Where these branches may stand after some calls under way, on lines of which some are cut off: a
+-- relation that each of the four leads on.
 pub record LeadsOn (mine : Branch → Bool) (o : Origin) (seen : Seen) (mid : Branch → Standing)
     (May : List Line → List Line → (Branch → Standing) → Type 0) : Type 0 where
   pub as_told : (f : Branch → Standing) → ((b : Branch) → mine b ≡ true → f b ≡ mid b) → May [] [] f
@@ -37,7 +38,8 @@ pub record LeadsOn (mine : Branch → Bool) (o : Origin) (seen : Seen) (mid : Br
       (done cut : List Line) (from to : Branch → Standing) (d : Branch) (how : How) → May done cut from → from d ≡ Prepared
       → ((b : Branch) → mine b ≡ true → to b ≡ (if branch_eq d b then Completed how else from b)) → May done cut to
 
--- it leads there; on the one list are the calls that were made, on the other the lines that are severed
+-- it leads there; on the one list are the calls that were made, on the other the lines that are
+-- severed
 pub record Led (May : List Line → List Line → (Branch → Standing) → Type 0) (us : List Untold) (to : Branch → Standing) : Type 0 where
   pub done : List Line
   pub cut : List Line

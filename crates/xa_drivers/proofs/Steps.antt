@@ -1,5 +1,5 @@
--- What happened to one branch: a step by an answer or by a loss that isn't told yet, or by its database alone. Steps that are apart may be
--- taken in the other order.
+-- What happened to one branch: a step by an answer or by a loss that isn't told yet, or by its
+-- database alone. Steps that are apart may be taken in the other order.
 use Rattle.std.proofs.Common.{◌≡◌, ◌≢◌, ◌∙◌, ◌⊎◌, inl, inr, Bool, true, false, List, Option, Some, None, refl, sym, ap, subst}
 use Rattle.std.proofs.lemmas.Bool.{or_parts, true≢false}
 use Rattle.std.specs.Prelude.{◌||◌, if◌then◌else◌}
@@ -203,7 +203,8 @@ swap_loss : (l : Line) (lost : Branch → Bool) (v : Untold) → AreApart (ALoss
     → StepBy (ALoss l lost) b g h → Swapped (ALoss l lost) v b f h
 swap_loss l lost v apart b f g h s t = by (line_eq l (line_of b)) refl t.0
   where
-    -- what is older and on another line leaves a branch of this line shut, if it does so behind it
+    -- what is older and on another line leaves a branch of this line shut, if that is shut after
+    -- it
     shut_by : (q : Option (Kind × Branch)) (m : Line) (a : Code) → m ≢ line_of b → StepByAnswer q m a b f g → broken g ≡ g → broken f ≡ f
     shut_by None m a off x e = subst (λ z. broken z ≡ z) x.0 e
     shut_by (Some (k, d)) m a off x e = on (branch_eq d b) refl x.0

@@ -19,7 +19,7 @@ longer [] ys n x e = absurd (cc)
 longer (y ∷ xs) ys zero x e = e
 longer (y ∷ xs) ys (suc n) x e = longer xs ys n x e
 
--- what more is issued stands behind what waits
+-- what more is issued stands after what waits
 more : (tr : Trace) (l : Line) (n : ℕ) (c : Call) (cs : List Call) → waiting_call_at tr l n ≡ Some c
     → slice_get (issued tr l ++ cs) (length (taken tr l ++ []) + n) ≡ Some c
 more tr l n c cs e =
@@ -67,7 +67,8 @@ waits_elsewhere o seen l m _ n c apart waits _ (LosesAnswer _ tr now _ e a i alo
 
 -- ** all that isn't told
 
--- each call that was made waits there on its line, behind those made before it, and its connection wasn't gone
+-- each call that was made waits there on its line, after those made before it, and its connection
+-- wasn't gone
 abbrev pub AllWait : (Line → ℕ → Call → Type 0) → List Untold → Type 0
 AllWait W [] = Unit
 AllWait W (AnAnswer l c a ∷ us) = AllWait W us × (is_severed us l ≡ false) × W l (made_on us l) c

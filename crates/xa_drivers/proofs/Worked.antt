@@ -16,7 +16,7 @@ use Rattle.xa_base.specs.declared.step.Outcome.TheVariants as Outcomes
 use Rattle.xa_base.specs.declared.vote.Vote.TheVariants.{Yes}
 use Rattle.xa_drivers.proofs.Waiting.{waits_on}
 use Rattle.xa_drivers.specs.Deeds.{Deeds, Deeds.Did, Deeds.Made, Deeds.Nothing, Deeds.Severed, Deeds.Told, ObeyTable, seen_of, stands}
-use Rattle.xa_drivers.specs.Faithful.{AreApart, IsLostNext.NoneMade, IsNext.Newest, Keeps, Keeps.Begins, Keeps.Loses, Keeps.Makes, Keeps.Reads, Keeps.Tells, Keeps.TellsLoss, Untold, Untold.ALoss, Untold.AnAnswer, begins, is_open, open_on}
+use Rattle.xa_drivers.specs.Faithful.{AreApart, IsLostNext.NoneMade, IsNext.Newest, Keeps, Keeps.Begins, Keeps.Loses, Keeps.Makes, Keeps.Does, Keeps.Tells, Keeps.TellsLoss, Untold, Untold.ALoss, Untold.AnAnswer, begins, is_open, open_on}
 use Rattle.xa_drivers.specs.Worked.{FaithfulDriversAreThere, at, commit, decided, each, half_committed, votes}
 use Rattle.xa_model.proofs.Keys.{line_eq-refl, line_eq-true}
 use Rattle.xa_model.specs.Facts.{issued, taken}
@@ -87,7 +87,7 @@ module _ (o : Origin) (g : Gtrid) (l : Line) (of : IsLineOf o l) where
   one ds c a own r = record {
     keeps =
         Tells (Made (Did ds (Issued l c)) l c a) (AnAnswer l c a ∷ []) [] l c a
-        (Makes (Did ds (Issued l c)) [] l c a (Reads ds [] (Issued l c) r.keeps tt)
+        (Makes (Did ds (Issued l c)) [] l c a (Does ds [] (Issued l c) r.keeps tt)
         (record {
           of_session = of;
           connected = refl;
@@ -204,7 +204,7 @@ module _ (o : Origin) (g : Gtrid) (l m : Line) (apart : line_eq l m ≡ false) (
       by true e = absurd (true≢false (sym (line_eq-refl l) ∙ (ap (line_eq l) (sym (line_eq-true m l e)) ∙ apart)))
 
   there : IsThere o g m of_m both_voted
-  there = let x = voted o g l of_l start (record { keeps = Reads Nothing [] (Begun g) Begins tt; quiet = quiet_begun o Start g (quiet_start o) }) in
+  there = let x = voted o g l of_l start (record { keeps = Does Nothing [] (Begun g) Begins tt; quiet = quiet_begun o Start g (quiet_start o) }) in
       voted o g m of_m one_voted (record { keeps = x.keeps; quiet = x.quiet })
 
   abbrev decision : Deeds
@@ -216,7 +216,7 @@ module _ (o : Origin) (g : Gtrid) (l m : Line) (apart : line_eq l m ≡ false) (
   commit_made : Keeps o (λ b. Unstarted) first_made (AnAnswer l (commit g l) (Ret Success) ∷ [])
   commit_made =
       Makes (decided g l m) [] l (commit g l) (Ret Success)
-      (Reads (Did decision (Issued l (commit g l))) [] (Issued m (commit g m)) (Reads decision [] (Issued l (commit g l)) (Reads both_voted [] (Decided g Outcomes.Commit) there.keeps tt) tt) tt)
+      (Does (Did decision (Issued l (commit g l))) [] (Issued m (commit g m)) (Does decision [] (Issued l (commit g l)) (Does both_voted [] (Decided g Outcomes.Commit) there.keeps tt) tt) tt)
       (record {
         of_session = of_l;
         connected = refl;

@@ -1,4 +1,9 @@
--- What is done at databases in a session and what its coordinator is told: one list, in the order in which it happens.
+-- What is done at databases in a session, and what its coordinator is told: one list.
+--
+-- In it the deeds of each branch, of each line and of the coordinator stand in their order; how
+-- those of one branch stand to those of another doesn't matter. An xa_start that a driver makes
+-- ahead is in it once it is issued. A connection that is given up counts as gone: what it still
+-- does stands before its loss, so nothing else is done to its branches until it is really gone.
 use Rattle.std.specs.Prelude.{◌≡◌, ℕ, Bool, true, if◌then◌else◌, Option, Some, None}
 use Rattle.xa_base.specs.Branch.{branch_eq}
 use Rattle.xa_base.specs.Standing.{is_in_doubt}
@@ -13,9 +18,10 @@ use Rattle.xa_monitor.specs.Seen.{HasAnswer, Seen, Seen.Answered, Seen.Did as Sa
 
 -- ** deeds
 
--- What is done in a session, the newest last. The coordinator did something, and its reply was read; a call was made on the connection of a
--- line, and answered so; the connection is gone at the database; a database ended a prepared branch by itself. And what the coordinator was
--- told, and took: the answer to a call; the loss of a line, on which this call waited first.
+-- What is done in a session, the newest last. The coordinator did something; a call was made on
+-- the connection of a line, and answered so; the connection is gone at the database; a database
+-- ended a prepared branch by itself. And what the coordinator was told, and took: the answer to a
+-- call; the loss of a line, on which this call waited first.
 pub data Deeds : Type 0 where
   Nothing : Deeds
   Did : Deeds → Happening → Deeds
@@ -42,8 +48,9 @@ abbrev pub after_call : Call → Answer → Branch → Standing → Standing
 after_call c (Ret a) b f = moved_by (asks_of c) a b f
 after_call c (Page names) b f = f
 
--- Where each branch stands behind the deeds: a call moves it by the branch state table, it is lost with its connection if it is open, and its
--- database may end it by itself. What is told moves none.
+-- Where each branch stands after the deeds: a call moves it by the branch state table, it is lost
+-- with its connection if it is open, and its database may end it by itself. What is told moves
+-- none.
 abbrev pub stands : (from : Branch → Standing) → Deeds → Branch → Standing
 stands from Nothing b = from b
 stands from (Did ds e) b = stands from ds b
@@ -63,8 +70,8 @@ abbrev pub IsAnswer : (mine : Branch → Bool) (f : Branch → Standing) → Lin
 IsAnswer mine f l c (Ret a) = AnswersByTable mine f (asks_of c) a
 IsAnswer mine f l c (Page names) = (b : Branch) → mine b ≡ true → Lists names (Ours b) → (b.rm ≡ l.rm) × (is_in_doubt (f b) ≡ true)
 
--- Databases obey the branch state table, as far as these branches go: each call is answered by it, and no branch ends by itself that isn't
--- prepared.
+-- Databases obey the branch state table, as far as these branches go: each call is answered by it,
+-- and no branch ends by itself that isn't prepared.
 abbrev pub ObeyTable : (mine : Branch → Bool) (from : Branch → Standing) → Deeds → Type 0
 ObeyTable mine from Nothing = Unit
 ObeyTable mine from (Did ds e) = ObeyTable mine from ds

@@ -13,7 +13,8 @@ use Rattle.xa_monitor.specs.Standings.{Comes}
 
 -- ** what isn't told yet
 
--- a branch that stands so is open: begun, and neither prepared nor over. It is lost with its connection
+-- a branch that stands so is open: begun, and neither prepared nor over. It is lost with its
+-- connection
 abbrev pub is_open : Standing → Bool
 is_open Active = true
 is_open Idle = true
@@ -24,7 +25,8 @@ is_open _ = false
 abbrev pub open_on : (Branch → Standing) → Line → Branch → Bool
 open_on f l b = line_eq l (line_of b) && is_open (f b)
 
--- what was done on a line, and isn't told yet: the answer to a call; or the loss of the connection, with the branches that were open on it
+-- what was done on a line, and isn't told yet: the answer to a call; or the loss of the
+-- connection, with the branches that were open on it
 pub data Untold : Type 0 where
   AnAnswer : Line → Call → Answer → Untold
   ALoss : Line → (lost : Branch → Bool) → Untold
@@ -49,13 +51,14 @@ pub record AreApart (u v : Untold) : Type 0 where
   pub lines : line_eq (line_on u) (line_on v) ≡ false
   pub branches : (b : Branch) → IsAbout u b → IsAbout v b → ⊥
 
--- Of what isn't told yet, the newest first, this is told next, and the rest isn't: whatever is older is on another line and about other
--- branches.
+-- Of what isn't told yet, the newest first, this is told next, and the rest isn't: whatever is
+-- older is on another line and about other branches.
 pub data IsNext (u : Untold) : List Untold → List Untold → Type 0 where
   Newest : (us : List Untold) → All (AreApart u) us → IsNext u (u ∷ us) us
   Before : (v : Untold) (us rest : List Untold) → IsNext u us rest → IsNext u (v ∷ us) (v ∷ rest)
 
--- The loss of the line is told next. At most one call was made on it whose answer isn't told, the one that waits first.
+-- The loss of the line is told next. At most one call was made on it whose answer isn't told, the
+-- one that waits first.
 pub data IsLostNext (l : Line) : Option Call → List Untold → List Untold → Type 0 where
   NoneMade : (c : Option Call) (lost : Branch → Bool) (us rest : List Untold) → IsNext (ALoss l lost) us rest → IsLostNext l c us rest
   FirstMade :
@@ -81,22 +84,29 @@ abbrev pub begins : Kind → Bool
 begins Start = true
 begins _ = false
 
--- A call may be made on a line of the session (`of_session`) whose connection isn't gone, unless that was told (`connected`). The call was
--- issued, and waits behind those that were made on the line and aren't told (`issued`). A branch is begun on its own line, and called there
--- as long as it is open (`own_line`).
+-- A call may be made:
+-- - `of_session`: on a line of the session,
+-- - `connected`: whose connection isn't gone, or was told to be lost since;
+-- - `issued`: once it is issued, and in turn: it waits after the calls that were made on the line
+--   and aren't told;
+-- - `own_line`: on the branch's own line, if it begins the branch or the branch is open.
 pub record MayMake (o : Origin) (from : Branch → Standing) (ds : Deeds) (us : List Untold) (l : Line) (c : Call) : Type 0 where
   pub of_session : IsLineOf o l
   pub connected : is_severed us l ≡ false
   pub issued : WaitsAt o (seen_of ds) l (made_on us l) (Some c)
   pub own_line : (k : Kind) (b : Branch) → asks_of c ≡ Some (k, b) → (begins k || is_open (stands from ds b)) ≡ true → l ≡ line_of b
 
--- A driver keeps its rules, and this isn't told yet. What it reads is what the coordinator did (`Reads`). It makes a call only if it may
--- (`Makes`). It tells an answer as it was given, and behind all that happened before on the line, or to a branch that it is about (`Tells`). It
--- tells that a line is lost once the connection is gone, behind the same, of the calls on it that were made all but the first being told
--- (`TellsLoss`). Connections are severed (`Loses`) and branches are ended by their databases (`Ends`) at any moment.
+-- A driver keeps its rules, and this isn't told yet:
+-- - `Makes`: it makes a call only if it may;
+-- - `Tells`: it tells an answer as it was given, after all that was done before on that line, or
+--   to a branch that the answer is about;
+-- - `TellsLoss`: it tells the loss of a line once the connection is gone, in the same order, and
+--   after the answers to all calls that were made on the line but the one that waits first.
+-- The coordinator does what it does (`Does`), connections are severed (`Loses`) and branches are
+-- ended by their databases (`Ends`) at any moment.
 pub data Keeps (o : Origin) (from : Branch → Standing) : Deeds → List Untold → Type 0 where
   Begins : Keeps o from Nothing []
-  Reads : (ds : Deeds) (us : List Untold) (e : Happening) → Keeps o from ds us → IsManagers e → Keeps o from (Did ds e) us
+  Does : (ds : Deeds) (us : List Untold) (e : Happening) → Keeps o from ds us → IsManagers e → Keeps o from (Did ds e) us
   Makes :
       (ds : Deeds) (us : List Untold) (l : Line) (c : Call) (a : Answer) → Keeps o from ds us → MayMake o from ds us l c
       → Keeps o from (Made ds l c a) (AnAnswer l c a ∷ us)
@@ -118,7 +128,8 @@ pub record IsFaithful (o : Origin) (from : Branch → Standing) (ds : Deeds) : T
 
 -- ** they suffice
 
--- The branches stand where the theorem of sessions supposes: by what was told each may have come there, and then by what wasn't told yet.
+-- The branches stand where the theorem of sessions supposes: by what was told each may have come
+-- there, and then by what wasn't told yet.
 pub record StandByTold (o : Origin) (from : Branch → Standing) (ds : Deeds) : Type 0 where
   pub done : List Line
   pub cut : List Line

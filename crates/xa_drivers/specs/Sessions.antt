@@ -1,4 +1,5 @@
--- Sessions of faithful drivers one after another. Each is a session of which the theorem of sessions speaks, so databases agree.
+-- Sessions of faithful drivers one after another. The theorem of sessions speaks of them, so
+-- databases agree.
 use Rattle.std.specs.Prelude.{◌≡◌, ℕ, Bool, true, false, if◌then◌else◌, List, ◌++◌, Option, Some, None, is_some}
 use Rattle.std.specs.FinMap.{get}
 use Rattle.xa_base.specs.Branch.{branch_eq, gtrid_eq}
@@ -26,15 +27,17 @@ use Rattle.xa_tm.specs.Calls.{log_in}
 abbrev pub at_start : (Branch → Standing) → Branch → Standing
 at_start from b = broken (from b)
 
--- These are the deeds of a faithful driver in a session from this start, and they tell its coordinator what that saw.
+-- These are the deeds of a faithful driver in a session from this start, and they tell its
+-- coordinator what that saw.
 pub record AreDeeds (o : Origin) (from : Branch → Standing) (seen : Seen) (ds : Deeds) : Type 0 where
   pub tell : seen_of ds ≡ seen
   pub faithful : IsFaithful o (at_start from) ds
 
 -- ** all of them
 
--- Where all branches of a manager stand after sessions of faithful drivers one after another. It is `AreServed` of `xa_server`, with deeds in
--- place of what it supposes of where branches stand: in each session the driver is faithful, and the databases obey the table.
+-- Where all branches of a manager stand after sessions of faithful drivers one after another. It
+-- is `AreServed` of `xa_server`, with deeds in place of what that supposes of where branches
+-- stand: in each session the driver is faithful, and the databases obey the table.
 pub data AreDriven {L : Type 0} (moment : L → Moment) (name : List ℕ) : Option (Server L) → (Branch → Standing) → Type 0 where
   NoneYet : AreDriven moment name None (λ b. Unstarted)
   OneMore :
@@ -58,8 +61,9 @@ DrivenSessionsAgree {L} moment =
 
 -- ** processes of which each has a log of a type of its own
 
--- One session more of a manager of this name, over a log in order that holds what was left (`SessionsGoOn` of `xa_server`), by a faithful
--- driver over databases that obey the table: what its log then holds is left, and the databases as the deeds leave them.
+-- One session more of a manager of this name, over a log in order that holds what was left
+-- (`SessionsGoOn` of `xa_server`), by a faithful driver over databases that obey the table. What
+-- its log then holds is left, and the databases as the deeds leave them.
 abbrev pub DrivenSessionsGoOn : {L : Type 0} → (L → Moment) → Type 0
 DrivenSessionsGoOn {L} moment =
     (name : List ℕ) (from to : Databases) (c d : Content) (found more : List Branch) (handed : L) (o : Origin) (told seen : Seen)
@@ -81,13 +85,14 @@ pub record StandByToldFor (g : Gtrid) (o : Origin) (from : Branch → Standing) 
   pub cut : List Line
   pub may : MayStandFor g o (seen_of ds) (λ b. Comes (seen_of ds) b (from b)) done cut (stands from ds)
 
--- So they do where the driver is faithful and the databases obey the table as far as its branches go.
+-- So they do if the driver is faithful and the databases obey the table as far as its branches go.
 abbrev pub DriversSufficeFor : Type 0
 DriversSufficeFor =
     (g : Gtrid) (o : Origin) (from : Branch → Standing) (ds : Deeds) → IsFaithful o from ds → ObeyTable (of_transaction g) from ds
     → StandByToldFor g o from ds
 
--- Where the branches of one transaction stand after such sessions: `AreServedFor` of `xa_server`, with deeds.
+-- Where the branches of one transaction stand after such sessions: `AreServedFor` of `xa_server`,
+-- with deeds.
 pub data AreDrivenFor {L : Type 0} (moment : L → Moment) (name : List ℕ) (g : Gtrid) : Content → (Branch → Standing) → Type 0 where
   NoneYet : (c : Content) → IsEmptyLog c → AreDrivenFor moment name g c (λ b. Unstarted)
   OneMore :
@@ -100,7 +105,8 @@ pub data AreDrivenFor {L : Type 0} (moment : L → Moment) (name : List ℕ) (g 
       (c : Content) (from to : Branch → Standing) (d : Branch) → AreDrivenFor moment name g c from → MayTurn (is_some (get c.decisions g)) (from d) (to d)
       → ((b : Branch) → b.gtrid ≡ g → branch_eq d b ≡ false → to b ≡ from b) → AreDrivenFor moment name g c to
 
--- None of its branches stands committed beside one that stands rolled back or lost, and the log that is left decides of what is prepared.
+-- None of its branches stands committed beside one that stands rolled back or lost, and the log
+-- that is left decides of what is prepared.
 abbrev pub DrivenTransactionsAgree : {L : Type 0} → (L → Moment) → Type 0
 DrivenTransactionsAgree {L} moment =
     (name : List ℕ) (g : Gtrid) (c : Content) (f : Branch → Standing) → AreDrivenFor moment name g c f → IsAlike g f c

@@ -30,16 +30,19 @@ votes g l ds = each l (Calls.OpenRm ∷ Calls.Start (at g l) false ∷ Calls.End
 abbrev pub commit : Gtrid → Line → Call
 commit g l = Calls.Commit (at g l) false
 
--- A branch on each of two lines votes. The transaction is decided to commit, and an xa_commit of each is issued.
+-- A branch on each of two lines votes. The transaction is decided to commit, and an xa_commit of
+-- each is issued.
 abbrev pub decided : Gtrid → (l m : Line) → Deeds
 decided g l m =
     Did (Did (Did (votes g m (votes g l (Did Nothing (Begun g)))) (Decided g Outcomes.Commit)) (Issued l (commit g l))) (Issued m (commit g m))
 
--- The one is committed, which isn't told yet. The other's connection is gone before its xa_commit was made, and that is told.
+-- The one is committed, which isn't told yet. The other's connection is gone before its xa_commit
+-- was made, and that is told.
 abbrev pub half_committed : Gtrid → (l m : Line) → Deeds
 half_committed g l m = ToldLost (Severed (Made (decided g l m) l (commit g l) (Ret Success)) m) m (Some (commit g m))
 
--- This driver is faithful over databases that obey the table, and one branch stands committed beside one that is prepared still.
+-- This driver is faithful over databases that obey the table, and one branch stands committed
+-- beside one that is prepared still.
 pub record IsWorked (o : Origin) (g : Gtrid) (l m : Line) : Type 0 where
   pub faithful : IsFaithful o (λ b. Unstarted) (half_committed g l m)
   pub obey : ObeyTable (λ b. true) (λ b. Unstarted) (half_committed g l m)
@@ -59,10 +62,15 @@ recover = Calls.Recover (pos 32) true true
 abbrev pub listing : Branch → Answer
 listing b = Page (Ours b ∷ [])
 
--- No driver is faithful that makes a call which wasn't issued (`unissued`); makes one on a connection that is gone, before that is told
--- (`gone`); calls an open branch on another line (`elsewhere`); tells the answer to a second call before that to the first (`order`); tells
--- that a line is lost while its connection is there (`connected`), or while the answer to the first of two calls that were made on it isn't
--- told (`two_made`); tells a page before the xa_prepare of a branch that it lists (`page`); tells an answer that wasn't given (`answer`).
+-- No driver is faithful that
+-- - `unissued`: makes a call which wasn't issued;
+-- - `gone`: makes one on a connection that is gone, before that is told;
+-- - `elsewhere`: calls an open branch on another line;
+-- - `order`: tells the answer to a second call before that to the first;
+-- - `connected`: tells that a line is lost whose connection is there;
+-- - `two_made`: tells that a line is lost before the answer to the first of two calls made on it;
+-- - `page`: tells a page before the xa_prepare of a branch that it lists;
+-- - `answer`: tells an answer that wasn't given.
 pub record RulesRefuse (o : Origin) (from : Branch → Standing) : Type 0 where
   pub unissued : HasOnlyOlderRows o → (l : Line) (c : Call) (a : Answer) → IsFaithful o from (Made Nothing l c a) → ⊥
   pub gone : (ds : Deeds) (l : Line) (c : Call) (a : Answer) → IsFaithful o from (Made (Severed ds l) l c a) → ⊥

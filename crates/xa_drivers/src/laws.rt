@@ -9,8 +9,8 @@ ghost use Rattle.xa_drivers.specs.Worked.{FaithfulDriversAreThere, RulesRefuseOt
 use xa_log::DecisionLog;
 use xa_server::laws::{served_sessions_agree, served_transactions_agree, sessions_go_on};
 
-/// If a driver is faithful in a session (`IsFaithful`) and its databases obey the branch state table
-/// (`ObeyTable`), the branches stand where the theorem of sessions supposes that they do.
+/// If a driver is faithful in a session (`IsFaithful`) and its databases obey the branch state
+/// table (`ObeyTable`), the branches stand where the theorem of sessions supposes that they do.
 ///
 /// - `all`: all of them do;
 /// - `each`: those of one transaction do, if the databases obey the table as far as these go.
@@ -34,8 +34,9 @@ pub fn driven_sessions_agree<L: DecisionLog + Drop>()
     served_sessions_agree::<L>();
 }
 
-/// The same of sessions of which each has a log of a type of its own, as the processes have that open
-/// the files at one path: a session of a faithful driver goes on from what was left (`HaveLeft`).
+/// The same of sessions of which each has a log of a type of its own, as the processes have that
+/// open the files at one path: a session of a faithful driver goes on from what was left
+/// (`HaveLeft`).
 pub fn driven_sessions_go_on<L: DecisionLog + Drop>()
     ensures { DrivenSessionsGoOn L.moment }
 {
@@ -60,8 +61,8 @@ pub fn driven_transactions_agree<L: DecisionLog + Drop>()
 
 /// What is supposed of drivers can be met, and isn't met by others.
 ///
-/// - `there`: a driver that is faithful over databases that obey the table, worked out: one branch is
-///   committed, which isn't told yet, and the other is prepared still, its connection lost;
+/// - `there`: a driver that is faithful over databases that obey the table, worked out: one branch
+///   is committed, which isn't told yet, and the other is prepared still, its connection lost;
 /// - `refused`: drivers that break one rule each aren't faithful.
 pub fn faithful_drivers_are_there()
     ensures there { FaithfulDriversAreThere }
