@@ -1,4 +1,5 @@
 mod Following
+mod OwnDeeds
 mod Paths
 mod Refused
 mod Sessions

@@ -11,6 +11,7 @@ use Rattle.xa_base.specs.declared.answer.Answer.TheVariants.{Page, Ret}
 use Rattle.xa_base.specs.declared.code.Code.TheVariants as Codes
 use Rattle.xa_base.specs.declared.state.Standing.{Standing}
 use Rattle.xa_base.specs.declared.state.Standing.TheVariants.{Active, Committed, Completed, Forgotten, Idle, Lost, Prepared, ReadOnly, RollbackOnly, RolledBack, Unstarted}
+use Rattle.xa_drivers.specs.Deeds.{asks_it}
 use Rattle.xa_drivers.specs.Faithful.{AreApart, Asks, IsAbout, Untold, Untold.ALoss, Untold.AnAnswer, begins, is_open, line_on}
 use Rattle.xa_model.proofs.Keys.{line_eq-refl, line_eq-true}
 use Rattle.xa_model.specs.Protocol.{Lists}
@@ -34,11 +35,6 @@ StepBy (AnAnswer l c (Ret a)) b f g = StepByAnswer (asks_of c) l a b f g
 StepBy (AnAnswer l c (Page names)) b f g = (g ≡ f) × (Lists names (Ours b) → (b.rm ≡ l.rm) × (is_in_doubt f ≡ true))
 StepBy (ALoss l lost) b f g =
     (g ≡ (if line_eq l (line_of b) then broken f else f)) × (line_eq l (line_of b) ≡ true → lost b ≡ false → broken f ≡ f)
-
--- something is asked of this branch
-abbrev pub asks_it : Option (Kind × Branch) → Branch → Bool
-asks_it None d = false
-asks_it (Some (k, e)) d = branch_eq e d
 
 -- its database ended this branch, and no other
 abbrev pub StepAlone : (d : Branch) (how : How) → Branch → (from to : Standing) → Type 0

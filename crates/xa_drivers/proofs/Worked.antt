@@ -45,7 +45,7 @@ quiet_decided o seen g quiet l _ (Does _ tr _ i) = as_before (issued tr l) (take
 both_longer : {X Y : Type 0} (t : Bool) (xs : List X) (x : X) (ys : List Y) (y : Y) → length xs ≡ length ys
     → length (((xs ++ (if t then x ∷ [] else [])) ++ []) ++ []) ≡ length (((ys ++ []) ++ (if t then y ∷ [] else [])) ++ [])
 both_longer true xs x ys y e = simp (append-nil, length-append) (omega (arith, e))
-both_longer false xs x ys y e = simp (append-nil, length-append) (omega (arith, e))
+both_longer false xs x ys y e = simp append-nil e
 
 module _ (o : Origin) (seen : Seen) (quiet : IsQuiet o seen) (l : Line) (c : Call) where
   quiet_answered : (a : Answer) → IsQuiet o (Answered (Saw seen (Issued l c)) l c a)

@@ -4,7 +4,7 @@
 -- those of one branch stand to those of another doesn't matter. An xa_start that a driver makes
 -- ahead is in it once it is issued. A connection that is given up counts as gone: what it still
 -- does stands before its loss, so nothing else is done to its branches until it is really gone.
-use Rattle.std.specs.Prelude.{◌≡◌, ℕ, Bool, true, if◌then◌else◌, Option, Some, None}
+use Rattle.std.specs.Prelude.{◌≡◌, ℕ, Bool, true, false, if◌then◌else◌, Option, Some, None}
 use Rattle.xa_base.specs.Branch.{branch_eq}
 use Rattle.xa_base.specs.Standing.{is_in_doubt}
 use Rattle.xa_base.specs.StateTable.{Kind, answer, asks_of, broken, completed, state_of}
@@ -80,3 +80,25 @@ ObeyTable mine from (Severed ds l) = ObeyTable mine from ds
 ObeyTable mine from (Ended ds b how) = ObeyTable mine from ds × (mine b ≡ true → stands from ds b ≡ Prepared)
 ObeyTable mine from (Told ds l c a) = ObeyTable mine from ds
 ObeyTable mine from (ToldLost ds l c) = ObeyTable mine from ds
+
+-- ** one branch
+
+abbrev pub asks_it : Option (Kind × Branch) → Branch → Bool
+asks_it (Some (k, d)) b = branch_eq d b
+asks_it None b = false
+
+-- the deeds by which this branch may move: calls that name it, the loss of its connection, and an
+-- end by its database
+abbrev pub own : Branch → Deeds → Deeds
+own b Nothing = Nothing
+own b (Did ds e) = own b ds
+own b (Made ds l c (Ret a)) = if asks_it (asks_of c) b then Made (own b ds) l c (Ret a) else own b ds
+own b (Made ds l c (Page names)) = own b ds
+own b (Severed ds l) = if line_eq l (line_of b) then Severed (own b ds) l else own b ds
+own b (Ended ds d how) = if branch_eq d b then Ended (own b ds) d how else own b ds
+own b (Told ds l c a) = own b ds
+own b (ToldLost ds l c) = own b ds
+
+-- Where a branch stands depends on these alone: lists that have the same of it leave it alike.
+abbrev pub StandByOwnDeeds : Type 0
+StandByOwnDeeds = (from : Branch → Standing) (ds es : Deeds) (b : Branch) → own b ds ≡ own b es → stands from ds b ≡ stands from es b

@@ -1,5 +1,6 @@
 //! That the rules of a driver suffice. These functions do nothing: each contract is a theorem.
 
+ghost use Rattle.xa_drivers.specs.Deeds.{StandByOwnDeeds};
 ghost use Rattle.xa_drivers.specs.Faithful.{DriversSuffice};
 ghost use Rattle.xa_drivers.specs.Sessions.{DrivenAreServed, DrivenAreServedFor, DrivenSessionsAgree};
 ghost use Rattle.xa_drivers.specs.Sessions.{DrivenSessionsGoOn, DrivenTransactionsAgree};
@@ -8,6 +9,12 @@ ghost use Rattle.xa_drivers.specs.Worked.{FaithfulDriversAreThere, RulesRefuseOt
 
 use xa_log::DecisionLog;
 use xa_server::laws::{served_sessions_agree, served_transactions_agree, sessions_go_on};
+
+/// Where a branch stands depends on its own deeds alone (`own`). So how the deeds of one branch
+/// stand in a list to those of another is nothing to where they are left.
+pub fn branches_stand_by_own_deeds()
+    ensures { StandByOwnDeeds }
+{}
 
 /// If a driver is faithful in a session (`IsFaithful`) and its databases obey the branch state
 /// table (`ObeyTable`), the branches stand where the theorem of sessions supposes that they do.
