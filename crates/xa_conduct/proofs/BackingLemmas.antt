@@ -19,7 +19,7 @@ use Rattle.xa_requests.specs.declared.request.Request.TheVariants as requests
 use Rattle.xa_conduct.specs.Backing.{AreBacked, KeepAllBacked, IsBacked, IsToldSo, KeepsBacked, KeepsResting, OutcomeRests, RestOn, Rests, WasAtOnce, asks_at_once, asks_commit, asks_forget, asks_prepare, asks_rollback, branch_at, is_backed, is_commit, is_end, is_later, is_on, is_refused, is_yes, loses, standing_after, tells, was_asked}
 use Rattle.xa_conduct.specs.Decided.{AsksNoLess, is_commit_of, is_rollback_of, is_same}
 use Rattle.xa_conduct.specs.Meaning.{kind_at, step_of}
-use Rattle.xa_conduct.specs.Places.{is_asked, rank}
+use Rattle.xa_conduct.specs.Places.{is_asked, steps_at}
 use Rattle.xa_conduct.specs.declared.meaning.Heard.{Heard}
 use Rattle.xa_conduct.specs.declared.meaning.Heard.TheVariants as heards
 use Rattle.xa_conduct.specs.declared.meaning.Step.{Step}
@@ -232,7 +232,7 @@ no_step Refusing report is = absurd (true≢false is)
 no_step Forgetting report is = absurd (true≢false is)
 
 -- a branch that waits for one is closer to its end then
-pub step_closer : (place : Place) (report : Report) → is_asked place ≡ true → rank (step_of place report).place < rank place
+pub step_closer : (place : Place) (report : Report) → is_asked place ≡ true → steps_at place < steps_at (step_of place report).place
 step_closer Preparing (reports.Code codes.Success) is = lit< tt
 step_closer Preparing (reports.Code codes.ReadOnly) is = lit< tt
 step_closer Preparing (reports.Code (codes.RolledBack why)) is = lit< tt
@@ -364,6 +364,21 @@ rest_joined asked g t standing parts now part is works rest =
     record {
       outcome = rest.outcome;
       parts = subst (AreBacked asked g t) (sym is) (All-push (IsBacked asked g t) parts part rest.parts begun);
+    }
+
+-- one went on
+pub rest_one : (past old new : List Request) (g : Gtrid) (t : ℕ) (standing : Standing) (parts : List Part) (i : ℕ) (from to : Part)
+    → i < length parts → from ≡ get_or parts i from → to.rm ≡ from.rm → AsksNoLess old new
+    → KeepsBacked old new (branch_at g t from.rm) from.place to.place → RestOn (was_asked past old) g t standing parts
+    → RestOn (was_asked past new) g t standing (set parts i to)
+rest_one past old new g t standing parts i from to within at same more keeps rest =
+    let here : IsBacked (was_asked past old) g t from = subst (IsBacked (was_asked past old) g t) (sym at) (rest.parts i from within) in
+    record {
+      outcome = outcome_kept past old new g t standing more rest.outcome;
+      parts =
+          All-set (IsBacked (was_asked past new) g t) parts i to
+          (subst (λ (rm : ℕ). is_backed (was_asked past new) (branch_at g t rm) to.place ≡ true) (sym same) (keeps past here))
+          (parts_more (was_asked past old) (was_asked past new) (asked_more past old new more) g t parts rest.parts);
     }
 
 -- one was heard

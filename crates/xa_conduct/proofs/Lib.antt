@@ -4,5 +4,7 @@ pub mod BackingLemmas
 pub mod ConductLemmas
 pub mod DecidedLemmas
 pub mod PlainLemmas
+pub mod ProgressLemmas
 pub mod SaidLemmas
 pub mod ToldLemmas
+pub mod TurnLemmas

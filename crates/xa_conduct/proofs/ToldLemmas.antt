@@ -68,7 +68,7 @@ pub record AreSome (asked : (Request → Bool) → Bool) (text : List ℕ) : Typ
 abbrev pub SoFar : ((Request → Bool) → Bool) → (is_first : Bool) → List ℕ → Type 0
 SoFar asked is_first text = MatchBool is_first (text ≡ []) (AreSome asked text)
 
-joined_more : (r : List ℕ) (rs : List (List ℕ)) (x : List ℕ) → joined (r ∷ (rs ++ x ∷ [])) ≡ joined (r ∷ rs) ++ (59 ∷ x)
+pub joined_more : (r : List ℕ) (rs : List (List ℕ)) (x : List ℕ) → joined (r ∷ (rs ++ x ∷ [])) ≡ joined (r ∷ rs) ++ (59 ∷ x)
 joined_more r [] x = refl
 joined_more r (s ∷ rs) x = ap (λ z. r ++ (59 ∷ z)) (joined_more s rs x) ∙ sym (append_assoc r (59 ∷ joined (s ∷ rs)) (59 ∷ x))
 

@@ -11,4 +11,6 @@ pub mod Over
 pub mod Pages
 pub mod Places
 pub mod Plain
+pub mod Progress
 pub mod Told
+pub mod Turns

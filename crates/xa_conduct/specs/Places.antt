@@ -1,4 +1,4 @@
--- Where a branch stands with its driver, and how much is left of it.
+-- Where a branch stands with its driver, and how far it has come.
 use Rattle.std.specs.Prelude.{ℕ, Bool, true, false}
 use Rattle.xa_conduct.specs.declared.place.Place.{Place}
 use Rattle.xa_conduct.specs.declared.place.Place.TheVariants.{Working, Preparing, AtOnce, Prepared, Committing, RollingBack, Undoing, Refusing, Forgetting, Over, Owed}
@@ -17,19 +17,25 @@ is_asked Forgetting = true
 is_asked Over = false
 is_asked Owed = false
 
--- how many steps of it are left at most
-abbrev pub rank : Place → ℕ
-rank Working = 5
-rank Preparing = 4
-rank AtOnce = 2
-rank Prepared = 3
-rank Committing = 2
-rank RollingBack = 2
-rank Undoing = 2
-rank Refusing = 2
-rank Forgetting = 1
-rank Over = 0
-rank Owed = 0
+-- work goes on at it
+abbrev pub is_working : Place → Bool
+is_working Working = true
+is_working _ = false
+
+-- How many of a branch's four steps are made: it began, and at most three answers come to calls on it (its vote, its end, that it is forgotten).
+-- A call that comes in place of others has their steps.
+abbrev pub steps_at : Place → ℕ
+steps_at Working = 1
+steps_at Preparing = 1
+steps_at Prepared = 2
+steps_at Committing = 2
+steps_at RollingBack = 2
+steps_at AtOnce = 3
+steps_at Undoing = 3
+steps_at Refusing = 3
+steps_at Forgetting = 3
+steps_at Over = 4
+steps_at Owed = 4
 
 -- its end is left to the recovery
 abbrev pub is_left : Place → Bool

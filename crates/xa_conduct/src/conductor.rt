@@ -3,6 +3,7 @@
 ghost use Rattle.std.specs.Prelude.{◌≡◌, ◌≤◌, true, false, length, IfOk, List, string_bytes};
 ghost use Rattle.xa_conduct.specs.Acting.{Acts, GoesOn};
 ghost use Rattle.xa_conduct.specs.Conducting.{Conducts, TurnsSo};
+ghost use Rattle.xa_conduct.specs.Turns.{StepsOn};
 ghost use Rattle.xa_requests.specs.declared.request.Request.{Request};
 ghost use Rattle.xa_server.specs.declared.server.Server.{Server};
 ghost use Rattle.xa_session.specs.Session.{IsReady};
@@ -77,6 +78,8 @@ impl<L: DecisionLog + Drop> Conductor<L> {
         ensures acts { GoesOn L.moment self.old.server self.new.server }
         ensures rests { IfOk result (λ text.
             TurnsSo L.moment self.old self.new (string_bytes text)) }
+        ensures steps { IfOk result (λ text.
+            StepsOn L.moment self.old self.new (string_bytes text)) }
     {
         if self.notes.is_stopped {
             return self.text("stopped");
@@ -102,6 +105,8 @@ impl<L: DecisionLog + Drop> Conductor<L> {
         ensures acts { GoesOn L.moment self.old.server self.new.server }
         ensures rests { IfOk result (λ text.
             TurnsSo L.moment self.old self.new (string_bytes text)) }
+        ensures steps { IfOk result (λ text.
+            StepsOn L.moment self.old self.new (string_bytes text)) }
     {
         let mut plan = Plan::new(self.alloc);
         let replies = self.notes.take_all(moves, &mut plan)?;

@@ -3,6 +3,7 @@
 ghost use Rattle.xa_conduct.specs.Conducted.{ConductedSessionsAreServed};
 ghost use Rattle.xa_conduct.specs.Outcomes.{ToldDecisionsWereMade};
 ghost use Rattle.xa_conduct.specs.Plain.{PlainRequestsHaveLines};
+ghost use Rattle.xa_conduct.specs.Turns.{TransactionsEnd};
 
 use xa_log::DecisionLog;
 use xa_names::laws::without_a_name_nothing_changes;
@@ -30,4 +31,10 @@ pub fn conducted_sessions_are_served<L: DecisionLog + Drop>()
 /// each by one of the lines that its requests are, which was replied that it is decided.
 pub fn told_decisions_were_made<L: DecisionLog + Drop>()
     ensures { ToldDecisionsWereMade L.moment }
+{}
+
+/// Each transaction comes to an end: by lines as each turn is one (`steps` of [`Conductor::turn`](crate::Conductor::turn)), no more than four moves
+/// for each of its branches and one are taken of it. What isn't taken is replied by an error.
+pub fn transactions_end()
+    ensures { TransactionsEnd }
 {}

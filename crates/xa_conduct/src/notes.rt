@@ -1,10 +1,11 @@
 //! What a conductor notes of its threads and resource managers. Nothing here touches the server: what is to be asked of it
 //! goes into a plan. A file for what follows from a line of moves, and one for recoveries.
 
-ghost use Rattle.std.specs.Prelude.{◌≡◌, ◌≤◌, length, All, Bool, IfOk, Some};
+ghost use Rattle.std.specs.Prelude.{◌≡◌, ◌≤◌, ◌∷◌, [], length, All, Bool, IfOk, Some};
 ghost use Rattle.xa_conduct.specs.Backing.{KeepResting, Rests};
 ghost use Rattle.xa_conduct.specs.Decided.{AsksNoLess};
 ghost use Rattle.xa_conduct.specs.Moves.{IsOfThread, thread_of};
+ghost use Rattle.xa_conduct.specs.Progress.{AllStep};
 ghost use Rattle.xa_requests.specs.declared.request.Request.{Request};
 
 mod outcomes;
@@ -112,6 +113,8 @@ impl Notes {
         plan: &mut Plan,
     ) -> Result<Vec<Reply>, Memory>
         ensures count { IfOk result (λ replies. length replies.items ≡ length moves.now) }
+        ensures steps { IfOk result (λ replies. AllStep replies.items
+            self.old.transactions.items self.new.transactions.items) }
         ensures more { IfOk result (λ _.
             AsksNoLess plan.old.requests.items plan.new.requests.items) }
         ensures rests { IfOk result (λ _. KeepResting plan.old.requests.items
@@ -131,6 +134,8 @@ impl Notes {
     /// Takes a move of a thread: what is to be asked for goes into the plan.
     fn take(&mut self, asked: &Move, plan: &mut Plan) -> Result<Reply, Memory>
         ensures thread { IfOk result (IsOfThread (thread_of asked.now)) }
+        ensures steps { IfOk result (λ reply. AllStep (reply ∷ [])
+            self.old.transactions.items self.new.transactions.items) }
         ensures more { IfOk result (λ _.
             AsksNoLess plan.old.requests.items plan.new.requests.items) }
         ensures rests { IfOk result (λ _. KeepResting plan.old.requests.items
@@ -149,6 +154,8 @@ impl Notes {
     /// The first transaction of a thread begins. The first thread is the recovery's.
     fn start(&mut self, thread: u32, plan: &mut Plan) -> Result<Reply, Memory>
         ensures thread { IfOk result (IsOfThread (Some thread)) }
+        ensures steps { IfOk result (λ reply. AllStep (reply ∷ [])
+            self.old.transactions.items self.new.transactions.items) }
         ensures more { IfOk result (λ _.
             AsksNoLess plan.old.requests.items plan.new.requests.items) }
         ensures rests { IfOk result (λ _. KeepResting plan.old.requests.items
@@ -173,6 +180,8 @@ impl Notes {
     /// Branches began.
     fn join(&mut self, thread: u32, rms: &[u32], plan: &mut Plan) -> Result<Reply, Memory>
         ensures thread { IfOk result (IsOfThread (Some thread)) }
+        ensures steps { IfOk result (λ reply. AllStep (reply ∷ [])
+            self.old.transactions.items self.new.transactions.items) }
         ensures more { IfOk result (λ _.
             AsksNoLess plan.old.requests.items plan.new.requests.items) }
         ensures rests { IfOk result (λ _. KeepResting plan.old.requests.items
@@ -189,6 +198,8 @@ impl Notes {
     /// The work is over, and is to be committed.
     fn commit(&mut self, thread: u32, plan: &mut Plan) -> Result<Reply, Memory>
         ensures thread { IfOk result (IsOfThread (Some thread)) }
+        ensures steps { IfOk result (λ reply. AllStep (reply ∷ [])
+            self.old.transactions.items self.new.transactions.items) }
         ensures more { IfOk result (λ _.
             AsksNoLess plan.old.requests.items plan.new.requests.items) }
         ensures rests { IfOk result (λ _. KeepResting plan.old.requests.items
@@ -204,6 +215,8 @@ impl Notes {
     /// It is to be rolled back.
     fn roll_back(&mut self, thread: u32, plan: &mut Plan) -> Result<Reply, Memory>
         ensures thread { IfOk result (IsOfThread (Some thread)) }
+        ensures steps { IfOk result (λ reply. AllStep (reply ∷ [])
+            self.old.transactions.items self.new.transactions.items) }
         ensures more { IfOk result (λ _.
             AsksNoLess plan.old.requests.items plan.new.requests.items) }
         ensures rests { IfOk result (λ _. KeepResting plan.old.requests.items
@@ -219,6 +232,8 @@ impl Notes {
     /// The calls that were told were answered so.
     fn tell(&mut self, thread: u32, reports: &[Report], plan: &mut Plan) -> Result<Reply, Memory>
         ensures thread { IfOk result (IsOfThread (Some thread)) }
+        ensures steps { IfOk result (λ reply. AllStep (reply ∷ [])
+            self.old.transactions.items self.new.transactions.items) }
         ensures more { IfOk result (λ _.
             AsksNoLess plan.old.requests.items plan.new.requests.items) }
         ensures rests { IfOk result (λ _. KeepResting plan.old.requests.items

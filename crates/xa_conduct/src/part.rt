@@ -6,7 +6,7 @@ ghost use Rattle.xa_conduct.specs.Backing.{IsToldSo, KeepsBacked, asks_forget, w
 ghost use Rattle.xa_conduct.specs.Debts.{OwesNoLess, is_owed_to};
 ghost use Rattle.xa_conduct.specs.Decided.{AsksNoLess, CommitIsAsked, is_rollback_of};
 ghost use Rattle.xa_conduct.specs.Meaning.{step_of};
-ghost use Rattle.xa_conduct.specs.Places.{is_asked, is_left, rank};
+ghost use Rattle.xa_conduct.specs.Places.{is_asked, is_left, is_working, steps_at};
 ghost use Rattle.xa_conduct.specs.declared.place.Place.TheVariants as Places;
 
 use crate::debt::Debt;
@@ -46,10 +46,17 @@ impl Part {
         matches!(self.place, Place::Owed)
     }
 
+    /// Whether work goes on at it.
+    pub fn is_working(&self) -> bool
+        ensures { result ≡ is_working self.now.place }
+    {
+        matches!(self.place, Place::Working)
+    }
+
     /// Its work is to end, and it is to be prepared, unless it is already.
     pub fn prepare(&mut self, branch: Branch, plan: &mut Plan) -> Result<(), AllocError>
         ensures same { self.new.rm ≡ self.old.rm }
-        ensures closer { IfOk result (λ _. rank self.new.place ≤ rank self.old.place) }
+        ensures closer { IfOk result (λ _. steps_at self.old.place ≤ steps_at self.new.place) }
         ensures more { IfOk result (λ _.
             AsksNoLess plan.old.requests.items plan.new.requests.items) }
         ensures backed { IfOk result (λ _. KeepsBacked plan.old.requests.items
@@ -66,7 +73,9 @@ impl Part {
     /// Its work is to end, and it is to be committed in one phase.
     pub fn commit_at_once(&mut self, branch: Branch, plan: &mut Plan) -> Result<(), AllocError>
         ensures same { self.new.rm ≡ self.old.rm }
-        ensures closer { IfOk result (λ _. rank self.new.place ≤ rank self.old.place) }
+        ensures started { is_working self.old.place ≡ true →
+            IfOk result (λ _. steps_at self.old.place < steps_at self.new.place) }
+        ensures closer { IfOk result (λ _. steps_at self.old.place ≤ steps_at self.new.place) }
         ensures more { IfOk result (λ _.
             AsksNoLess plan.old.requests.items plan.new.requests.items) }
         ensures backed { IfOk result (λ _. KeepsBacked plan.old.requests.items
@@ -84,7 +93,7 @@ impl Part {
     pub fn commit(&mut self, branch: Branch, plan: &mut Plan) -> Result<bool, AllocError>
         requires { CommitIsAsked plan.old.requests.items branch.gtrid }
         ensures same { self.new.rm ≡ self.old.rm }
-        ensures closer { IfOk result (λ _. rank self.new.place ≤ rank self.old.place) }
+        ensures closer { IfOk result (λ _. steps_at self.old.place ≤ steps_at self.new.place) }
         ensures more { IfOk result (λ _.
             AsksNoLess plan.old.requests.items plan.new.requests.items) }
         ensures backed { IfOk result (λ _. KeepsBacked plan.old.requests.items
@@ -104,7 +113,7 @@ impl Part {
     pub fn undo(&mut self, branch: Branch, plan: &mut Plan) -> Result<(), AllocError>
         requires { list_any (is_rollback_of branch.gtrid) plan.old.requests.items ≡ true }
         ensures same { self.new.rm ≡ self.old.rm }
-        ensures closer { IfOk result (λ _. rank self.new.place ≤ rank self.old.place) }
+        ensures closer { IfOk result (λ _. steps_at self.old.place ≤ steps_at self.new.place) }
         ensures more { IfOk result (λ _.
             AsksNoLess plan.old.requests.items plan.new.requests.items) }
         ensures backed { IfOk result (λ _. KeepsBacked plan.old.requests.items
@@ -136,7 +145,7 @@ impl Part {
     ) -> Result<Heard, AllocError>
         ensures same { self.new.rm ≡ self.old.rm }
         ensures closer { is_asked self.old.place ≡ true →
-            IfOk result (λ _. rank self.new.place < rank self.old.place) }
+            IfOk result (λ _. steps_at self.old.place < steps_at self.new.place) }
         ensures more { IfOk result (λ _.
             AsksNoLess plan.old.requests.items plan.new.requests.items) }
         ensures place { IfOk result (λ _.

@@ -1,13 +1,16 @@
 //! The transaction of a thread, and how far it has come. Nothing here touches the server: what is to be asked of it goes
 //! into a plan.
 
-ghost use Rattle.std.specs.Prelude.{◌≡◌, Bool, true, false, IfOk, IfSome, None};
+ghost use Rattle.std.specs.Prelude.{◌≡◌, ◌<◌, ◌≤◌, ◌-◌, Bool, true, false, IfOk, IfSome, None};
+ghost use Rattle.std.specs.Prelude.{length, if◌then◌else◌};
 ghost use Rattle.std.specs.List.{Contains, list_all, list_any};
 ghost use Rattle.xa_conduct.specs.Backing.{KeepAllBacked, KeepsResting, Rests, branch_at};
 ghost use Rattle.xa_conduct.specs.Backing.{standing_after};
 ghost use Rattle.xa_conduct.specs.Decided.{AsksNoLess, CommitIsAsked, is_for, is_rollback_of};
 ghost use Rattle.xa_conduct.specs.Over.{has_calls, has_left, is_decided, is_over};
 ghost use Rattle.xa_conduct.specs.Places.{is_asked};
+ghost use Rattle.xa_conduct.specs.Progress.{IsBegun, Steps, are_working, branch_steps, is_asked_in};
+ghost use Rattle.xa_conduct.specs.Progress.{is_at, is_new_at, steps_to};
 ghost use Rattle.xa_conduct.specs.declared.transaction.Standing.TheVariants as Standings;
 ghost use Rattle.xa_requests.specs.declared.request.Request.{Request};
 
@@ -76,6 +79,7 @@ fn prepare_each(
     thread: u32,
     plan: &mut Plan,
 ) -> Result<(), AllocError>
+    ensures steps { IfOk result (λ _. branch_steps parts.old ≤ branch_steps parts.new) }
     ensures more { IfOk result (λ _. AsksNoLess plan.old.requests.items plan.new.requests.items) }
     ensures backed { IfOk result (λ _. KeepAllBacked plan.old.requests.items
         plan.new.requests.items gtrid thread parts.old parts.new) }
@@ -83,24 +87,6 @@ fn prepare_each(
     for part in parts {
         let rm = part.rm;
         part.prepare(Branch { gtrid, thread, rm }, plan)?;
-    }
-    Ok(())
-}
-
-/// Each of these branches is to be committed in one phase.
-fn commit_each_at_once(
-    parts: &mut [Part],
-    gtrid: Gtrid,
-    thread: u32,
-    plan: &mut Plan,
-) -> Result<(), AllocError>
-    ensures more { IfOk result (λ _. AsksNoLess plan.old.requests.items plan.new.requests.items) }
-    ensures backed { IfOk result (λ _. KeepAllBacked plan.old.requests.items
-        plan.new.requests.items gtrid thread parts.old parts.new) }
-{
-    for part in parts {
-        let rm = part.rm;
-        part.commit_at_once(Branch { gtrid, thread, rm }, plan)?;
     }
     Ok(())
 }
@@ -113,6 +99,7 @@ fn commit_each(
     plan: &mut Plan,
 ) -> Result<bool, AllocError>
     requires { CommitIsAsked plan.old.requests.items gtrid }
+    ensures steps { IfOk result (λ _. branch_steps parts.old ≤ branch_steps parts.new) }
     ensures more { IfOk result (λ _. AsksNoLess plan.old.requests.items plan.new.requests.items) }
     ensures backed { IfOk result (λ _. KeepAllBacked plan.old.requests.items
         plan.new.requests.items gtrid thread parts.old parts.new) }
@@ -135,6 +122,7 @@ fn undo_each(
     plan: &mut Plan,
 ) -> Result<(), AllocError>
     requires { list_any (is_rollback_of gtrid) plan.old.requests.items ≡ true }
+    ensures steps { IfOk result (λ _. branch_steps parts.old ≤ branch_steps parts.new) }
     ensures more { IfOk result (λ _. AsksNoLess plan.old.requests.items plan.new.requests.items) }
     ensures backed { IfOk result (λ _. KeepAllBacked plan.old.requests.items
         plan.new.requests.items gtrid thread parts.old parts.new) }
@@ -167,7 +155,8 @@ impl Transaction {
 
     /// The next transaction has begun.
     pub fn begin(&mut self, gtrid: Gtrid)
-        ensures { (asked : (Request → Bool) → Bool) → Rests asked self.new }
+        ensures rests { (asked : (Request → Bool) → Bool) → Rests asked self.new }
+        ensures begun { IsBegun gtrid self.new }
     {
         self.gtrid = gtrid;
         self.standing = Standing::Open;
@@ -193,7 +182,9 @@ impl Transaction {
     }
 
     /// Whether all calls that were told are those of the first phase, which may yet not be made.
-    pub fn may_roll_back(&self) -> bool {
+    pub fn may_roll_back(&self) -> bool
+        ensures { result ≡ true → self.now.standing ≡ Standings.Open }
+    {
         !self.has_moved
             && self.standing == Standing::Open
             && self.parts.iter().all(|part| matches!(
@@ -203,16 +194,36 @@ impl Transaction {
     }
 
     /// Whether branches may begin at these resource managers, of which there are so many.
-    pub fn may_join(&self, rms: &[u32], count: usize) -> bool {
-        self.may_roll_back()
-            && rms
-                .iter()
-                .all(|rm| (*rm as usize) < count && !self.has(*rm))
+    pub fn may_join(&self, rms: &[u32], count: usize) -> bool
+        ensures some { result ≡ true → 0 < length rms.now }
+        ensures new { result ≡ true → list_all (is_new_at self.now.parts.items) rms.now ≡ true }
+    {
+        !rms.is_empty()
+            && self.may_roll_back()
+            && rms.iter().all(|rm| (*rm as usize) < count)
+            && self.has_none(rms)
     }
 
-    /// Whether it may be committed without a vote: it has one branch, or none.
-    pub fn may_commit(&self) -> bool {
-        self.may_roll_back() && self.parts.len() <= 1 && !self.is_asked()
+    /// Whether there is no branch at any of these resource managers.
+    fn has_none(&self, rms: &[u32]) -> bool
+        ensures { result ≡ list_all (is_new_at self.now.parts.items) rms.now }
+    {
+        rms.iter().all(|rm| !self.has(*rm))
+    }
+
+    /// Whether it may be committed without a vote: it has one branch, at which work goes on, or none.
+    pub fn may_commit(&self) -> bool
+        ensures stands { result ≡ true → self.now.standing ≡ Standings.Open }
+        ensures works { result ≡ true → are_working self.now.parts.items ≡ true }
+    {
+        self.may_roll_back() && self.parts.len() <= 1 && self.is_working()
+    }
+
+    /// Whether work goes on at each of its branches.
+    fn is_working(&self) -> bool
+        ensures { result ≡ are_working self.now.parts.items }
+    {
+        self.parts.iter().all(|part| part.is_working())
     }
 
     /// Whether calls were told that are yet to be answered.
@@ -272,12 +283,17 @@ impl Transaction {
     }
 
     /// Whether there is a branch at the resource manager.
-    fn has(&self, rm: u32) -> bool {
+    fn has(&self, rm: u32) -> bool
+        ensures { result ≡ list_any (is_at rm) self.now.parts.items }
+    {
         self.parts.iter().any(|part| part.rm == rm)
     }
 
     /// Branches began at these resource managers. Once there are two, the calls of the first phase wait.
     pub fn join(&mut self, rms: &[u32], plan: &mut Plan) -> Result<(), AllocError>
+        ensures steps { 0 < length rms.now →
+            list_all (is_new_at self.old.parts.items) rms.now ≡ true →
+            IfOk result (λ _. Steps 1 self.old self.new) }
         ensures more { IfOk result (λ _.
             AsksNoLess plan.old.requests.items plan.new.requests.items) }
         ensures rests { IfOk result (λ _. KeepsResting plan.old.requests.items
@@ -297,6 +313,7 @@ impl Transaction {
 
     /// A branch began at the resource manager.
     fn add(&mut self, rm: u32, plan: &mut Plan) -> Result<(), AllocError>
+        ensures steps { IfOk result (λ _. Steps 1 self.old self.new) }
         ensures more { IfOk result (λ _.
             AsksNoLess plan.old.requests.items plan.new.requests.items) }
         ensures rests { IfOk result (λ _. KeepsResting plan.old.requests.items
@@ -329,6 +346,7 @@ impl Transaction {
 
     /// The calls of the first phase wait, of each branch of which they don't yet.
     fn prepare(&mut self, plan: &mut Plan) -> Result<(), AllocError>
+        ensures steps { IfOk result (λ _. Steps 0 self.old self.new) }
         ensures more { IfOk result (λ _.
             AsksNoLess plan.old.requests.items plan.new.requests.items) }
         ensures rests { IfOk result (λ _. KeepsResting plan.old.requests.items
@@ -342,18 +360,22 @@ impl Transaction {
 
     /// The work is over, and is to be committed: the one branch in one phase.
     pub fn finish(&mut self, plan: &mut Plan) -> Result<(), AllocError>
+        ensures steps { self.old.standing ≡ Standings.Open →
+            are_working self.old.parts.items ≡ true → IfOk result (λ _. Steps 1 self.old self.new) }
         ensures more { IfOk result (λ _.
             AsksNoLess plan.old.requests.items plan.new.requests.items) }
         ensures rests { IfOk result (λ _. KeepsResting plan.old.requests.items
             plan.new.requests.items self.old self.new) }
     {
         self.has_moved = true;
-        if self.parts.is_empty() {
-            self.standing = Standing::Ready;
-        }
         let gtrid = self.gtrid;
         let thread = self.thread;
-        commit_each_at_once(self.parts.as_mut_slice(), gtrid, thread, plan)?;
+        let Some(part) = self.parts.get_mut(0) else {
+            self.standing = Standing::Ready;
+            return Ok(());
+        };
+        let rm = part.rm;
+        part.commit_at_once(Branch { gtrid, thread, rm }, plan)?;
         Ok(())
     }
 
@@ -364,6 +386,8 @@ impl Transaction {
         plan: &mut Plan,
     ) -> Result<(), AllocError>
         ensures stands { IfOk result (λ _. self.new.standing ≡ Standings.RolledBack why) }
+        ensures steps { IfOk result (λ _.
+            Steps (1 - steps_to self.old.standing) self.old self.new) }
         ensures more { IfOk result (λ _.
             AsksNoLess plan.old.requests.items plan.new.requests.items) }
         ensures rests { IfOk result (λ _. KeepsResting plan.old.requests.items
@@ -382,6 +406,7 @@ impl Transaction {
     pub fn commit(&mut self, plan: &mut Plan) -> Result<(), AllocError>
         requires ready { self.old.standing ≡ Standings.Ready }
         requires decided { CommitIsAsked plan.old.requests.items self.old.gtrid }
+        ensures steps { IfOk result (λ _. Steps 0 self.old self.new) }
         ensures kept { IfOk result (λ _.
             AsksNoLess plan.old.requests.items plan.new.requests.items) }
         ensures rests { IfOk result (λ _. KeepsResting plan.old.requests.items
@@ -397,7 +422,10 @@ impl Transaction {
     }
 
     /// Whether these are answers to the calls that were told, each to the one at its place.
-    pub fn takes(&self, reports: &[Report]) -> bool {
+    pub fn takes(&self, reports: &[Report]) -> bool
+        ensures calls { result ≡ true → has_calls self.now ≡ true }
+        ensures some { result ≡ true → 0 < length reports.now }
+    {
         let mut at = 0usize;
         for part in self.parts.as_slice() {
             if part.place.is_asked() {
@@ -419,6 +447,8 @@ impl Transaction {
     ) -> Result<(), AllocError>
         ensures votes { IfOk result (λ _. self.new.standing ≡ Standings.Ready →
             list_all is_for reports.now ≡ true) }
+        ensures steps { has_calls self.old ≡ true → 0 < length reports.now →
+            IfOk result (λ _. Steps 1 self.old self.new) }
         ensures more { IfOk result (λ _.
             AsksNoLess plan.old.requests.items plan.new.requests.items) }
         ensures rests { IfOk result (λ _. KeepsResting plan.old.requests.items
@@ -447,6 +477,8 @@ impl Transaction {
         plan: &mut Plan,
         debts: &mut Vec<Debt>,
     ) -> Result<Option<(RbCode, u32)>, AllocError>
+        ensures steps { has_calls self.old ≡ true → 0 < length reports.now →
+            IfOk result (λ _. Steps 1 self.old self.new) }
         ensures more { IfOk result (λ _.
             AsksNoLess plan.old.requests.items plan.new.requests.items) }
         ensures rests { IfOk result (λ _. KeepsResting plan.old.requests.items
@@ -470,7 +502,9 @@ impl Transaction {
     }
 
     /// Whether the branch at this place was told a call.
-    fn is_asked_at(&self, at: usize) -> bool {
+    fn is_asked_at(&self, at: usize) -> bool
+        ensures { result ≡ is_asked_in self.now.parts.items at }
+    {
         match self.parts.get(at) {
             Some(part) => part.place.is_asked(),
             None => false,
@@ -485,6 +519,8 @@ impl Transaction {
         plan: &mut Plan,
         debts: &mut Vec<Debt>,
     ) -> Result<Option<(RbCode, u32)>, AllocError>
+        ensures steps { IfOk result (λ _. Steps (if is_asked_in self.old.parts.items at
+            then 1 else 0) self.old self.new) }
         ensures more { IfOk result (λ _.
             AsksNoLess plan.old.requests.items plan.new.requests.items) }
         ensures rests { IfOk result (λ _. KeepsResting plan.old.requests.items

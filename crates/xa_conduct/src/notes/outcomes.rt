@@ -4,7 +4,11 @@ ghost use Rattle.std.specs.Prelude.{◌≡◌, ◌≤◌, ◌++◌, ◌∷◌, [
 ghost use Rattle.std.specs.List.{list_any};
 ghost use Rattle.xa_conduct.specs.Backing.{KeepResting, KeepsRest, Rests};
 ghost use Rattle.xa_conduct.specs.Decided.{AsksNoLess, is_same};
+ghost use Rattle.xa_conduct.specs.Progress.{AllStep};
 ghost use Rattle.xa_conduct.specs.Told.{Adds, AreReplies, IsBehindWord, IsReply};
+ghost use Rattle.xa_conduct.specs.Turns.{AllPass, IsSaid, Passes, SaysAll};
+ghost use Rattle.xa_conduct.specs.declared.notes.Reply.{Reply};
+ghost use Rattle.xa_conduct.specs.declared.notes.Reply.TheVariants as Replies;
 ghost use Rattle.xa_requests.specs.declared.request.Request.{Request};
 
 use super::{Notes, Reply, add_over};
@@ -62,6 +66,8 @@ impl Notes {
     /// All transactions that have their votes are decided by one request, and their branches are to be committed.
     pub fn decide(&mut self, replies: &[Reply], plan: &mut Plan) -> Result<(), Memory>
         requires { length replies.now ≤ 1024 }
+        ensures steps { IfOk result (λ _. AllStep [] self.old.transactions.items
+            self.new.transactions.items) }
         ensures more { IfOk result (λ _.
             AsksNoLess plan.old.requests.items plan.new.requests.items) }
         ensures rests { IfOk result (λ _. KeepResting plan.old.requests.items
@@ -137,6 +143,9 @@ impl Notes {
     pub fn reply(&mut self, replies: &[Reply], nexts: &[Option<Gtrid>]) -> Result<String, Memory>
         ensures rests { IfOk result (λ _. KeepsRest self.old.transactions.items
             self.new.transactions.items) }
+        ensures passes { IfOk result (λ _. AllPass self.old.transactions.items
+            self.new.transactions.items) }
+        ensures said { IfOk result (λ text. SaysAll replies.now (string_bytes text)) }
         ensures tells { IfOk result (λ text. (asked : (Request → Bool) → Bool) →
             All (Rests asked) self.old.transactions.items →
             AreReplies asked (string_bytes text)) }
@@ -165,6 +174,10 @@ impl Notes {
     ) -> Result<(), Memory>
         ensures rests { IfOk result (λ _. KeepsRest self.old.transactions.items
             self.new.transactions.items) }
+        ensures passes { IfOk result (λ _. AllPass self.old.transactions.items
+            self.new.transactions.items) }
+        ensures said { IfOk result (λ _. Adds (IsSaid reply)
+            (string_bytes text.old) (string_bytes text.new)) }
         ensures tells { IfOk result (λ _. (asked : (Request → Bool) → Bool) →
             All (Rests asked) self.old.transactions.items →
             Adds (IsReply asked) (string_bytes text.old) (string_bytes text.new)) }
@@ -199,6 +212,10 @@ impl Notes {
     ) -> Result<(), Memory>
         ensures rests { IfOk result (λ _. KeepsRest self.old.transactions.items
             self.new.transactions.items) }
+        ensures passes { IfOk result (λ _. AllPass self.old.transactions.items
+            self.new.transactions.items) }
+        ensures said { IfOk result (λ _. (reply : Reply) → reply ≡ Replies.Thread thread →
+            Adds (IsSaid reply) (string_bytes text.old) (string_bytes text.new)) }
         ensures tells { IfOk result (λ _. (asked : (Request → Bool) → Bool) →
             All (Rests asked) self.old.transactions.items →
             Adds (IsReply asked) (string_bytes text.old) (string_bytes text.new)) }
@@ -228,7 +245,7 @@ fn add_semicolon(text: &mut String, is_first: bool) -> Result<(), Memory>
     Ok(())
 }
 
-/// Adds the name of the transaction that begins behind this one, if one does.
+/// Adds the name of the transaction that begins behind this one, if this one is over.
 fn add_begun(
     text: &mut String,
     alloc: Global,
@@ -237,9 +254,13 @@ fn add_begun(
 ) -> Result<(), Memory>
     ensures rests { IfOk result (λ _. (asked : (Request → Bool) → Bool) →
         Rests asked transaction.old → Rests asked transaction.new) }
+    ensures passes { IfOk result (λ _. Passes transaction.old transaction.new) }
     ensures adds { IfOk result (λ _.
         Adds IsBehindWord (string_bytes text.old) (string_bytes text.new)) }
 {
+    if !transaction.is_over() {
+        return Ok(());
+    }
     let Some(gtrid) = next else {
         return Ok(());
     };

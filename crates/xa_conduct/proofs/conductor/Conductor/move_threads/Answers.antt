@@ -1,8 +1,11 @@
-use Rattle.std.proofs.Common.{List, ap, rules, subst, sym}
+use Rattle.std.proofs.Common.{List, ap, inl, inr, rules, subst, sym}
 use Rattle.std.specs.Prelude.{All, string_bytes}
 use Rattle.xa_requests.specs.declared.request.Request.{Request}
 use Rattle.xa_conduct.proofs.ConductLemmas.{moves_told, ok_all, rest_stays, stops_told}
+use Rattle.xa_conduct.proofs.TurnLemmas.{line_steps}
 use Rattle.xa_conduct.specs.Backing.{Rests, was_asked}
+use Rattle.xa_conduct.specs.Turns.{SaysAll}
+use Rattle.xa_conduct.specs.declared.notes.Reply.{Reply}
 use Rattle.xa_conduct.proofs.conductor.Conductor.move_threads.Goals as goal
 
 pub returns-clause-rests : goal.returns-clause-rests
@@ -28,3 +31,19 @@ returns-then-not-ask_all-clause-rests g c =
     (λ text.
     stops_told g.L.DecisionLog.moment c.args.self.now c.stop.new.self (string_bytes text) c.stop.ensures.stopped
     (λ done first acts. c.stop.ensures.acts done first (c.ask_all.ensures.acts done first acts)))
+
+pub returns-clause-steps : goal.returns-clause-steps
+returns-clause-steps g c = inl (record {
+  told = c.in_ok-replies.replies.items;
+  between = c.begin_next.new.self.transactions.items;
+  steps =
+      line_steps c.in_ok-replies.replies.items c.args.self.now.notes.transactions.items c.take_all.new.self.transactions.items
+      c.decide.new.self.transactions.items c.finish.new.self.transactions.items c.begin_next.new.self.transactions.items
+      c.in_ok-replies.ensures.steps c.in_ok-decide.ensures.steps (ap (λ v. v.items) c.finish.ensures.same)
+      (ap (λ v. v.items) c.begin_next.ensures.same);
+  passes = c.in_ok-text.ensures.passes;
+  said = subst (λ (rs : List Reply). SaysAll rs (string_bytes c.in_ok-text.text)) c.as_slice-4.ensures.value c.in_ok-text.ensures.said;
+})
+
+pub returns-then-not-ask_all-clause-steps : goal.returns-then-not-ask_all-clause-steps
+returns-then-not-ask_all-clause-steps g c = ok_all c.stop.result _ (λ text. inr (inr c.stop.ensures.stopped))

@@ -3,6 +3,7 @@ use Rattle.std.specs.Prelude.{All, string_bytes}
 use Rattle.xa_requests.specs.declared.request.Request.{Request}
 use Rattle.xa_conduct.proofs.BackingLemmas.{rest_begun}
 use Rattle.xa_conduct.proofs.ToldLemmas.{told_thread}
+use Rattle.xa_conduct.proofs.TurnLemmas.{all_pass_set, passes_moved, said_thread}
 use Rattle.xa_conduct.specs.Backing.{Rests}
 use Rattle.xa_conduct.proofs.notes.Notes.add_thread.Goals as goal
 
@@ -20,3 +21,14 @@ returns-clause-tells c = λ asked rest.
     subst (Rests asked) (sym c.in-Some.ensures.value) (rest c.args.thread t (omega (arith, c.in-Some.ensures.variant.0 refl))) in
     told_thread asked (record t { has_moved = false }) (string_bytes c.args.text.now) (string_bytes c.add_told.new.text)
     (string_bytes c.add_begun.new.text) here c.in_ok-add_told.ensures c.in_ok-add_begun.ensures.adds
+
+pub returns-clause-passes : goal.returns-clause-passes
+returns-clause-passes c =
+    all_pass_set c.args.self.now.transactions.items c.args.thread c.in-Some.transaction.now c.add_begun.new.transaction
+    (omega (arith, c.in-Some.ensures.variant.0 refl)) c.in-Some.ensures.value
+    (passes_moved c.in-Some.transaction.now c.add_begun.new.transaction false c.in_ok-add_begun.ensures.passes)
+
+pub returns-clause-said : goal.returns-clause-said
+returns-clause-said c = λ reply is.
+    said_thread c.args.thread reply (string_bytes c.args.text.now) (string_bytes c.add_told.new.text) (string_bytes c.add_begun.new.text) is
+    c.in_ok-add_told.ensures c.in_ok-add_begun.ensures.adds

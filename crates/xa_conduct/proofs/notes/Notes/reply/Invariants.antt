@@ -1,13 +1,17 @@
-use Rattle.std.proofs.Common.{Bool}
+use Rattle.std.proofs.Common.{Bool, take}
 use Rattle.std.specs.Prelude.{All, string_bytes}
 use Rattle.xa_requests.specs.declared.request.Request.{Request}
 use Rattle.xa_conduct.proofs.ToldLemmas.{SoFar}
+use Rattle.xa_conduct.proofs.TurnLemmas.{SaidSoFar}
 use Rattle.xa_conduct.specs.Backing.{KeepsRest, Rests}
+use Rattle.xa_conduct.specs.Turns.{AllPass}
 use Rattle.xa_conduct.proofs.notes.Notes.reply.Given as goal
 
 -- so far each reply tells of a transaction what rested at the start, and what is noted then rests on the same
 abbrev pub invariant-loop-reply : goal.invariant-loop-reply
 invariant-loop-reply l = record {
   rests : KeepsRest l.fn.self.transactions.items l.self.transactions.items;
+  passes : AllPass l.fn.self.transactions.items l.self.transactions.items;
+  said : SaidSoFar (take l.reply-index l.replies) l.is_first (string_bytes l.text);
   tells : (asked : (Request → Bool) → Bool) → All (Rests asked) l.fn.self.transactions.items → SoFar asked l.is_first (string_bytes l.text);
 }

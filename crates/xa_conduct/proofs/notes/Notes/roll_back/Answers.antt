@@ -1,5 +1,8 @@
-use Rattle.std.proofs.Common.{arith, refl}
+use Rattle.std.proofs.Common.{◌-◌, ℕ, ap, arith, refl, subst}
 use Rattle.xa_conduct.proofs.BackingLemmas.{rest_moved}
+use Rattle.xa_conduct.proofs.ProgressLemmas.{all_step_one}
+use Rattle.xa_conduct.specs.Progress.{Steps, steps_to}
+use Rattle.xa_conduct.specs.declared.transaction.Standing.{Standing}
 use Rattle.xa_conduct.proofs.notes.Notes.roll_back.Goals as goal
 
 pub returns-clause-rests : goal.returns-clause-rests
@@ -7,3 +10,10 @@ returns-clause-rests c = λ past rest.
     rest_moved past c.args.plan.now.requests.items c.roll_back.new.plan.requests.items c.args.self.now.transactions.items c.args.thread
     c.in-Some.transaction.now c.roll_back.new.self (omega (arith, c.in-Some.ensures.variant.0 refl)) c.in-Some.ensures.value
     c.in_ok-roll_back-in-Some.ensures.more c.in_ok-roll_back-in-Some.ensures.rests rest
+
+pub returns-clause-steps : goal.returns-clause-steps
+returns-clause-steps c =
+    all_step_one c.args.self.now.transactions.items c.args.thread c.in-Some.transaction.now c.roll_back.new.self
+    (omega (arith, c.in-Some.ensures.variant.0 refl)) c.in-Some.ensures.value
+    (subst (λ (n : ℕ). Steps n c.in-Some.transaction.now c.roll_back.new.self)
+    (ap (λ (s : Standing). 1 - steps_to s) (c.may_roll_back.ensures c.if-may_roll_back.true)) c.in_ok-roll_back-in-Some.ensures.steps)

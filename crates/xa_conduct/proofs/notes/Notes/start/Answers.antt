@@ -1,9 +1,12 @@
-use Rattle.std.proofs.Common.{Bool, ap, subst, sym}
+use Rattle.std.proofs.Common.{Bool, [], ◌∷◌, ap, subst, sym}
 use Rattle.std.specs.Prelude.{All}
 use Rattle.xa_requests.specs.declared.request.Request.{Request}
 use Rattle.xa_conduct.proofs.BackingLemmas.{rest_begun, rest_more_asked}
 use Rattle.xa_conduct.specs.Backing.{Rests, was_asked}
+use Rattle.xa_conduct.specs.Progress.{AllStep}
 use Rattle.xa_conduct.specs.declared.notes.Notes.{Notes}
+use Rattle.xa_conduct.specs.declared.notes.Reply.TheVariants.{Started}
+use Rattle.xa_conduct.proofs.ProgressLemmas.{all_step_begun, all_step_started}
 use Rattle.xa_conduct.proofs.notes.Notes.start.Goals as goal
 use Rattle.xa_conduct.proofs.notes.Notes.start.Goals.{in-Some-get_mut, in_default-get_mut}
 
@@ -16,6 +19,17 @@ returns-clause-rests c = λ past rest.
     subst (All (Rests asked)) (sym (ap (λ v. v.items) c.next-gtrid.ensures))
     (rest_more_asked past c.args.plan.now.requests.items c.begin-2.new.self.requests.items c.args.self.now.transactions.items c.in_ok-begin.ensures rest) in
     elim c.match-get_mut.branch [
-      | in-Some-get_mut w ↦ subst P (sym w.self-is) (rest_begun asked before c.args.thread _ (w.begin.ensures asked) here)
+      | in-Some-get_mut w ↦ subst P (sym w.self-is) (rest_begun asked before c.args.thread _ (w.begin.ensures.rests asked) here)
       | in_default-get_mut w ↦ subst P (sym w.self-is) here
+    ]
+
+pub returns-clause-steps : goal.returns-clause-steps
+returns-clause-steps c =
+    let ts = c.args.self.now.transactions.items in
+    let before = c.next-gtrid.new.self.transactions.items in
+    let same = ap (λ v. v.items) c.next-gtrid.ensures in
+    let P : Notes → Type 0 = λ n. AllStep (Started c.args.thread c.next-gtrid.result ∷ []) ts n.transactions.items in
+    elim c.match-get_mut.branch [
+      | in-Some-get_mut w ↦ subst P (sym w.self-is) (all_step_begun ts before c.args.thread c.next-gtrid.result _ same)
+      | in_default-get_mut w ↦ subst P (sym w.self-is) (all_step_started ts before c.args.thread c.next-gtrid.result same)
     ]

@@ -1,12 +1,14 @@
 use Rattle.std.proofs.Common.{◌≡◌, length}
 use Rattle.xa_conduct.specs.Backing.{KeepResting}
 use Rattle.xa_conduct.specs.Decided.{AsksNoLess}
+use Rattle.xa_conduct.specs.Progress.{AllStep}
 use Rattle.xa_conduct.proofs.notes.Notes.take_all.Given as goal
 
--- so many moves were taken, and what is noted rests on what was asked for, as it did
+-- so many moves were taken, each by a step, and what is noted rests on what was asked for, as it did
 abbrev pub invariant-loop-asked : goal.invariant-loop-asked
 invariant-loop-asked l = record {
   count : length l.replies.items ≡ l.asked-index;
+  steps : AllStep l.replies.items l.fn.self.transactions.items l.self.transactions.items;
   more : AsksNoLess l.fn.plan.requests.items l.plan.requests.items;
   rests : KeepResting l.fn.plan.requests.items l.plan.requests.items l.fn.self.transactions.items l.self.transactions.items;
 }

@@ -1,5 +1,6 @@
 use Rattle.std.proofs.Common.{arith, refl}
 use Rattle.xa_conduct.proofs.BackingLemmas.{rest_moved}
+use Rattle.xa_conduct.proofs.ProgressLemmas.{all_step_one}
 use Rattle.xa_conduct.proofs.notes.Notes.tell.Goals as goal
 
 pub returns-clause-rests : goal.returns-clause-rests
@@ -7,3 +8,9 @@ returns-clause-rests c = λ past rest.
     rest_moved past c.args.plan.now.requests.items c.hear.new.plan.requests.items c.args.self.now.transactions.items c.args.thread
     c.in-Some.transaction.now c.hear.new.self (omega (arith, c.in-Some.ensures.variant.0 refl)) c.in-Some.ensures.value c.in_ok-hear.ensures.more
     c.in_ok-hear.ensures.rests rest
+
+pub returns-clause-steps : goal.returns-clause-steps
+returns-clause-steps c =
+    all_step_one c.args.self.now.transactions.items c.args.thread c.in-Some.transaction.now c.hear.new.self
+    (omega (arith, c.in-Some.ensures.variant.0 refl)) c.in-Some.ensures.value
+    (c.in_ok-hear.ensures.steps (c.takes.ensures.calls c.if-not-takes.false) (c.takes.ensures.some c.if-not-takes.false))

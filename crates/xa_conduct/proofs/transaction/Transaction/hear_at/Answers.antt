@@ -1,5 +1,6 @@
-use Rattle.std.proofs.Common.{◌<◌, ap, arith, length, refl}
+use Rattle.std.proofs.Common.{◌<◌, ◌∙◌, ap, arith, length, refl}
 use Rattle.xa_conduct.proofs.BackingLemmas.{rest_as, rest_heard}
+use Rattle.xa_conduct.proofs.ProgressLemmas.{steps_heard}
 use Rattle.xa_conduct.specs.Backing.{standing_after, was_asked}
 use Rattle.xa_conduct.proofs.transaction.Transaction.hear_at.Goals as goal
 
@@ -16,3 +17,11 @@ returns-clause-rests c = λ past rests.
     c.note.ensures.gtrid c.note.ensures.thread c.note.ensures.standing (ap (λ v. v.items) c.note.ensures.parts)
     (rest_heard past old new s.gtrid s.thread s.standing _ s.parts.items _ c.args.at part c.hear.new.self c.args.report c.in_ok-heard.heard within
     c.in-Some.ensures.value refl heard.same heard.more heard.backed heard.tells heard.heard refl rests)
+
+pub returns-clause-steps : goal.returns-clause-steps
+returns-clause-steps c =
+    let s = c.args.self.now in
+    let part = c.in-Some.part.now in
+    let within : c.args.at < length s.parts.items = omega (arith, c.in-Some.ensures.variant.0 refl) in
+    steps_heard s c.note.new.self c.args.at part c.hear.new.self c.args.report c.in_ok-heard.heard part.rm within c.in-Some.ensures.value
+    (ap (λ v. v.items) c.note.ensures.parts) c.in_ok-heard.ensures.place c.note.ensures.gtrid c.note.ensures.standing
