@@ -1,4 +1,4 @@
--- A log that is put in where one was taken out.
+-- A log that is put in after one was taken out.
 use Rattle.std.proofs.Common.{◌≡◌, ◌≢◌, ◌<◌, ◌≤◌, ◌+◌, ◌++◌, ◌⊎◌, inl, inr, ℕ, Bool, true, false, List, [], ◌∷◌, arith, refl, sym, ap, subst, ◌∙◌}
 use Rattle.std.specs.Prelude.{length, Option, Some, None, IsSome, IsSomeAnd, IfErr, Result, Ok, Err}
 use Rattle.std.proofs.lemmas.Bool.{cases_lt, true≢false}
@@ -121,7 +121,7 @@ module _ {R L : Type 0} (look : R → Look) (logs : DecisionLog.Ghosts L) where
   abbrev sees_of : Observes R L
   sees_of = observes look logs.moment
 
-  -- a restart over what a crash left isn't refused for the log's sake where that counted no failure
+  -- a restart over what a crash left isn't refused for the log's sake if that counted no failure
   pub not_blamed : (old given new : SystemView R L) (left : L) (c : Content) (step : Step Xid) (reply : Reply Xid)
       → given ≡ record old { handed = left; log = given.log } → TakesIn logs left (log_held given.log)
       → (logs.moment left).is_in_order → (logs.moment left).content ≡ Some c → IsBeforeNext (trace_in sees_of.look old) c
@@ -155,7 +155,8 @@ module _ {R L : Type 0} (look : R → Look) (logs : DecisionLog.Ghosts L) where
           none_failed given.events new.events step reply (slot_moment logs.moment given.log).fault_count (slot_moment logs.moment new.log).fault_count
           (adds more) (faults in_order honest may) (count ∙ sym same_count) (subst (λ n. n < greatest_count) (sym same_count) few) fails
 
-  -- where a restart may follow over what a crash may leave of a log, it may so once that is taken out
+  -- if a restart may follow over what a crash may leave of a log, it may so once that is taken
+  -- out
   pub near_taken : (old taken : SystemView R L) (log : L) → taken ≡ record old { log = taken.log } → Some log ≡ log_held old.log → log_held taken.log ≡ None
       → last_out taken.log ≡ log → MayRestartAfterCrash sees_of old → MayRestartAfterCrash sees_of taken
   near_taken old taken log others here gone was may c left =
@@ -169,7 +170,7 @@ module _ {R L : Type 0} (look : R → Look) (logs : DecisionLog.Ghosts L) where
       → (logs.moment log).is_in_order
   order_taken old log holds order here = subst (order_in (λ l. (logs.moment l).is_in_order)) (sym here) (holds.log.order order)
 
-  -- the manager was down where a log came out
+  -- the manager was down when a log came out
   pub down_taken : (old taken : SystemView R L) (log : L) (out : Option L) → (up (trace_in sees_of.look old) ≡ true → (out ≡ None) × (taken ≡ old))
       → Some log ≡ out
       → up (trace_in sees_of.look old) ≡ false
@@ -179,7 +180,7 @@ module _ {R L : Type 0} (look : R → Look) (logs : DecisionLog.Ghosts L) where
       by true is = absurd (let no : Some log ≡ None = some ∙ (is_up is).0 in cc)
       by false is = refl
 
-  -- the start stays where a log is put in
+  -- the start stays if a log is put in
   pub same_start : (old given : SystemView R L) (left : L) → given ≡ record old { handed = left; log = given.log }
       → origin_in sees_of.look given ≡ origin_in sees_of.look old
   same_start old given left others = ap (origin_in sees_of.look) others
@@ -212,7 +213,7 @@ module _ {R L : Type 0} (look : R → Look) (logs : DecisionLog.Ghosts L) where
       → (slot_moment logs.moment old.log).is_honest
   held_honest old log here honest = subst (honest_in (λ l. (logs.moment l).is_honest) (last_out old.log)) here honest
 
-  -- what is found of a log that came out, where it is honest, is what a crash left of that
+  -- what is found of a log that came out, if it is honest, is what a crash left of that
   pub found_left : (old taken : SystemView R L) (log left : L) (out : Option L) → HoldsItsTrace sees_of old
       → (up (trace_in sees_of.look old) ≡ true → (out ≡ None) × (taken ≡ old)) → (up (trace_in sees_of.look old) ≡ false → out ≡ log_held old.log)
       → (up (trace_in sees_of.look old) ≡ false → log_held taken.log ≡ None) → ((l : L) → out ≡ Some l → last_out taken.log ≡ l)

@@ -169,7 +169,8 @@ module _ {L M : Type 0} (moment : L → Moment) (later : M → Moment) (begin : 
   begun : HaveLeft name (λ r x. Unstarted) nothing []
   begun = begin name nothing none_logged
 
-  -- a log that was opened over files with this content, and that was honest to the end of its session, holds it
+  -- a log that was opened over files with this content, and that was honest to the end of its
+  -- session, holds it
   holds_opened : {N : Type 0} (at : N → Moment) (image : Image) (text written : List ℕ) (left : N) (p : IsProcess at image name text written left)
       → (at left).is_honest → (c : Content) → IsHeldInFiles c image → HoldsLeft at c p.opened
   holds_opened at image text written left p honest c holds = record {

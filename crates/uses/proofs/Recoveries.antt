@@ -1,4 +1,4 @@
--- A whole recovery behind a list of events.
+-- A whole recovery after a list of events.
 use Rattle.std.proofs.Common.{◌≡◌, ◌≤◌, ◌++◌, ◌∙◌, ℕ, List, [], ◌∷◌, length, map, sym, ap, subst, true}
 use Rattle.xa_base.specs.Branch.{IsBranch}
 use Rattle.xa_base.specs.declared.reply.Event.{Event}
@@ -17,7 +17,7 @@ behind : (tr : Trace) (xs ys : List (Step × Reply)) → AllAllowed tr (xs ++ ys
 behind tr [] ys all = all
 behind tr (x ∷ xs) ys all = behind (Then tr (happened x.0 x.1)) xs ys all.1
 
--- a recovery behind the events of a history completes
+-- a recovery after the events of a history completes
 abbrev pub Completes : Trace → (r count : ℕ) → List Name → List (Call × Answer) → Type 0
 Completes tr r count names answers = MayComplete tr r count answers → AllAllowed tr (recovery r count names answers)
     → IsRecovered (with_steps tr (recovery r count names answers)) r

@@ -107,7 +107,7 @@ votes_fit (l ∷ ls) (r ∷ rs) (g ∷ gs) are =
     let all : length (l ∷ ls) ≡ length (r ∷ rs) = omega (arith, rest) in
     all
 
--- behind a decision to commit, the log has the rows
+-- after a decision to commit, the log has the rows
 module _ {L : Type 0} (moment : L → Moment) (law : VotedCommitsAreLogged moment) (threads rms : ℕ) (handed : L) (old new : Server L)
     (lines : List (List ℕ)) (replies : List Response) (starts : StartsOver moment threads rms handed old) (have : HaveReplies moment lines replies old new)
     (order : (moment handed).is_in_order) (honest : (moment (log_in new.session.manager)).is_honest) where

@@ -5,8 +5,9 @@ use Rattle.xa_model.specs.Facts.{up}
 use Rattle.xa_system.specs.SystemView.{MayRestartAfterCrash, Observes, SystemView, trace_in}
 use Rattle.xa_tm.specs.Slots.{log_held}
 
--- The manager is down, and its log is out: it was in order as it was handed in, and honest as it came out, and a restart may
--- follow over each content that a crash may leave of it. This log is in order, and has such a content.
+-- The manager is down, and its log is out: it was in order as it was handed in, and honest as it
+-- came out, and a restart may follow over each content that a crash may leave of it. This log is in
+-- order, and has such a content.
 pub record IsLeftByCrash {R L : Type 0} (see : Observes R L) (s : SystemView R L) (left : L) (c : Content) : Type 0 where
   pub down : up (trace_in see.look s) ≡ false
   pub out : log_held s.log ≡ None

@@ -8,8 +8,8 @@ use Rattle.xa_log.specs.Content.{Content, nothing, with_bump}
 use Rattle.xa_workers.specs.Rows.{HasRows, rows_of_jobs}
 use Rattle.xa_workers.specs.declared.jobs.Jobs.{Jobs}
 
--- The text is a jobs file, what was printed are the lines of ends that its jobs may have, and the log is of the first
--- incarnation and has the rows of jobs that ended so, and nothing else.
+-- The text is a jobs file, what was printed are the lines of ends that its jobs may have, and the
+-- log is of the first incarnation and has the rows of jobs that ended so, and nothing else.
 pub record IsFirstRun (text printed : List ℕ) (log : Option Content) : Type 0 where
   pub jobs : Jobs
   pub ends : List Outcome

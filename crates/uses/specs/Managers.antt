@@ -26,8 +26,8 @@ use Rattle.xa_monitor.specs.Standings.{Comes}
 use Rattle.uses.specs.Paths.{IsSessionOver, LeavesIt, WereReplied}
 use Rattle.xa_tm.specs.Begins.{BeginsWith}
 
--- A driver of so many threads and resource managers that writes this text was served by a coordinator of this name that started over some
--- log, and this was written.
+-- A driver of so many threads and resource managers that writes this text was served by a
+-- coordinator of this name that started over some log, and this was written.
 pub record IsServedFrom {L : Type 0} (moment : L → Moment) (name : List ℕ) (threads rms : ℕ) (text written : List ℕ) : Type 0 where
   pub first : Server L
   pub last : Server L
@@ -36,9 +36,10 @@ pub record IsServedFrom {L : Type 0} (moment : L → Moment) (name : List ℕ) (
   pub old : (o : Origin) → BeginsWith threads rms first.session.manager o → HasOnlyOlderRows o
   pub serves : ServesUnder moment name (greeting_of first) (Some text) (Some unread) (Some []) (Some written) first last
 
--- The driver was told the first line of a session, and a line for each line of what was read of its text: up to `quit`, or all. What
--- these tell, as a manager of this name means them and up to where the log failed, has a right history; and wherever the branches then
--- stand at databases that obey the table, those of a transaction of this session are alike.
+-- The driver was told the first line of a session, and a line for each line of what was read of its
+-- text: up to `quit`, or all. What these tell, as a manager of this name means them and until the
+-- log failed, has a right history; and wherever the branches then stand at databases that obey the
+-- table, those of a transaction of this session are alike.
 pub record IsServedUnder (name : List ℕ) (threads rms : ℕ) (text written : List ℕ) : Type 0 where
   pub read : List ℕ
   pub unread : List ℕ
@@ -57,12 +58,13 @@ pub record IsServedUnder (name : List ℕ) (threads rms : ℕ) (text written : L
   pub explained : IsExplained start seen
   pub agree : (f : Branch → Standing) → StandSo start seen f → OwnStandAlike start.incarnation f
 
--- none of the first replies, of a manager of the name m, tells a call on an identifier that one of the others, of n, tells a call on
+-- none of the first replies, of a manager of the name m, tells a call on an identifier that one of
+-- the others, of n, tells a call on
 abbrev pub TellApart : (m n : List ℕ) → (ps qs : List Response) → Type 0
 TellApart m n ps qs = AllByRecursion (λ p. AllByRecursion (λ q. (x : Xid) → told_xid m p ≡ Some x → told_xid n q ≡ Some x → ⊥) qs) ps
 
--- Two drivers were served so, by managers of these names. If the names differ, and neither log failed, no call that one driver was told is on
--- an identifier of a call that the other was told.
+-- Two drivers were served so, by managers of these names. If the names differ, and neither log
+-- failed, no call that one driver was told is on an identifier of a call that the other was told.
 pub record AreServedApart (m n : List ℕ) (threads rms : ℕ) (first second first_written second_written : List ℕ) : Type 0 where
   pub one : IsServedUnder m threads rms first first_written
   pub two : IsServedUnder n threads rms second second_written
@@ -76,8 +78,9 @@ pub record AreServedApart (m n : List ℕ) (threads rms : ℕ) (first second fir
 abbrev pub HoldsNothing : Moment → Type 0
 HoldsNothing m = m.is_in_order × IsSomeAnd m.content IsEmptyLog
 
--- From their starts, these lines and their replies tell what is seen of each manager. Wherever all identifiers then stand at databases that
--- obey the table, where no branch of either was at first: the branches of each manager are alike, and no identifier is of a branch of both.
+-- From their starts, these lines and their replies tell what is seen of each manager. Wherever all
+-- identifiers then stand at databases that obey the table, if no branch of either was there at
+-- first: the branches of each manager are alike, and no identifier is of a branch of both.
 pub record AgreeBeside (m n : List ℕ) (one_lines two_lines : List (List ℕ)) (one_replies two_replies : List Response) : Type 0 where
   pub one : Origin
   pub two : Origin
@@ -90,7 +93,8 @@ pub record AgreeBeside (m n : List ℕ) (one_lines two_lines : List (List ℕ)) 
       → MayAllStand one one_seen (λ b. Comes one_seen b Unstarted) one_done one_cut (under m F)
       → MayAllStand two two_seen (λ b. Comes two_seen b Unstarted) two_done two_cut (under n F) → BothAgree m n F
 
--- Two drivers were served by managers of these names, each over an empty log of its own, and over the same databases.
+-- Two drivers were served by managers of these names, each over an empty log of its own, and over
+-- the same databases.
 pub record AreServedBeside {L : Type 0} (moment : L → Moment) (m n : List ℕ) (log other : L) (first second first_written second_written : List ℕ)
     : Type 0 where
   pub left : L

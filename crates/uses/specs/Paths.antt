@@ -30,8 +30,8 @@ use Rattle.xa_tm.specs.Calls.{log_in}
 
 -- ** one session
 
--- The driver was told the first line of a session of a manager of this name, and a line for each line of what was read of its text: up to
--- `quit`, or all.
+-- The driver was told the first line of a session of a manager of this name, and a line for each
+-- line of what was read of its text: up to `quit`, or all.
 pub record IsRepliedUnder (name text written : List ℕ) : Type 0 where
   pub read : List ℕ
   pub unread : List ℕ
@@ -42,8 +42,9 @@ pub record IsRepliedUnder (name text written : List ℕ) : Type 0 where
   pub replied : written ≡ text_written name (told_in greeting turns)
   pub ends : EndsAtLastOr (map (λ turn. turn.reply) turns) (unread ≡ [])
 
--- These lines were replied, none by a failure of the log: all of them; or all but the last, a `decide`, a `settle` or a `done` in which the log
--- failed, as it does where the program is killed there.
+-- These lines were replied, none by a failure of the log: all of them; or all but the last, a
+-- `decide`, a `settle` or a `done` in which the log failed, as it does if the program is killed
+-- there.
 abbrev pub WereReplied : (name : List ℕ) → List Turn → List (List ℕ) → List Response → Type 0
 WereReplied name turns lines replies =
     (list_any is_log_fault replies ≡ false)
@@ -64,14 +65,15 @@ pub record IsSessionOver {L : Type 0} (moment : L → Moment) (name : List ℕ) 
 
 -- ** one process
 
--- The files hold a log with this content: the database file is empty, and it is an empty one; or they are those of a log that was closed;
--- or whatever an open may find in them is such a log.
+-- The files hold a log with this content: the database file is empty, and it is an empty one; or
+-- they are those of a log that was closed; or whatever an open may find in them is such a log.
 abbrev pub IsHeldInFiles : Content → Image → Type 0
 IsHeldInFiles c image =
     ((length image.db ≡ 0) × (c ≡ nothing))
     ⊎ (HoldsWhole c image ⊎ ((db : Trees) → AreFoundIn image db → AreLogTrees db × (content_of db ≡ c)))
 
--- It opened the log in files with these contents, and served a driver that writes this text over it; this was written, and this log is left.
+-- It opened the log in files with these contents, and served a driver that writes this text over
+-- it; this was written, and this log is left.
 pub record IsProcess {L : Type 0} (moment : L → Moment) (image : Image) (name text written : List ℕ) (left : L) : Type 0 where
   pub opened : L
   pub order : (c : Content) → IsHeldInFiles c image → (moment opened).is_in_order
@@ -84,9 +86,10 @@ pub record IsProcess {L : Type 0} (moment : L → Moment) (image : Image) (name 
 abbrev pub LeavesIt : Moment → Content → Type 0
 LeavesIt m c = (m.content ≡ Some c) ⊎ m.may_leave c
 
--- From their starts, these lines and their replies tell what is seen. Wherever the branches of this manager may then stand at databases that
--- obey the table, where no branch was at first: those of any transaction are alike, the log decides of what is prepared still, and what the
--- second found prepared with its row commits; so says `AreLeftAlike`.
+-- From their starts, these lines and their replies tell what is seen. Wherever the branches of this
+-- manager may then stand at databases that obey the table, if no branch was there at first: those
+-- of any transaction are alike, the log decides of what is prepared still, and what the second
+-- found prepared with its row commits; so says `AreLeftAlike`.
 pub record AgreeAfterBoth {M : Type 0} (moment : M → Moment) (name : List ℕ) (mid : Content) (left : M) (one_lines two_lines : List (List ℕ))
     (one_replies two_replies : List Response) : Type 0 where
   pub one : Origin
@@ -102,8 +105,10 @@ pub record AgreeAfterBoth {M : Type 0} (moment : M → Moment) (name : List ℕ)
       → MayAllStand two two_seen (λ b. Comes two_seen b (broken (under name from b))) two_done two_cut (under name to)
       → AreFoundDecided name from mid found → LeavesIt (moment left) c → AreLeftAlike name to c found
 
--- Two processes, one after the other, each of which may have stopped in a request in which its log failed, over the files at one path, each of which supposes of these what it finds: the first that they hold an
--- empty log, and the second that they hold what the first left. The one's log and the other's have types of their own.
+-- Two processes, one after the other, each of which may have stopped in a request in which its log
+-- failed, over the files at one path, each of which supposes of these what it finds: the first that
+-- they hold an empty log, and the second that they hold what the first left. The one's log and the
+-- other's have types of their own.
 pub record AreTwoProcesses {L M : Type 0} (moment : L → Moment) (later : M → Moment) (image found : Image) (name one two one_written two_written : List ℕ)
     (left : M) : Type 0 where
   pub mid : L

@@ -1,5 +1,5 @@
--- What a driver writes is served, and what a second one writes after it; databases that obey the branch state table agree, and the log has the rows of
--- what is committed.
+-- What a driver writes is served, and what a second one writes after it; databases that obey the
+-- branch state table agree, and the log has the rows of what is committed.
 use Rattle.std.specs.Prelude.{◌≡◌, ◌<◌, ◌⊎◌, ℕ, true, false, List, [], ◌∷◌, ◌++◌, length, map, Option, Some, is_some}
 use Rattle.std.specs.FinMap.{get}
 use Rattle.std.specs.List.{list_any}
@@ -29,9 +29,10 @@ use Rattle.xa_monitor.specs.Seen.{Seen, Seen.Start}
 use Rattle.xa_monitor.specs.Standings.{Comes}
 use Rattle.xa_tm.specs.Calls.{log_in}
 
--- The driver was told the first line of a session, and a line for each line of what was read of its text: up to `quit`, or all. What
--- these tell, from a start with no rows and no records up to where the log failed, has a right history; and wherever the branches then
--- stand at databases that obey the table, those of a transaction of this session are alike.
+-- The driver was told the first line of a session, and a line for each line of what was read of its
+-- text: up to `quit`, or all. What these tell, from a start with no rows and no records until the
+-- log failed, has a right history; and wherever the branches then stand at databases that obey the
+-- table, those of a transaction of this session are alike.
 pub record IsServed (threads rms : ℕ) (text written : List ℕ) : Type 0 where
   pub read : List ℕ
   pub unread : List ℕ
@@ -52,7 +53,8 @@ pub record IsServed (threads rms : ℕ) (text written : List ℕ) : Type 0 where
   pub explained : IsExplained start seen
   pub agree : (f : Branch → Standing) → StandSo start seen f → OwnStandAlike start.incarnation f
 
--- Lines end with votes for these transactions, XA_OK each, and with a line that commits them all; that is replied by `decided`.
+-- Lines end with votes for these transactions, XA_OK each, and with a line that commits them all;
+-- that is replied by `decided`.
 pub record EndDecided (lines : List (List ℕ)) (replies : List Response) (gs : List Gtrid) : Type 0 where
   pub before : List (List ℕ)
   pub votes : List (List ℕ)
@@ -65,8 +67,9 @@ pub record EndDecided (lines : List (List ℕ)) (replies : List Response) (gs : 
   pub are_votes : AreVotes votes heard gs
   pub asks : asked_in line ≡ Some (requests.Decide gs Outcomes.Commit)
 
--- The driver was told the first line of a session, and a line for each line of what was read of its text: up to `quit`, or all. Where these
--- end with decisions to commit some transactions, the log has the row of each.
+-- The driver was told the first line of a session, and a line for each line of what was read of its
+-- text: up to `quit`, or all. If these end with decisions to commit some transactions, the log
+-- has the row of each.
 pub record LogsCommits (log : Option Content) (text written : List ℕ) : Type 0 where
   pub read : List ℕ
   pub unread : List ℕ
@@ -78,8 +81,8 @@ pub record LogsCommits (log : Option Content) (text written : List ℕ) : Type 0
   pub ends : EndsAtLastOr (map (λ turn. turn.reply) turns) (unread ≡ [])
   pub rows : (gs : List Gtrid) (g : Gtrid) → EndDecided (requests_done turns) (replies_given turns) gs → is_gtrid_among gs g ≡ true → IsLogged log g
 
--- A driver of so many threads and resource managers that writes this text was served by a coordinator that started over a log, and this was
--- written; this log is left.
+-- A driver of so many threads and resource managers that writes this text was served by a
+-- coordinator that started over a log, and this was written; this log is left.
 pub record IsServedOver {L : Type 0} (moment : L → Moment) (threads rms : ℕ) (handed : L) (text written : List ℕ) (left : L) : Type 0 where
   pub first : Server L
   pub last : Server L
@@ -92,7 +95,8 @@ pub record IsServedOver {L : Type 0} (moment : L → Moment) (threads rms : ℕ)
 abbrev pub AreServedTo : {L : Type 0} → (L → Moment) → L → (Branch → Standing) → Type 0
 AreServedTo {L} moment left f = (last : Server L) × (left ≡ log_in last.session.manager) × AreServed moment [] (Some last) f
 
--- The driver was told the first line of a session, and a line for each line of what was read of its text: up to `quit`, or all.
+-- The driver was told the first line of a session, and a line for each line of what was read of its
+-- text: up to `quit`, or all.
 pub record IsReplied (text written : List ℕ) : Type 0 where
   pub read : List ℕ
   pub unread : List ℕ
@@ -109,16 +113,17 @@ EndedAlone (Completed how) = Unit
 EndedAlone (Forgotten how) = Unit
 EndedAlone _ = ⊥
 
--- The branch is never rolled back or lost; and once the log has no row of its transaction, it is committed, unless its database ended it by
--- itself.
+-- The branch is never rolled back or lost; and once the log has no row of its transaction, it is
+-- committed, unless its database ended it by itself.
 pub record EndsCommitted (f : Branch → Standing) (log : Content) (b : Branch) : Type 0 where
   pub never_undone : IsUndone (f b) → ⊥
   pub in_the_end : is_some (get log.decisions b.gtrid) ≡ false → (f b ≡ Committed) ⊎ EndedAlone (f b)
 
--- Two drivers were replied so, one after the other, over one log. From their starts, these lines and their replies tell what is seen.
--- Wherever the branches may then stand at databases that obey the table, where no branch was at first: those of any transaction are alike,
--- and the log decides of what is prepared still. Where the first driver was killed behind a decision to commit, each branch of it that stood
--- prepared then ends committed, whatever the second driver asks for.
+-- Two drivers were replied so, one after the other, over one log. From their starts, these lines
+-- and their replies tell what is seen. Wherever the branches may then stand at databases that obey
+-- the table, if no branch was there at first: those of any transaction are alike, and the log
+-- decides of what is prepared still. If the first driver was killed after a decision to commit,
+-- each branch of it that stood prepared then ends committed, whatever the second driver asks for.
 pub record AreServedTwice (log : Option Content) (one_lines two_lines : List (List ℕ)) (one_replies two_replies : List Response) : Type 0 where
   pub one : Origin
   pub two : Origin
@@ -138,7 +143,7 @@ pub record AreServedTwice (log : Option Content) (one_lines two_lines : List (Li
       → MayAllStand two two_seen (λ b. Comes two_seen b (broken (from b))) two_done two_cut to
       → (b : Branch) → is_gtrid_among gs b.gtrid ≡ true → from b ≡ Prepared → (c : Content) → log ≡ Some c → EndsCommitted to c b
 
--- The same where the log failed in neither session.
+-- The same if the log failed in neither session.
 pub record IsServedTwice (log : Option Content) (first second first_written second_written : List ℕ) : Type 0 where
   pub one : IsReplied first first_written
   pub two : IsReplied second second_written

@@ -8,7 +8,8 @@ use Rattle.xa_scenario.specs.Runs.{IsTextOf}
 use Rattle.xa_scenario_file.specs.Scenarios.{Plan, scenario_of}
 use Rattle.xa_system.specs.LogInHistory.{participants_of_row}
 
--- the text of a run of the scenario that starts in the second incarnation, with the row of this transaction
+-- the text of a run of the scenario that starts in the second incarnation, with the row of this
+-- transaction
 pub record PrintsAfter (g : Gtrid) (participants : List Branch) (text out : List ℕ) : Type 0 where
   pub plan : Plan
   pub origin : Origin

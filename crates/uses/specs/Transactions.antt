@@ -40,7 +40,7 @@ pub record AgreeApart (log : Option Content) (one_lines two_lines : List (List �
       → IsTroubleOf troubled now from amid → MayStandFor this two two_seen (λ b. Comes two_seen b (broken (amid b))) two_done two_cut to
       → log ≡ Some c → IsAlike this to c
 
--- The same where the log failed in neither session.
+-- The same if the log failed in neither session.
 pub record AreServedApartFrom (log : Option Content) (first second first_written second_written : List ℕ) : Type 0 where
   pub one : IsReplied first first_written
   pub two : IsReplied second second_written

@@ -1,4 +1,5 @@
-//! `xa_sql_log` and `xa_system`: a log whose store crashes, and a system that goes on over what that left.
+//! `xa_sql_log` and `xa_system`: a log whose store crashes, and a system that goes on over what
+//! that left.
 
 ghost use Rattle.std.specs.Prelude.{◌≡◌, ◌≢◌, ◌≤◌, ◌⊎◌, Bool, Err, None};
 ghost use Rattle.std.specs.Prelude.{IfErr, IfOk, IfSome, IsSomeAnd};
@@ -58,7 +59,8 @@ fn open_fault(error: &Error) -> LogFault
     }
 }
 
-/// A new connection to that store. What a crash may leave of a connection's database is never refused as no database.
+/// A new connection to that store. What a crash may leave of a connection's database is never
+/// refused as no database.
 fn connection_after_crash<S: Alter + Reopen + Drop>(
     alloc: Global,
     conn: Connection<S>,
@@ -81,8 +83,9 @@ fn connection_after_crash<S: Alter + Reopen + Drop>(
     }
 }
 
-/// The log that is found after a crash of the store of one in order: it is in order, and holds one of what a crash may
-/// leave of that. It is never refused as an unknown one: a fault is that of the store, or comes for want of memory.
+/// The log that is found after a crash of the store of one in order: it is in order, and holds one
+/// of what a crash may leave of that. It is never refused as an unknown one: a fault is that of the
+/// store, or comes for want of memory.
 pub fn log_after_crash<S: Alter + Reopen + Drop>(
     alloc: Global,
     log: SqlLog<S>,
@@ -111,13 +114,15 @@ pub fn log_after_crash<S: Alter + Reopen + Drop>(
     }
 }
 
-/// Takes the log out of a system whose manager is down, has its store crash, and restarts the manager over what is
-/// found. That is refused for want of memory or for a failure of its own, and for nothing else; and where it counts no
-/// failure, the restart isn't refused for its sake. It is an error where no log comes out, and then it is `None`, or
-/// where what is found can't be opened: for a fault of the store or for want of memory, and the store comes back.
+/// Takes the log out of a system whose manager is down, has its store crash, and restarts the
+/// manager over what is found. That is refused for want of memory or for a failure of its own, and
+/// for nothing else; and if it counts no failure, the restart isn't refused for its sake. It is an
+/// error if no log comes out, and then it is `None`, or if what is found can't be opened: for a
+/// fault of the store or for want of memory, and the store comes back.
 ///
-/// The premises: the log was in order as it was handed in, a restart may follow over what a crash leaves of it, as it may
-/// over that of a new system and after every step, and the store that is found is honest.
+/// The premises: the log was in order as it was handed in, a restart may follow over what a crash
+/// leaves of it, as it may over that of a new system and after every step, and the store that is
+/// found is honest.
 pub fn restart_after_crash<R: ResourceManager + Drop, S: Alter + Reopen + Drop>(
     alloc: Global,
     system: &mut System<R, SqlLog<S>>,
@@ -138,7 +143,7 @@ pub fn restart_after_crash<R: ResourceManager + Drop, S: Alter + Reopen + Drop>(
         (slot_moment ⟦<SqlLog<S> as DecisionLog>⟧.moment system.new.log).is_honest →
         (slot_moment ⟦<SqlLog<S> as DecisionLog>⟧.moment system.new.log).fault_count ≡ 0 →
         reply ≢ Replies.Refused Refusals.LogFault)) }
-    // What the log rests on was honest where what is found is so in the end.
+    // What the log rests on was honest if what is found is so in the end.
     ensures back { IfOk result (λ went_on. IfErr went_on (λ e.
         (⟦<SqlLog<S> as DecisionLog>⟧.moment e.1).is_honest →
         (slot_moment ⟦<SqlLog<S> as DecisionLog>⟧.moment system.old.log).is_honest)) }
@@ -159,9 +164,10 @@ pub fn restart_after_crash<R: ResourceManager + Drop, S: Alter + Reopen + Drop>(
     }
 }
 
-/// Starts a system over a log in order and runs steps, of which the last may be one in which the log failed. Then the
-/// store of the log crashes, and the system goes on over what is found. No premise is left but that the store is honest;
-/// and the headline holds of all events, before and after.
+/// Starts a system over a log in order and runs steps, of which the last may be one in which the
+/// log failed. Then the store of the log crashes, and the system goes on over what is found. No
+/// premise is left but that the store is honest; and the headline holds of all events, before and
+/// after.
 pub fn restart_after_fault<R: ResourceManager + Drop, S: Alter + Reopen + Drop>(
     alloc: Global,
     threads: u32,

@@ -11,8 +11,9 @@ use xa_files::RunFault;
 use xa_jobs::run_job_file;
 use xa_log::{DecisionLog, MemLog};
 
-/// What a run of a jobs file over a new log prints, and that log, with no premise. It has a row for each job that is
-/// printed as committed and of which a branch voted yes, and nothing else, and is of the first incarnation.
+/// What a run of a jobs file over a new log prints, and that log, with no premise. It has a row for
+/// each job that is printed as committed and of which a branch voted yes, and nothing else, and is
+/// of the first incarnation.
 #[tactic(auto, using(crate::proofs::JobRows::is_first_run))]
 pub fn printed_and_logged<R: Threads + Wait + Clock + Sync>(
     rt: &R,

@@ -7,7 +7,8 @@ ghost use Rattle.xa_log.specs.Contract.{FitsRow, Honestly};
 use xa_base::{Branch, Gtrid};
 use xa_log::{DecisionLog, LogFault};
 
-/// Logs that a transaction commits, starts anew in the next incarnation, and looks: the decision is there.
+/// Logs that a transaction commits, starts anew in the next incarnation, and looks: the decision is
+/// there.
 pub fn found_again<L: DecisionLog>(
     log: &mut L,
     g: Gtrid,

@@ -1,4 +1,5 @@
-//! `xa_names`: two drivers are served by managers of two names, each with a log of its own, over the same resource managers.
+//! `xa_names`: two drivers are served by managers of two names, each with a log of its own, over
+//! the same resource managers.
 
 ghost use Rattle.std.specs.Prelude.{IfOk};
 ghost use Rattle.uses.specs.Managers.{AreServedApart, AreServedBeside, IsServedFrom};
@@ -15,7 +16,8 @@ use xa_server::laws::{
 };
 use xa_session::laws::starts_are_tracked;
 
-/// Serves a driver that writes this text, by a manager of this name over this log, and gives what was written for it.
+/// Serves a driver that writes this text, by a manager of this name over this log, and gives what
+/// was written for it.
 fn served_under<L: DecisionLog + Drop>(
     alloc: Global,
     threads: u32,
@@ -38,10 +40,11 @@ fn served_under<L: DecisionLog + Drop>(
     }
 }
 
-/// Serves two drivers by managers of two names, over the same resource managers, each manager over a log of its own. Whatever the
-/// texts say, each one's theorem holds beside the other: what it tells has a right history, and databases that obey the branch
-/// state table agree of its transactions. And if the names differ, neither driver is told a call on an identifier on which the
-/// other one is told a call, up to where a log fails: so nothing of the other's is ended.
+/// Serves two drivers by managers of two names, over the same resource managers, each manager over
+/// a log of its own. Whatever the texts say, each one's theorem holds beside the other: what it
+/// tells has a right history, and databases that obey the branch state table agree of its
+/// transactions. And if the names differ, neither driver is told a call on an identifier on which
+/// the other one is told a call, until a log fails: so nothing of the other's is ended.
 pub fn served_apart<L: DecisionLog + Drop>(
     alloc: Global,
     threads: u32,
@@ -64,9 +67,10 @@ pub fn served_apart<L: DecisionLog + Drop>(
     Ok((one, two))
 }
 
-/// Serves two drivers by managers of two names, each over a log of its own, and over the same databases, which hold no branch of
-/// either at first. Whatever the texts say, and wherever all identifiers then stand at databases that obey the branch state table: if
-/// the names differ, the branches of each manager are alike, and no identifier is of a branch of both.
+/// Serves two drivers by managers of two names, each over a log of its own, and over the same
+/// databases, which hold no branch of either at first. Whatever the texts say, and wherever all
+/// identifiers then stand at databases that obey the branch state table: if the names differ, the
+/// branches of each manager are alike, and no identifier is of a branch of both.
 pub fn served_beside<L: DecisionLog + Drop>(
     alloc: Global,
     threads: u32,

@@ -12,10 +12,10 @@ use xa_log::{DecisionLog, MemLog};
 use xa_rm::{MemRm, ResourceManager};
 use xa_system::{NewFault, System};
 
-/// Starts a system over a log in order, and runs steps. The history starts from what that log held; and however the steps
-/// go, the log is then where the history leaves it: while the manager is up it has just its rows, each with its
-/// participants, its record and its incarnation. So has what a crash of its store leaves. The steps so far are such a
-/// list: so it is after each event.
+/// Starts a system over a log in order, and runs steps. The history starts from what that log held;
+/// and however the steps go, the log is then as the history leaves it: while the manager is up
+/// it has just its rows, each with its participants, its record and its incarnation. So has what a
+/// crash of its store leaves. The steps so far are such a list: so it is after each event.
 pub fn run_over<R: ResourceManager + Drop, L: DecisionLog + Drop>(
     alloc: Global,
     threads: u32,

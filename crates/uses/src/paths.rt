@@ -1,4 +1,5 @@
-//! `xa_server` over files: one process after another opens the log at a path and serves a driver over it.
+//! `xa_server` over files: one process after another opens the log at a path and serves a driver
+//! over it.
 
 ghost use Rattle.std.specs.Prelude.{IfOk};
 ghost use Rattle.sqlite_wal.specs.Files.{image_at};
@@ -22,8 +23,9 @@ pub enum ProcessFault {
     Session(SessionFault),
 }
 
-/// Serves a driver that writes this text, as the manager of this name, over a log, and gives what was written for it and the log.
-/// Where sessions before it left what the log has, this one goes on from them.
+/// Serves a driver that writes this text, as the manager of this name, over a log, and gives what
+/// was written for it and the log. If sessions before it left what the log has, this one goes on
+/// from them.
 pub(crate) fn session_over<L: DecisionLog + Drop>(
     alloc: Global,
     name: &ManagerName,
@@ -47,8 +49,8 @@ pub(crate) fn session_over<L: DecisionLog + Drop>(
     }
 }
 
-/// One process: opens the log at a path, or makes it, and serves a driver over it. `start` stands for what the files held,
-/// whatever that was.
+/// One process: opens the log at a path, or makes it, and serves a driver over it. `start` stands
+/// for what the files held, whatever that was.
 pub fn process<S: Start>(
     rt: &HostRuntime,
     path: &str,
@@ -71,13 +73,16 @@ pub fn process<S: Start>(
     }
 }
 
-/// Two processes, one after the other, open the log at one path: the first makes it, and the second opens what the first left.
-/// Whatever the drivers' texts say, and wherever the branches then stand at databases that obey the branch state table: no
-/// branch of a transaction is committed beside one that is rolled back or lost, and the log decides of what is prepared
-/// still. A branch that the second process found prepared, with its transaction's row in the log, is never rolled back or lost.
+/// Two processes, one after the other, open the log at one path: the first makes it, and the second
+/// opens what the first left. Whatever the drivers' texts say, and wherever the branches then stand
+/// at databases that obey the branch state table: no branch of a transaction is committed beside
+/// one that is rolled back or lost, and the log decides of what is prepared still. A branch that
+/// the second process found prepared, with its transaction's row in the log, is never rolled back
+/// or lost.
 ///
-/// What the one leaves and the other finds is told by the log's content. So it is the same whether the first process closed its log
-/// or a crash of its disk left it, after a line or in a call that failed.
+/// What the one leaves and the other finds is told by the log's content. So it is the same whether
+/// the first process closed its log or a crash of its disk left it, after a line or in a call that
+/// failed.
 pub fn two_processes<S: Start, T: Start>(
     rt: &HostRuntime,
     path: &str,

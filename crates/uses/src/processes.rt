@@ -134,8 +134,8 @@ fn first_process(alloc: Global, steps: &[Step]) -> Result<System<MemRm, MemLog>,
     }
 }
 
-/// Two processes over a resource manager and a log in memory: no premise is left. The headline holds of all that both
-/// did, at each moment of the second.
+/// Two processes over a resource manager and a log in memory: no premise is left. The headline
+/// holds of all that both did, at each moment of the second.
 pub fn two_processes(
     alloc: Global,
     first_steps: &[Step],
@@ -169,10 +169,10 @@ pub fn processes(
     Ok(system)
 }
 
-/// The next process recovers. Where its events end with a whole recovery at a resource manager, all that is then still
-/// prepared there is of its own live transactions: what the processes before it left prepared there is ended. The
-/// premises on the recovery: no call waited on its line before, the page had room for all that was in doubt, and no
-/// call was put off.
+/// The next process recovers. If its events end with a whole recovery at a resource manager, all
+/// that is then still prepared there is of its own live transactions: what the processes before it
+/// left prepared there is ended. The premises on the recovery: no call waited on its line before,
+/// the page had room for all that was in doubt, and no call was put off.
 pub fn recover_next<R: ResourceManager + Drop, L: DecisionLog + Drop>(
     alloc: Global,
     threads: u32,

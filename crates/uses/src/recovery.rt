@@ -15,10 +15,11 @@ use xa_log::DecisionLog;
 use xa_rm::ResourceManager;
 use xa_system::System;
 
-/// Runs steps. Where their events are a whole recovery at a resource manager, all that is then still prepared there is
-/// of live transactions: if no call waited on its line before, the page had room for all that was in doubt, and no call
-/// was put off. So it is of a system that had a right start, as a new one has, and of one whose start resumed a right
-/// history: what earlier processes left prepared there is ended too.
+/// Runs steps. If their events are a whole recovery at a resource manager, all that is then
+/// still prepared there is of live transactions: if no call waited on its line before, the page had
+/// room for all that was in doubt, and no call was put off. So it is of a system that had a right
+/// start, as a new one has, and of one whose start resumed a right history: what earlier processes
+/// left prepared there is ended too.
 pub fn recover<R: ResourceManager + Drop, L: DecisionLog + Drop>(
     system: &mut System<R, L>,
     steps: &[Step],

@@ -7,7 +7,8 @@ use std::alloc::Global;
 use xa_base::{Call, Fate, Memory, Xid};
 use xa_rm::{MemRm, ResourceManager};
 
-/// Starts a branch at a new resource manager, ends the work on it, prepares it and commits it. What became of it.
+/// Starts a branch at a new resource manager, ends the work on it, prepares it and commits it. What
+/// became of it.
 #[tactic(auto, using(crate::proofs::Branches::same))]
 pub fn committed(alloc: Global, xid: &Xid) -> Result<Fate, Memory>
     ensures { IfOk result (λ fate. fate ≡ Fates.Committed) }

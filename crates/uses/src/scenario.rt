@@ -41,7 +41,8 @@ fn log_with(alloc: Global, g: Gtrid, participants: &[Branch]) -> Result<MemLog, 
     Ok(log)
 }
 
-/// What a run of a scenario file prints over a log that holds the row of a transaction: it starts with that row.
+/// What a run of a scenario file prints over a log that holds the row of a transaction: it starts
+/// with that row.
 pub fn printed_after(
     alloc: Global,
     text: &[u8],

@@ -1,5 +1,6 @@
-//! `xa_server`: a driver is served, databases that obey the branch state table agree, also after a second driver that
-//! recovers what the first one left, and the log has the rows of what is committed.
+//! `xa_server`: a driver is served, databases that obey the branch state table agree, also after a
+//! second driver that recovers what the first one left, and the log has the rows of what is
+//! committed.
 
 ghost use Rattle.std.specs.Prelude.{◌≡◌, IfOk, IsSomeAnd, Some};
 ghost use Rattle.std.specs.Io.Buffered.{reader_remaining};
@@ -37,10 +38,10 @@ pub(crate) fn whole(alloc: Global, text: &[u8]) -> Result<BufReader<&[u8]>, Sess
     }
 }
 
-/// Serves a driver that writes this text, of any number of threads and resource managers, over a new log in memory.
-/// Whatever the text says, what it tells and what is written for it have a right history; and wherever the branches then
-/// stand at databases that obey the branch state table, no branch of a transaction is committed beside one that is rolled
-/// back or lost.
+/// Serves a driver that writes this text, of any number of threads and resource managers, over a
+/// new log in memory. Whatever the text says, what it tells and what is written for it have a right
+/// history; and wherever the branches then stand at databases that obey the branch state table, no
+/// branch of a transaction is committed beside one that is rolled back or lost.
 pub fn served(alloc: Global, threads: u32, rms: u32, text: &[u8]) -> Result<Vec<u8>, SessionFault>
     ensures { IfOk result (λ written. IsServed threads rms text.now written.items) }
 {
@@ -57,7 +58,8 @@ pub fn served(alloc: Global, threads: u32, rms: u32, text: &[u8]) -> Result<Vec<
     }
 }
 
-/// Serves a driver that writes this text, over a log, and gives what was written for it and the log.
+/// Serves a driver that writes this text, over a log, and gives what was written for it and the
+/// log.
 pub(crate) fn served_over<L: DecisionLog + Drop>(
     alloc: Global,
     threads: u32,
@@ -79,8 +81,9 @@ pub(crate) fn served_over<L: DecisionLog + Drop>(
     }
 }
 
-/// Serves a driver that writes this text, over a log, and gives what was written for it and the log. Where the text ends with
-/// votes, XA_OK each, and a line that commits their transactions, and this is replied by `decided`, the log has the row of each.
+/// Serves a driver that writes this text, over a log, and gives what was written for it and the
+/// log. If the text ends with votes, XA_OK each, and a line that commits their transactions, and
+/// this is replied by `decided`, the log has the row of each.
 pub fn commits<L: DecisionLog + Drop>(
     alloc: Global,
     log: L,
@@ -93,8 +96,8 @@ pub fn commits<L: DecisionLog + Drop>(
     served_over(alloc, 2, 2, log, text)
 }
 
-/// Serves a driver that says nothing, over a log that is empty. That is the least of the sessions that agree: no branch is at any
-/// database before it, and none after it.
+/// Serves a driver that says nothing, over a log that is empty. That is the least of the sessions
+/// that agree: no branch is at any database before it, and none after it.
 pub fn silent<L: DecisionLog + Drop>(
     alloc: Global,
     threads: u32,
@@ -110,15 +113,17 @@ pub fn silent<L: DecisionLog + Drop>(
     served_over(alloc, threads, rms, log, &[])
 }
 
-/// Serves two drivers, one after the other, over a log that is empty at first. The first may be killed anywhere, as after a
-/// decision and before its xa_commits; the second recovers what it finds. Whatever their texts say, and wherever the branches
-/// then stand at databases that obey the branch state table: no branch of a transaction is committed beside one that is
-/// rolled back or lost. And the log has the row of each transaction with a branch that is committed and one that is prepared
-/// still, so that recovery commits that one too.
+/// Serves two drivers, one after the other, over a log that is empty at first. The first may be
+/// killed anywhere, as after a decision and before its xa_commits; the second recovers what it
+/// finds. Whatever their texts say, and wherever the branches then stand at databases that obey the
+/// branch state table: no branch of a transaction is committed beside one that is rolled back or
+/// lost. And the log has the row of each transaction with a branch that is committed and one that
+/// is prepared still, so that recovery commits that one too.
 ///
-/// Where the first driver's text ends with votes, XA_OK each, and a line that commits their transactions, and this is replied by
-/// `decided`, each branch of these that stood prepared as that driver was killed ends committed, whatever the second one asks for:
-/// none is ever rolled back or lost, and once the log has no row of a transaction, its branches are committed, unless a
+/// If the first driver's text ends with votes, XA_OK each, and a line that commits their
+/// transactions, and this is replied by `decided`, each branch of these that stood prepared as that
+/// driver was killed ends committed, whatever the second one asks for: none is ever rolled back or
+/// lost, and once the log has no row of a transaction, its branches are committed, unless a
 /// database ended one by itself.
 pub fn served_twice<L: DecisionLog + Drop>(
     alloc: Global,

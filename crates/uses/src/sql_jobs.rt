@@ -19,9 +19,9 @@ use xa_log::DecisionLog;
 use xa_sql_log::{SqlLog, memory_is_honest};
 use xa_workers::{Jobs, Outcomes, WorkFault, run_jobs};
 
-/// Runs jobs over a log in order. It then holds what it held, and a row for each job that committed with a yes, with the
-/// branches that voted yes, and nothing else; and its incarnation is one more, that of the jobs. Where it is honest then,
-/// it was so before.
+/// Runs jobs over a log in order. It then holds what it held, and a row for each job that committed
+/// with a yes, with the branches that voted yes, and nothing else; and its incarnation is one more,
+/// that of the jobs. If it is honest then, it was so before.
 #[tactic(auto, using(crate::proofs::JobRows::has_rows_over, crate::proofs::JobRows::was_honest))]
 pub fn logged_over<R: Threads + Wait + Clock + Sync, L: DecisionLog + Drop>(
     rt: &R,
@@ -39,7 +39,8 @@ pub fn logged_over<R: Threads + Wait + Clock + Sync, L: DecisionLog + Drop>(
     run_jobs(rt, alloc, jobs, log, &Open)
 }
 
-/// The same over a new log in memory, with no premise: it is empty and in order where it is made, and honest always.
+/// The same over a new log in memory, with no premise: it is empty and in order when it is made,
+/// and honest always.
 pub fn logged_in_memory<R: Threads + Wait + Clock + Sync>(
     rt: &R,
     alloc: Global,
@@ -55,8 +56,8 @@ pub fn logged_in_memory<R: Threads + Wait + Clock + Sync>(
     logged_over(rt, alloc, jobs, log)
 }
 
-/// The same over a log in files that hold a whole one: it then holds the rows that they held, and those of the jobs. That
-/// the files give back what was written is the premise.
+/// The same over a log in files that hold a whole one: it then holds the rows that they held, and
+/// those of the jobs. That the files give back what was written is the premise.
 pub fn logged_in_files<R: Threads + Wait + Clock + Sync, D: Disk + Drop>(
     rt: &R,
     alloc: Global,

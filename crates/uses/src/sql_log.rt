@@ -1,5 +1,5 @@
-//! `xa_sql_log`: a log of one's own, in a database in memory. A decision is logged and found, and is gone once it is done.
-//! And one in files, which is closed and opened again.
+//! `xa_sql_log`: a log of one's own, in a database in memory. A decision is logged and found, and
+//! is gone once it is done. And one in files, which is closed and opened again.
 
 ghost use Rattle.std.specs.Prelude.{◌≡◌, false, true, IfOk, IsTrue};
 ghost use Rattle.std.specs.List.{AllByRecursion};
@@ -14,8 +14,8 @@ use xa_base::{Branch, Gtrid};
 use xa_log::{DecisionLog, LogFault};
 use xa_sql_log::{SqlLog, memory_is_honest};
 
-/// Logs that a transaction commits, takes its row away, and looks before and after that: the decision is there, and then
-/// it isn't.
+/// Logs that a transaction commits, takes its row away, and looks before and after that: the
+/// decision is there, and then it isn't.
 fn found_until_done<L: DecisionLog>(
     log: &mut L,
     g: Gtrid,
@@ -33,7 +33,8 @@ fn found_until_done<L: DecisionLog>(
     Ok((before, after))
 }
 
-/// The same over a new log in memory, with no premise: it is in order where it is made, and honest at every moment.
+/// The same over a new log in memory, with no premise: it is in order when it is made, and honest
+/// at every moment.
 pub fn found_in_new_log(
     alloc: Global,
     g: Gtrid,
@@ -48,9 +49,10 @@ pub fn found_in_new_log(
     found_until_done(&mut log, g, participants)
 }
 
-/// Opens the log in files, or makes it, logs that a transaction commits, and closes it into one file. Then it opens the log
-/// in the same files again, and looks: the decision is there. That the files are empty or hold a log, and that they give
-/// back what was written, up to the last look, is the premise.
+/// Opens the log in files, or makes it, logs that a transaction commits, and closes it into one
+/// file. Then it opens the log in the same files again, and looks: the decision is there. That the
+/// files are empty or hold a log, and that they give back what was written, up to the last look, is
+/// the premise.
 pub fn found_again<D: Disk + Drop>(
     alloc: Global,
     files: Files<D>,

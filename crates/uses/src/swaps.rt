@@ -1,4 +1,5 @@
-//! `xa_system`: a log that is taken out and given back, and one that a crash left, put in its place.
+//! `xa_system`: a log that is taken out and given back, and one that a crash left, put in its
+//! place.
 
 ghost use Rattle.std.specs.Prelude.{◌≡◌, ◌≢◌, ◌<◌, ◌⊎◌, Some, IfErr, IfOk, IfSome};
 ghost use Rattle.xa_base.specs.declared.refusal.Refusal.TheVariants as Refusals;
@@ -18,8 +19,8 @@ use xa_log::{DecisionLog, MemLog};
 use xa_rm::{MemRm, ResourceManager};
 use xa_system::{SwapFault, System};
 
-/// Takes the log out, where that may be, and gives it straight back. One that isn't shut is refused for want of memory or
-/// for a failure of its own, and for nothing else.
+/// Takes the log out, if that may be, and gives it straight back. One that isn't shut is refused
+/// for want of memory or for a failure of its own, and for nothing else.
 pub fn give_back<R: ResourceManager + Drop, L: DecisionLog + Drop>(
     system: &mut System<R, L>,
 ) -> Result<(), (SwapFault, L)>
@@ -35,9 +36,10 @@ pub fn give_back<R: ResourceManager + Drop, L: DecisionLog + Drop>(
     }
 }
 
-/// Puts in what a crash left of the log that was taken out, and restarts the manager. That log is refused for want of
-/// memory or for a failure of its own, and for nothing else; and where it counts no failure, the restart isn't refused
-/// for its sake. The headline holds of the whole, where the system had a right start, as a new one has.
+/// Puts in what a crash left of the log that was taken out, and restarts the manager. That log is
+/// refused for want of memory or for a failure of its own, and for nothing else; and if it counts
+/// no failure, the restart isn't refused for its sake. The headline holds of the whole if the
+/// system had a right start, as a new one has.
 pub fn restart_over<R: ResourceManager + Drop, L: DecisionLog + Drop>(
     system: &mut System<R, L>,
     left: L,
@@ -50,7 +52,7 @@ pub fn restart_over<R: ResourceManager + Drop, L: DecisionLog + Drop>(
         (slot_moment L.moment system.new.log).is_honest →
         (slot_moment L.moment system.new.log).fault_count ≡ (L.moment left).fault_count →
         (L.moment left).fault_count < greatest_count → reply ≢ Replies.Refused Refusals.LogFault) }
-    // What it rests on was honest where it is so in the end.
+    // What it rests on was honest if it is so in the end.
     ensures back { IfErr result (λ e. (L.moment e.1).is_honest → (L.moment left).is_honest) }
     ensures honest { IfOk result (λ reply. (slot_moment L.moment system.new.log).is_honest →
         (L.moment left).is_honest) }
@@ -65,8 +67,8 @@ pub fn restart_over<R: ResourceManager + Drop, L: DecisionLog + Drop>(
     }
 }
 
-/// The same over a log in memory: no premise is left. The manager crashes, and comes up over the log that was taken out,
-/// which is what a crash leaves of it.
+/// The same over a log in memory: no premise is left. The manager crashes, and comes up over the
+/// log that was taken out, which is what a crash leaves of it.
 pub fn restart_in_memory(
     alloc: Global,
 ) -> Option<(Result<Reply, (SwapFault, MemLog)>, System<MemRm, MemLog>)>

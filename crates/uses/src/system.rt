@@ -17,8 +17,9 @@ const FIRST: Gtrid = Gtrid {
     sequence: 1,
 };
 
-/// Runs steps. However they go, no branch of a transaction is committed then beside one that is rolled back or lost: of
-/// all that happened since a right start, as that of a new system is, and of what earlier processes did and this one.
+/// Runs steps. However they go, no branch of a transaction is committed then beside one that is
+/// rolled back or lost: of all that happened since a right start, as that of a new system is, and
+/// of what earlier processes did and this one.
 pub fn run_alike<R: ResourceManager + Drop, L: DecisionLog + Drop>(
     system: &mut System<R, L>,
     steps: &[Step],
@@ -31,7 +32,8 @@ pub fn run_alike<R: ResourceManager + Drop, L: DecisionLog + Drop>(
     system.run(steps)
 }
 
-/// Does a step. With no clause: a proof that carries those of several calls takes many times as long.
+/// Does a step. With no clause: a proof that carries those of several calls takes many times as
+/// long.
 fn step<R: ResourceManager + Drop, L: DecisionLog + Drop>(system: &mut System<R, L>, step: Step) {
     let _reply = system.step(step);
 }

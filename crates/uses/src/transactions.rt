@@ -14,8 +14,8 @@ use xa_server::laws::{served_sessions_agree, served_transactions_agree};
 /// Serves two drivers, one after the other, over a log that is empty at first. Between the two
 /// there may be trouble with a branch of some transaction: somebody ended it by hand, against the
 /// log too, or its database forgot it. Every other transaction agrees as ever: none of its branches
-/// is committed beside one that is rolled back or lost. The log that is left has its row where one
-/// is committed and another is prepared still, and has none where one is rolled back or lost.
+/// is committed beside one that is rolled back or lost. The log that is left has its row if one is
+/// committed and another is prepared still, and has none if one is rolled back or lost.
 ///
 /// Of the databases it is supposed only that they obey the branch state table as far as the
 /// branches of that other transaction go.

@@ -22,7 +22,8 @@ impl Gate for Open {
     }
 }
 
-/// Runs jobs over a new log. Without a recovery that sweeps them each ends as its votes say, whatever the threads do.
+/// Runs jobs over a new log. Without a recovery that sweeps them each ends as its votes say,
+/// whatever the threads do.
 pub fn ends<R: Threads + Wait + Clock + Sync>(
     rt: &R,
     alloc: Global,
@@ -34,8 +35,8 @@ pub fn ends<R: Threads + Wait + Clock + Sync>(
     Ok(run_jobs(rt, alloc, jobs, MemLog::new(alloc), &Open)?.ends)
 }
 
-/// Runs jobs over a new log. It then has a row for each job that committed with a yes, with the branches that voted yes,
-/// and nothing else, and is of the first incarnation.
+/// Runs jobs over a new log. It then has a row for each job that committed with a yes, with the
+/// branches that voted yes, and nothing else, and is of the first incarnation.
 #[tactic(auto, using(crate::proofs::JobRows::has_just_rows))]
 pub fn logged<R: Threads + Wait + Clock + Sync>(
     rt: &R,
