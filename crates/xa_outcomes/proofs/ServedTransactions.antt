@@ -7,8 +7,9 @@ use Rattle.xa_log.specs.Contract.{Moment}
 use Rattle.xa_model.specs.Trace.{Answer, Call, Gtrid, Line}
 use Rattle.xa_monitor.specs.Seen.{Seen, Seen.Answered}
 use Rattle.xa_outcomes.proofs.ServedSessions.{all_on, all_saw}
-use Rattle.xa_outcomes.proofs.Transactions.{commit_stands, rollback_stands}
-use Rattle.xa_outcomes.specs.ServedTransactions.{ServedCommitRowStays, ServedCommitStands, ServedRollbackStands}
+use Rattle.xa_outcomes.proofs.Transactions.{commit_stands, handed_alone, rollback_stands}
+use Rattle.xa_outcomes.specs.Outcomes.{IsHandedOver}
+use Rattle.xa_outcomes.specs.ServedTransactions.{ServedCommitRowStays, ServedCommitStands, ServedHandedOverIsAlone, ServedRollbackStands}
 use Rattle.xa_outcomes.specs.Transactions.{IsCommitHeard, IsCommitRefused, TellsCommit, TellsRollback}
 use Rattle.xa_server.proofs.LeftLogs.{listed, raised_once, start_of}
 use Rattle.xa_server.proofs.SessionChains.{Laws}
@@ -45,6 +46,11 @@ module _ {L : Type 0} (moment : L → Moment) (laws : Laws L) where
   served_rollback name last f served g told =
       let saw = all_saw moment name laws (TellsRollback g) (rollback_still g) g last f served in
       rollback_stands saw.log f saw.after g (saw.some told)
+
+  pub served_alone : ServedHandedOverIsAlone moment
+  served_alone name last f served g told =
+      let saw = all_saw moment name laws (IsHandedOver g) (λ seen l c a t. t) g last f served in
+      handed_alone saw.log f saw.after g (saw.some told)
 
   pub served_row_stays : StartsHaveContent → StartRowsAreApart → ServedCommitRowStays moment
   served_row_stays have_content are_apart name last f c served g left told b same prepared =

@@ -11,14 +11,14 @@ use Rattle.xa_base.specs.declared.call.Call.TheVariants as Calls
 use Rattle.xa_base.specs.declared.code.Code.TheVariants as Codes
 use Rattle.xa_base.specs.declared.code.RbCode.{RbCode}
 use Rattle.xa_base.specs.declared.state.Standing.{Standing}
-use Rattle.xa_base.specs.declared.state.Standing.TheVariants.{Active, Committed, Completed, Forgotten, Idle, Prepared, ReadOnly, RollbackOnly, RolledBack}
+use Rattle.xa_base.specs.declared.state.Standing.TheVariants.{Active, Committed, Completed, Forgotten, Idle, Prepared, ReadOnly, RollbackOnly, RolledBack, Unstarted}
 use Rattle.xa_base.specs.declared.step.Outcome.{Outcome}
 use Rattle.xa_base.specs.declared.step.Outcome.TheVariants as Outcomes
 use Rattle.xa_base.specs.declared.step.Part.TheVariants as Part
 use Rattle.xa_model.proofs.AgreementLemmas.Alike.{are_alike}
 use Rattle.xa_model.proofs.AgreementLemmas.Ends.{final}
 use Rattle.xa_model.proofs.Invariant.{HasBegun, IsGood}
-use Rattle.xa_model.proofs.Invariant.Grows.{handed_new, told_kept}
+use Rattle.xa_model.proofs.Invariant.Grows.{handed_kept, handed_new, told_kept}
 use Rattle.xa_model.proofs.Invariant.Now.{closed_decided, closed_handed, started_back}
 use Rattle.xa_model.proofs.Invariant.OneMore.{decided_voted}
 use Rattle.xa_model.proofs.Invariant.Preservation.{always, begun_is_started, never_started}
@@ -36,8 +36,8 @@ use Rattle.xa_outcomes.proofs.Decided.{row_of_prepared}
 use Rattle.xa_outcomes.proofs.Lasting.{on_alone, right_alone, some_lasts}
 use Rattle.xa_outcomes.proofs.OneHistory.{committed_by, gone_so}
 use Rattle.xa_outcomes.proofs.Reached.{IsOneHistory, reached}
-use Rattle.xa_outcomes.specs.Outcomes.{IsDecided}
-use Rattle.xa_outcomes.specs.Transactions.{IsCommitHeard, IsCommitRefused, IsRollbackDecided, MayStandCommitted, StandsCommitted, TellsCommit, TellsRollback, ToldCommitStands, ToldRollbackStands}
+use Rattle.xa_outcomes.specs.Outcomes.{IsDecided, IsHandedOver}
+use Rattle.xa_outcomes.specs.Transactions.{HandedOverIsAlone, IsCommitHeard, IsCommitRefused, IsRollbackDecided, MayStandCommitted, StandsCommitted, TellsCommit, TellsRollback, ToldCommitStands, ToldRollbackStands}
 
 -- ** a standing that stays
 
@@ -437,3 +437,60 @@ rollback_stands log f after g was = λ b same e.
     (some_lasts (TellsRollback g) (IsRollback g) (rollback_step g) (λ p o seen told i right t. rollback_so g p o seen told i right t)
     log f after m.whole m.parts m.right was))
     b same (m.there b ∙ ap broken e)
+
+-- ** handed over
+
+handed_step : (g : Gtrid) (tr : Trace) (e : Happening) → AllRight (Then tr e) → handed_over tr g ≡ true → handed_over (Then tr e) g ≡ true
+handed_step g tr e right h = handed_kept tr e g h
+
+-- what is seen of it where the manager did this
+handed_now : (g : Gtrid) (seen : Seen) (e : Happening) → IsHandedOver g (Did seen e)
+    → ((l : Line) × (b : Branch) × (e ≡ Issued l (Calls.Commit b true)) × (gtrid_eq b.gtrid g ≡ true)) ⊎ IsHandedOver g seen
+handed_now g seen (Issued l (Calls.Commit b true)) (inl t) = inl (l, b, refl, t)
+handed_now g seen (Issued l (Calls.Commit b true)) (inr t) = inr t
+handed_now g seen _ t = inr t
+
+handed_so : (g : Gtrid) (p : Trace) (o : Origin) (seen : Seen) (told : Trace) → IsHistory o seen told → AllRight (continued_by p told) → IsHandedOver g seen
+    → handed_over (continued_by p told) g ≡ true
+handed_so g p o _ _ (Starts held) right t = absurd t
+handed_so g p o _ _ (Does seen tr e i) right t = by (handed_so g p o seen tr i right.0) (handed_now g seen e t)
+  where
+    by : (IsHandedOver g seen → handed_over (continued_by p tr) g ≡ true)
+        → ((l : Line) × (b : Branch) × (e ≡ Issued l (Calls.Commit b true)) × (gtrid_eq b.gtrid g ≡ true)) ⊎ IsHandedOver g seen
+        → handed_over (Then (continued_by p tr) e) g ≡ true
+    by rest (inl (l, b, is, same)) =
+        ap (λ z. handed_over (Then (continued_by p tr) z) g) is ∙ or_left (gtrid_eq b.gtrid g) (handed_over (continued_by p tr) g) same
+    by rest (inr earlier) = handed_kept (continued_by p tr) e g (rest earlier)
+handed_so g p o _ _ (Hears seen tr at l c a i alone) right t =
+    on_alone (λ z. handed_over z g ≡ true) (handed_step g) p tr at alone right.0.0 (handed_so g p o seen tr i (right_alone p tr at alone right.0.0) t)
+handed_so g p o _ _ (Loses seen tr l c i) right t = handed_so g p o seen tr i right.0 t
+handed_so g p o _ _ (LosesAnswer seen tr at l c a i alone) right t =
+    on_alone (λ z. handed_over z g ≡ true) (handed_step g) p tr at alone right.0.0 (handed_so g p o seen tr i (right_alone p tr at alone right.0.0) t)
+
+unstarted_whole : (s : Standing) → broken s ≡ Unstarted → s ≡ Unstarted
+unstarted_whole Active e = absurd (cc)
+unstarted_whole Idle e = absurd (cc)
+unstarted_whole RollbackOnly e = absurd (cc)
+unstarted_whole s e = e
+
+pub handed_alone : HandedOverIsAlone
+handed_alone log f after g was = λ b c of_b of_c begun_b begun_c.
+    (always (gone m.whole) all_gone).handed_one b c (ap (handed_over (gone m.whole)) of_b ∙ handed) (of_c ∙ sym of_b) (there b begun_b) (there c begun_c)
+  where
+    m : IsOneHistory log f after
+    m = reached log f after
+
+    all_gone : AllRight (gone m.whole)
+    all_gone = gone_so log f after m
+
+    handed : handed_over (gone m.whole) g ≡ true
+    handed =
+        some_lasts (IsHandedOver g) (λ z. handed_over z g ≡ true) (handed_step g) (λ p o seen told i right t. handed_so g p o seen told i right t)
+        log f after m.whole m.parts m.right was
+
+    there : (b : Branch) → (f b ≡ Unstarted → ⊥) → started (gone m.whole) b ≡ true
+    there b begun = by (started (gone m.whole) b) refl
+      where
+        by : (t : Bool) → started (gone m.whole) b ≡ t → t ≡ true
+        by true now = refl
+        by false never = absurd (begun (unstarted_whole (f b) (sym (m.there b) ∙ never_started (gone m.whole) b all_gone never)))

@@ -8,7 +8,8 @@ use Rattle.xa_base.specs.declared.state.Standing.TheVariants.{Prepared}
 use Rattle.xa_log.specs.Content.{Content}
 use Rattle.xa_log.specs.Contract.{Moment}
 use Rattle.xa_model.specs.Trace.{Branch}
-use Rattle.xa_outcomes.specs.Transactions.{HasNoCommit, MayStandCommitted, TellsCommit, TellsRollback}
+use Rattle.xa_outcomes.specs.Outcomes.{IsHandedOver}
+use Rattle.xa_outcomes.specs.Transactions.{HasNoCommit, HasOneBranch, MayStandCommitted, TellsCommit, TellsRollback}
 use Rattle.xa_server.specs.Sessions.{AreServed, AreServed.Between, AreServed.NoneYet, AreServed.OneMore}
 use Rattle.xa_server.specs.declared.server.Server.{Server}
 use Rattle.xa_session.specs.Logging.{LeavesContent}
@@ -51,3 +52,19 @@ abbrev pub ServedRollbackStands : {L : Type 0} → (L → Moment) → Type 0
 ServedRollbackStands {L} moment =
     (name : List ℕ) (last : Option (Server L)) (f : Branch → Standing) (served : AreServed moment name last f) (g : Gtrid)
     → WasToldRollbackServed moment name g last f served → HasNoCommit f g
+
+-- ** handed over
+
+-- one of them told that an xa_commit in one phase of a branch of it waits
+abbrev pub WasToldHandedOver : {L : Type 0} (moment : L → Moment) (name : List ℕ) (g : Gtrid) (last : Option (Server L)) (f : Branch → Standing)
+    → AreServed moment name last f → Type 0
+WasToldHandedOver moment name g _ _ NoneYet = ⊥
+WasToldHandedOver moment name g _ _ (OneMore last from to handed o told seen now left done cut before handed_on is is_left honest may) =
+    IsHandedOver g told ⊎ WasToldHandedOver moment name g last from before
+WasToldHandedOver moment name g _ _ (Between last from to d how before was final) = WasToldHandedOver moment name g last from before
+
+-- So no more than one branch of it ever began.
+abbrev pub ServedHandedOverIsAlone : {L : Type 0} → (L → Moment) → Type 0
+ServedHandedOverIsAlone {L} moment =
+    (name : List ℕ) (last : Option (Server L)) (f : Branch → Standing) (served : AreServed moment name last f) (g : Gtrid)
+    → WasToldHandedOver moment name g last f served → HasOneBranch f g

@@ -13,7 +13,7 @@ use Rattle.xa_model.specs.Facts.{lists_row}
 use Rattle.xa_model.specs.Trace.{Branch, Happening.Decided, Origin}
 use Rattle.xa_monitor.specs.Seen.{Seen, Seen.Answered, Seen.Did, Seen.Lost, Seen.Start}
 use Rattle.xa_monitor.specs.Sessions.{AfterSessions, AfterSessions.Between, AfterSessions.NoneYet, AfterSessions.OneMore, Finds, IsCommitting, Log}
-use Rattle.xa_outcomes.specs.Outcomes.{IsDecided}
+use Rattle.xa_outcomes.specs.Outcomes.{IsDecided, IsHandedOver}
 
 -- ** what is seen of it
 
@@ -68,6 +68,11 @@ pub record StandsCommitted (log : Log) (f : Branch → Standing) (g : Gtrid) : T
 abbrev pub HasNoCommit : (Branch → Standing) → Gtrid → Type 0
 HasNoCommit f g = (b : Branch) → b.gtrid ≡ g → f b ≡ Committed → ⊥
 
+-- no more than one branch of it ever began
+abbrev pub HasOneBranch : (Branch → Standing) → Gtrid → Type 0
+HasOneBranch f g =
+    (b c : Branch) → b.gtrid ≡ g → c.gtrid ≡ g → (f b ≡ Unstarted → ⊥) → (f c ≡ Unstarted → ⊥) → b ≡ c
+
 -- ** after all sessions
 
 -- one of these sessions told that it is committed
@@ -87,3 +92,12 @@ WasToldRollback g _ _ (Between log from to d how before was final) = WasToldRoll
 
 abbrev pub ToldRollbackStands : Type 0
 ToldRollbackStands = (log : Log) (f : Branch → Standing) (after : AfterSessions log f) (g : Gtrid) → WasToldRollback g log f after → HasNoCommit f g
+
+-- one of them asked to commit it in one phase
+abbrev pub WasHandedOver : Gtrid → (log : Log) (f : Branch → Standing) → AfterSessions log f → Type 0
+WasHandedOver g _ _ (NoneYet i) = ⊥
+WasHandedOver g _ _ (OneMore log from to o seen fails done cut before found session may) = IsHandedOver g seen ⊎ WasHandedOver g log from before
+WasHandedOver g _ _ (Between log from to d how before was final) = WasHandedOver g log from before
+
+abbrev pub HandedOverIsAlone : Type 0
+HandedOverIsAlone = (log : Log) (f : Branch → Standing) (after : AfterSessions log f) (g : Gtrid) → WasHandedOver g log f after → HasOneBranch f g

@@ -8,6 +8,7 @@ ghost use Rattle.xa_outcomes.specs.Served.{FoundRowsWillCommit, NeverToldIsNever
 ghost use Rattle.xa_outcomes.specs.Served.{OwedTellsOfRows, ServedSessionsAreParts, ToldDecidedWillCommit};
 ghost use Rattle.xa_outcomes.specs.Served.{ToldHeuristicEndsStay, UntoldIsLeftUndecided};
 ghost use Rattle.xa_outcomes.specs.ServedTransactions.{ServedCommitRowStays, ServedCommitStands};
+ghost use Rattle.xa_outcomes.specs.ServedTransactions.{ServedHandedOverIsAlone};
 ghost use Rattle.xa_outcomes.specs.ServedTransactions.{ServedRollbackStands};
 
 use xa_log::DecisionLog;
@@ -79,11 +80,13 @@ pub fn told_outcomes_stand<L: DecisionLog + Drop>()
 ///   ended it by itself; or it only read, or never began. None is ever rolled back or lost;
 /// - `row_stays`: the log that is left then has the row, as long as one stands prepared;
 /// - `rolled_back`: once a rollback was replied by `decided`, or an xa_commit of a branch was
-///   answered by an XA_RB code, as it may be in one phase, no branch of it is ever committed.
+///   answered by an XA_RB code, as it may be in one phase, no branch of it is ever committed;
+/// - `alone`: once an xa_commit in one phase of a branch waited, no other branch of it ever began.
 pub fn told_transactions_stand<L: DecisionLog + Drop>()
     ensures committed { ServedCommitStands L.moment }
     ensures row_stays { ServedCommitRowStays L.moment }
     ensures rolled_back { ServedRollbackStands L.moment }
+    ensures alone { ServedHandedOverIsAlone L.moment }
 {
     starts_are_histories();
     starts_find_the_log::<L>();

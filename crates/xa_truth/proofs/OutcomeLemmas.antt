@@ -7,6 +7,7 @@ use Rattle.std.specs.List.{list_any}
 use Rattle.std.specs.Prelude.{All, MatchBool, codes}
 use Rattle.xa_base.specs.declared.branch.Branch.{Branch}
 use Rattle.xa_base.specs.declared.branch.Gtrid.{Gtrid}
+use Rattle.xa_base.specs.declared.call.Call.TheVariants as Calls
 use Rattle.xa_base.specs.declared.state.Standing.{Standing}
 use Rattle.xa_base.specs.declared.step.Outcome.{Outcome}
 use Rattle.xa_base.specs.declared.step.Outcome.TheVariants as outcomes
@@ -26,11 +27,11 @@ use Rattle.xa_conduct.specs.declared.transaction.Transaction.{Transaction}
 use Rattle.xa_log.specs.Content.{Content}
 use Rattle.xa_log.specs.Contract.{Moment}
 use Rattle.xa_model.specs.Promises.Agreement.{IsUndone}
-use Rattle.xa_model.specs.Trace.{Answer, Call, Happening, Line, Origin, line}
+use Rattle.xa_model.specs.Trace.{Answer, Call, Happening, Happening.Issued, Line, Origin, line}
 use Rattle.xa_monitor.specs.Seen.{Seen, Seen.Answered, Seen.Did, Seen.Lost, Seen.Start}
 use Rattle.xa_outcomes.proofs.ServedTransactions.{heard_still, refused_still}
-use Rattle.xa_outcomes.specs.Outcomes.{IsDecided}
-use Rattle.xa_outcomes.specs.ServedTransactions.{ServedCommitRowStays, ServedCommitStands, ServedRollbackStands, WasToldCommitServed, WasToldRollbackServed}
+use Rattle.xa_outcomes.specs.Outcomes.{IsDecided, IsHandedOver}
+use Rattle.xa_outcomes.specs.ServedTransactions.{ServedCommitRowStays, ServedCommitStands, ServedHandedOverIsAlone, ServedRollbackStands, WasToldCommitServed, WasToldHandedOver, WasToldRollbackServed}
 use Rattle.xa_outcomes.specs.Transactions.{IsCommitHeard, IsCommitRefused, IsRollbackDecided, MayStandCommitted, TellsCommit, TellsRollback}
 use Rattle.xa_requests.specs.declared.request.Request.{Request}
 use Rattle.xa_requests.specs.declared.request.Request.TheVariants as requests
@@ -297,10 +298,30 @@ module _ {L : Type 0} (moment : L → Moment) (name : List ℕ) where
       inr (some_noted t Saw so last from before earlier)
   some_noted t Saw so _ _ (Between last from to d how before was_prepared final) was = some_noted t Saw so last from before was
 
+-- ** of which nobody knows
+
+-- the xa_commit in one phase waited
+issued_handed : (g : Gtrid) (l : Line) (seen : Seen) → IsIssuedAtOnce g l seen → IsHandedOver g seen
+issued_handed g l Start s = absurd s
+issued_handed g l (Did seen (Issued m (Calls.Commit b true))) (inl here) = inl here.0
+issued_handed g l (Did seen (Issued m (Calls.Commit b true))) (inr earlier) = inr (issued_handed g l seen earlier)
+issued_handed g l (Did seen e) s = issued_handed g l seen s
+issued_handed g l (Answered seen m c a) s = issued_handed g l seen s
+issued_handed g l (Lost seen m c) s = issued_handed g l seen s
+
+unknown_handed : {L : Type 0} (moment : L → Moment) (name : List ℕ) (g : Gtrid) (last : Option (Server L)) (f : Branch → Standing)
+    (served : AreServed moment name last f) → WasLeftUnknown moment name g last f served → WasToldHandedOver moment name g last f served
+unknown_handed moment name g _ _ NoneYet was = absurd was
+unknown_handed moment name g _ _ (OneMore last from to handed o told seen now left done cut before handed_on is is_left honest may) (inl left_so) =
+    inl (issued_handed g left_so.line told left_so.issued)
+unknown_handed moment name g _ _ (OneMore last from to handed o told seen now left done cut before handed_on is is_left honest may) (inr earlier) =
+    inr (unknown_handed moment name g last from before earlier)
+unknown_handed moment name g _ _ (Between last from to d how before was_prepared final) was = unknown_handed moment name g last from before was
+
 -- ** after all sessions
 
 module _ {L : Type 0} (moment : L → Moment) (commits : ServedCommitStands moment) (row_stays : ServedCommitRowStays moment)
-    (rolls_back : ServedRollbackStands moment) where
+    (rolls_back : ServedRollbackStands moment) (is_alone : ServedHandedOverIsAlone moment) where
   committed_there : (name : List ℕ) (last : Server L) (f : Branch → Standing) (c : Content) (served : AreServed moment name (Some last) f) (g : Gtrid)
       → LeavesContent moment last.session.manager c → WasToldCommitServed moment name g (Some last) f served → IsCommittedInLog f c g
   committed_there name last f c served g left told =
@@ -320,6 +341,8 @@ module _ {L : Type 0} (moment : L → Moment) (commits : ServedCommitStands mome
               committed = λ w. committed_there name last f c served s.gtrid left (s.committed w);
               rolled_back = λ w. rolls_back name (Some last) f served s.gtrid (s.rolled_back w);
               unknown = s.unknown;
+              alone = λ w.
+                  is_alone name (Some last) f served s.gtrid (unknown_handed moment name s.gtrid (Some last) f served (s.unknown w));
             })
             saw.replies saw.each;
       }
@@ -347,13 +370,15 @@ module _ {L : Type 0} (moment : L → Moment) (commits : ServedCommitStands mome
           subst (λ h. TellsRollback h told) (saw.same fit) saw.saw)
           (Some last) f served was)
       by standings.Unknown is =
+          let unknown =
           some_noted moment name t (LeavesUnknown t.gtrid)
           (λ handed o told now of rests.
           let saw =
           saw_unknown moment name handed o told now of t.gtrid t.thread
           (subst (OutcomeRests (was_done (lines_read name of.lines) of.replies) t.gtrid t.thread) is rests.outcome) in
           subst (λ h. LeavesUnknown h told) (saw.same fit) saw.saw)
-          (Some last) f served was
+          (Some last) f served was in
+          (unknown, is_alone name (Some last) f served t.gtrid (unknown_handed moment name t.gtrid (Some last) f served unknown))
       by standings.Idle is = tt
       by standings.Open is = tt
       by standings.Ready is = tt

@@ -15,7 +15,7 @@ use Rattle.xa_conduct.specs.declared.transaction.Standing.TheVariants as standin
 use Rattle.xa_conduct.specs.declared.transaction.Transaction.{Transaction}
 use Rattle.xa_log.specs.Content.{Content}
 use Rattle.xa_log.specs.Contract.{Moment}
-use Rattle.xa_outcomes.specs.Transactions.{HasNoCommit, MayStandCommitted}
+use Rattle.xa_outcomes.specs.Transactions.{HasNoCommit, HasOneBranch, MayStandCommitted}
 use Rattle.xa_requests.specs.declared.request.Request.{Request}
 use Rattle.xa_requests.specs.declared.response.Response.{Response}
 use Rattle.xa_server.specs.NamedLines.{lines_read}
@@ -66,6 +66,7 @@ module _ {L : Type 0} (moment : L → Moment) (name : List ℕ) where
       pub committed : TellsCommitted text → IsCommittedInLog f log gtrid
       pub rolled_back : TellsRolledBack text → HasNoCommit f gtrid
       pub unknown : TellsUnknown text → WasLeftUnknown moment name gtrid last f served
+      pub alone : TellsUnknown text → HasOneBranch f gtrid
 
     -- what each of the replies to a line tells
     pub record RepliesAreSo (text : List ℕ) : Type 0 where
@@ -77,7 +78,7 @@ module _ {L : Type 0} (moment : L → Moment) (name : List ℕ) where
     abbrev pub NoteIsSo : Gtrid → NotedStanding → Type 0
     NoteIsSo g standings.Committed = IsCommittedInLog f log g
     NoteIsSo g (standings.RolledBack why) = HasNoCommit f g
-    NoteIsSo g standings.Unknown = WasLeftUnknown moment name g last f served
+    NoteIsSo g standings.Unknown = WasLeftUnknown moment name g last f served × HasOneBranch f g
     NoteIsSo g _ = Unit {0}
 
 -- ** after all sessions

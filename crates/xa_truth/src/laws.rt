@@ -18,7 +18,7 @@ use xa_server::laws::served_sessions_agree;
 ///   or never began. None is ever rolled back or lost. Where it tells that one is rolled back
 ///   (`rolled-back`, `rollback`, `undo`), no branch of it is ever committed. Where it tells that
 ///   nobody knows (`unknown`), its branch was to be committed in one phase, and the line on which
-///   that call waited was lost in the same session;
+///   that call waited was lost in the same session; no other branch of it ever began;
 /// - `noted`: so is what a conductor has noted of a transaction, by its name;
 /// - `decided`: of a transaction that a line of one of these sessions decided to commit, no branch
 ///   is ever rolled back or lost; of one that was decided to roll back, none is ever committed.

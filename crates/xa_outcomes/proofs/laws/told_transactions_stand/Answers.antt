@@ -1,4 +1,4 @@
-use Rattle.xa_outcomes.proofs.ServedTransactions.{served_commit, served_rollback, served_row_stays}
+use Rattle.xa_outcomes.proofs.ServedTransactions.{served_alone, served_commit, served_rollback, served_row_stays}
 use Rattle.xa_server.proofs.SessionChains.{Laws}
 use Rattle.xa_outcomes.proofs.laws.told_transactions_stand.Goals as goal
 
@@ -19,4 +19,5 @@ returns g c =
       committed = served_commit moment laws;
       row_stays = served_row_stays moment laws starts.content starts.apart;
       rolled_back = served_rollback moment laws;
+      alone = served_alone moment laws;
     }

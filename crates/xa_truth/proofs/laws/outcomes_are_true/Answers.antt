@@ -6,7 +6,7 @@ returns g c =
     let moment = g.L.DecisionLog.moment in
     let stand = c.told_transactions_stand.ensures in
     record {
-      told = replies_true moment stand.committed stand.row_stays stand.rolled_back;
-      noted = notes_true moment stand.committed stand.row_stays stand.rolled_back;
+      told = replies_true moment stand.committed stand.row_stays stand.rolled_back stand.alone;
+      noted = notes_true moment stand.committed stand.row_stays stand.rolled_back stand.alone;
       decided = decisions_true moment stand.committed stand.rolled_back;
     }
