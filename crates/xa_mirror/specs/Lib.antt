@@ -1,0 +1,2 @@
+pub mod HistoryWithout
+pub mod Mirrors

@@ -1,0 +1,50 @@
+//! What is so of sessions among which a log was made anew of a mirror. These functions do nothing:
+//! each contract is a theorem.
+
+ghost use Rattle.xa_mirror.specs.Mirrors.{AnewAgree, AnewDecisionsStand, AnewUndecidedStays};
+ghost use Rattle.xa_mirror.specs.HistoryWithout.{DecisionsMayBeLeftOut};
+ghost use Rattle.xa_mirror.specs.Mirrors.{CommittedAreOver, FailoversAgree, ServedAreServedAnew};
+
+use xa_log::DecisionLog;
+use xa_session::laws::{sessions_are_explained, starts_find_the_log, waiting_calls_are_tracked};
+use xa_tm::laws::starts_are_histories;
+
+/// Sessions of a manager one after another agree on each transaction, also if the log was lost
+/// between two of them, once or more, and made anew of a mirror (`AreServedAnew`). Of the mirror it
+/// is supposed that it may lack the row of a transaction none of whose branches is committed, and
+/// may have that of one whose branches are all over; that a row is the same in both; and that its
+/// incarnation isn't smaller (`IsMirrorFor`).
+///
+/// - `agree`: none of the transaction's branches is committed beside one that is rolled back or
+///   lost, and the log that is left decides of what is prepared still;
+/// - `decided`: if a log that was left, or that was made of a mirror, has its row, and no mirror
+///   since then lacked it as the log still had it, none of its branches is ever rolled back or
+///   lost, and the row is there as long as one is prepared;
+/// - `undecided`: if such a log has none, and no branch of it is committed, none ever is, as long as
+///   no mirror has the row;
+/// - `over`: if the log that is left has no row of it, and one of its branches is committed, all of
+///   them are over;
+/// - `one_log`: sessions over one log, which was never lost, are such;
+/// - `failover`: of all transactions at once: sessions over a log, a log that is made anew of its
+///   mirror, and a session over that.
+pub fn mirrors_go_on<L: DecisionLog + Drop>()
+    ensures agree { AnewAgree L.moment }
+    ensures decided { AnewDecisionsStand L.moment }
+    ensures undecided { AnewUndecidedStays L.moment }
+    ensures over { CommittedAreOver L.moment }
+    ensures one_log { ServedAreServedAnew L.moment }
+    ensures failover { FailoversAgree L.moment }
+{
+    starts_are_histories();
+    starts_find_the_log::<L>();
+    sessions_are_explained::<L>();
+    waiting_calls_are_tracked::<L>();
+}
+
+/// A decision to commit of which nothing was done may be left out of a right history: none of an
+/// xa_commit of a branch of the transaction was issued behind it, nor of a resolved page, and the
+/// row didn't leave the log. What is left is right, has each branch where it stood, and the rows and
+/// records but for that one: it is as if the log had failed in it.
+pub fn decisions_may_be_left_out()
+    ensures { DecisionsMayBeLeftOut }
+{}
