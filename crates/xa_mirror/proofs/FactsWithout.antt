@@ -1,10 +1,10 @@
--- What a history says without a decision: all that it says of other transactions, and of what was called and answered.
-use Rattle.std.proofs.Common.{◌≡◌, ℕ, ◌+◌, ◌-◌, List, [], ◌∷◌, ◌++◌, length, Bool, true, false, not, ◌&&◌, ◌||◌, ◌==◌, refl, sym, ap, ◌∙◌, subst}
+-- What a history says without a decision: all that it says of other transactions, and of what was
+-- called and answered.
+use Rattle.std.proofs.Common.{◌≡◌, ℕ, ◌+◌, ◌-◌, List, [], ◌∷◌, ◌++◌, length, Bool, true, false, ◌&&◌, ◌||◌, ◌==◌, refl, sym, ap, ◌∙◌}
 use Rattle.std.proofs.lemmas.Bool.{eq-eqb, eqb-true}
 use Rattle.std.specs.Prelude.{filter, if◌then◌else◌, Option, Some, None, slice_get}
-use Rattle.xa_base.proofs.BranchKeys.{gtrid_eq-refl, gtrid_eq-true}
 use Rattle.xa_base.specs.Branch.{branch_eq, gtrid_eq}
-use Rattle.xa_base.specs.StateTable.{asks_of, broken, completed, on}
+use Rattle.xa_base.specs.StateTable.{asks_of, broken, completed}
 use Rattle.xa_base.specs.declared.answer.Answer.TheVariants.{Page, Ret}
 use Rattle.xa_base.specs.declared.call.Call.TheVariants as Calls
 use Rattle.xa_base.specs.declared.code.Code.TheVariants as Codes
@@ -13,9 +13,9 @@ use Rattle.xa_base.specs.declared.step.Part.TheVariants as Part
 use Rattle.xa_mirror.proofs.RowsWithout.{change_without, in_any_order, records_after, rows_of_others, rows_without_after, unchanged, without_first, without_none}
 use Rattle.xa_mirror.specs.HistoryWithout.{fault_without, history_without}
 use Rattle.xa_model.proofs.ProcessLemmas.SameParts.{breaks_is}
-use Rattle.xa_model.specs.Facts.{Change.AddRows, begun, branches, breaks, claimed, decided_so, doubt, fault_change, handed_over, heard, heuristic_rows, heuristics_changed, incarnation, live, log, new_heard, new_taken, next_answer, page, page_after, record_of, record_of_next, retries, row_for, rows_changed, says_yes, says_yes_in, sequence, standing, started, takes_part, taken, up, vote, was_told, was_told_lately, without}
+use Rattle.xa_model.specs.Facts.{Change.AddRows, begun, branches, breaks, doubt, fault_change, handed_over, heard, heuristic_rows, heuristics_changed, incarnation, log, new_heard, new_taken, next_answer, page, page_after, record_of, record_of_next, retries, row_for, rows_changed, says_yes, says_yes_in, sequence, standing, started, takes_part, taken, up, vote, was_told, was_told_lately, without}
 use Rattle.xa_model.specs.Facts.Standings.{moved_by}
-use Rattle.xa_model.specs.Trace.{Answer, Branch, Call, Fault, Fault.InDecide, Fault.InDone, Fault.InHear, Fault.InResolve, Fault.InRestart, Gtrid, Happening, Happening.Begun, Happening.Claimed, Happening.CompletedAlone, Happening.Crashed, Happening.Decided, Happening.Done, Happening.Failed, Happening.Heard, Happening.Issued, Happening.Nothing, Happening.PutOff, Happening.Resolved, Happening.ResolvedOpen, Happening.Restarted, Happening.Took, Happening.Voted, Line, Outcome as AnOutcome, Trace, Trace.From, Trace.Then, line, line_eq, line_of}
+use Rattle.xa_model.specs.Trace.{Answer, Branch, Call, Fault, Fault.InDecide, Fault.InDone, Fault.InHear, Fault.InResolve, Fault.InRestart, Gtrid, Happening, Happening.Begun, Happening.CompletedAlone, Happening.Crashed, Happening.Decided, Happening.Done, Happening.Failed, Happening.Heard, Happening.Issued, Happening.Nothing, Happening.PutOff, Happening.Restarted, Happening.Took, Happening.Voted, Line, Trace, Trace.From, Trace.Then, line, line_of}
 
 -- no record is a row
 record_made : (g : Gtrid) (c : Call) (a : Answer) → change_without g (record_of c a) ≡ record_of c a

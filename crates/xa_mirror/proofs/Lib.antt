@@ -1,7 +1,10 @@
+mod Copies
 mod FactsWithout
+mod IssuedCommits
 mod LinesWithout
 mod MirroredRows
 mod OneSession
 mod RightWithout
 mod RowsWithout
 mod ServedAnew
+mod ToldMirrors

@@ -1,17 +1,18 @@
--- What a history says of transactions without a decision of which nothing was done, and which calls it issues.
-use Rattle.std.proofs.Common.{◌≡◌, ◌⊎◌, inl, inr, ℕ, List, [], ◌∷◌, ◌++◌, length, Bool, true, false, not, ◌&&◌, ◌||◌, refl, sym, ap, ◌∙◌, subst}
-use Rattle.std.proofs.lemmas.Bool.{false_from_ne_true, or_left, or_parts, or_right}
-use Rattle.std.specs.Prelude.{if◌then◌else◌, Option, slice_get}
-use Rattle.xa_base.proofs.BranchKeys.{gtrid_eq-refl, gtrid_eq-true}
+-- What a history says of transactions without a decision about which nothing was done, and which
+-- calls it issues.
+use Rattle.std.proofs.Common.{◌≡◌, ◌⊎◌, inl, inr, List, [], ◌∷◌, ◌++◌, length, Bool, true, false, not, ◌&&◌, ◌||◌, refl, sym, ap, ◌∙◌}
+use Rattle.std.proofs.lemmas.Bool.{false_from_ne_true, or_left, or_parts}
+use Rattle.std.specs.Prelude.{if◌then◌else◌, slice_get}
+use Rattle.xa_base.proofs.BranchKeys.{gtrid_eq-true}
 use Rattle.xa_base.specs.Branch.{gtrid_eq}
 use Rattle.xa_base.specs.StateTable.{on}
 use Rattle.xa_base.specs.declared.step.Outcome.TheVariants as Outcome
 use Rattle.xa_base.specs.declared.step.Part.TheVariants as Part
 use Rattle.xa_mirror.proofs.FactsWithout.{begun_is, broken_is, either, handed_is, log_is, page_is, records_are, taken_is, up_is}
 use Rattle.xa_mirror.proofs.RowsWithout.{none_listed, others_listed}
-use Rattle.xa_mirror.specs.HistoryWithout.{IsToCommit, IsUntouched, history_without}
-use Rattle.xa_model.specs.Facts.{begun, breaks, claimed, decided_so, handed_over, has_record, has_row, issued, lists_one_of, lists_row, live, log, new_calls, next_call, page, recorded, resolving_calls, taken, up}
-use Rattle.xa_model.specs.Trace.{Branch, Call, Gtrid, Happening, Happening.Claimed, Happening.Crashed, Happening.Decided, Happening.Failed, Happening.Issued, Happening.Nothing, Happening.Resolved, Happening.ResolvedOpen, Happening.Restarted, Kind.Commit, Kind.Forget, Kind.Rollback, Line, Name, Name.Foreign, Name.Ours, Trace, Trace.From, Trace.Then, line, line_eq}
+use Rattle.xa_mirror.specs.HistoryWithout.{HasDecision, IsUntouched, history_without}
+use Rattle.xa_model.specs.Facts.{begun, claimed, decided_so, handed_over, has_record, has_row, issued, lists_one_of, lists_row, live, log, new_calls, next_call, page, recorded, resolving_calls}
+use Rattle.xa_model.specs.Trace.{Branch, Gtrid, Happening.Claimed, Happening.Crashed, Happening.Decided, Happening.Failed, Happening.Nothing, Happening.Resolved, Happening.ResolvedOpen, Happening.Restarted, Kind.Commit, Kind.Forget, Kind.Rollback, Line, Name, Name.Foreign, Name.Ours, Trace, Trace.From, Trace.Then, line, line_eq}
 
 clash : {t : Bool} → t ≡ true → t ≡ false → ⊥
 clash p q = cc
@@ -125,7 +126,7 @@ module _ (g : Gtrid) where
   -- ** calls
 
   -- recovery issues the same calls
-  same_calls : (tr : Trace) → IsUntouched g tr → (names : List Name) → (IsToCommit tr g → lists_one_of g names ≡ false)
+  same_calls : (tr : Trace) → IsUntouched g tr → (names : List Name) → (HasDecision tr g → lists_one_of g names ≡ false)
       → resolving_calls (o tr) names ≡ resolving_calls tr names
   same_calls tr still [] none = refl
   same_calls tr still (Foreign x ∷ names) none = same_calls tr still names none

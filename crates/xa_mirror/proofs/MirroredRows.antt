@@ -1,5 +1,6 @@
--- A start over a log that was made of a mirror: where the branches of a transaction stand goes on by what it has of the transaction.
-use Rattle.std.proofs.Common.{◌≡◌, ◌<◌, ◌≤◌, ◌⊎◌, inl, inr, ℕ, List, [], ◌∷◌, Bool, true, false, Option, Some, None, refl, sym, ap, ◌∙◌, subst, arith}
+-- A start over a log that was made of a mirror: where the branches of a transaction stand goes on
+-- by what it has of the transaction.
+use Rattle.std.proofs.Common.{◌≡◌, ◌≤◌, inl, inr, List, [], ◌∷◌, Bool, true, false, Option, Some, None, refl, sym, ap, ◌∙◌, subst, arith}
 use Rattle.std.proofs.lemmas.Bool.{true≢false}
 use Rattle.std.specs.FinMap.{get}
 use Rattle.std.specs.List.{list_any}
@@ -124,6 +125,11 @@ all_over g f b (Only_one d others) q e = λ c r. by c r (branch_eq c d) refl
     by : (c : Branch) → c.gtrid ≡ g → (t : Bool) → branch_eq c d ≡ t → IsOver (f c)
     by c r true p = committed_over (f c) (ap (λ x. broken (f x)) (branch_eq-true c d p ∙ sym (begun (branch_eq b d) refl)) ∙ e)
     by c r false p = unstarted_over (f c) (others c r (apart c p))
+
+-- and so if it is to commit
+pub decided_over : (g : Gtrid) (f : Branch → Standing) (o : Origin) → lists_row o.rows g ≡ false → Commits g o (λ c. broken (f c)) → AllAreOver g f
+decided_over g f o none (inl row) = absurd (true≢false (sym row ∙ none))
+decided_over g f o none (inr over) = λ b q. over_if (f b) (over.1 b q).0 (over.1 b q).1
 
 -- ** a start over the mirror
 

@@ -1,16 +1,13 @@
--- A session passes on what is known of one transaction, as it does in `OwnSessions` of `xa_server`, whose lemma is that crate's own.
-use Rattle.std.proofs.Common.{◌≡◌, ◌⊎◌, inl, inr, ℕ, List, [], ◌∷◌, ◌++◌, Bool, true, false, Option, Some, None, refl, sym, ap, ◌∙◌, subst, arith}
-use Rattle.std.specs.FinMap.{get}
-use Rattle.std.specs.Prelude.{is_some}
+-- A session passes on what is known of one transaction, as it does in `OwnSessions` of
+-- `xa_server`, whose lemma is that crate's own.
+use Rattle.std.proofs.Common.{◌≡◌, ◌⊎◌, inl, inr, ℕ, List, [], ◌∷◌, ◌++◌, Bool, true, false, Option, Some, None, refl, sym, ap, ◌∙◌, subst}
 use Rattle.xa_base.specs.Branch.{branch_eq}
 use Rattle.xa_base.specs.StateTable.{Kind, State.S3, answer, asks_of, broken, moved, state_of}
 use Rattle.xa_base.specs.declared.answer.Answer.TheVariants.{Ret}
 use Rattle.xa_base.specs.declared.state.Standing.{Standing}
-use Rattle.xa_base.specs.declared.state.Standing.TheVariants.{Active, Committed, Idle, RollbackOnly, Completed, Prepared, Unstarted}
+use Rattle.xa_base.specs.declared.state.Standing.TheVariants.{Completed, Prepared}
 use Rattle.xa_log.specs.Content.{Content}
 use Rattle.xa_log.specs.Contract.{Moment}
-use Rattle.xa_model.specs.Facts.{has_record, lists_row}
-use Rattle.xa_model.specs.Promises.Agreement.{IsUndone}
 use Rattle.xa_model.specs.Trace.{Branch, Call, Code, Fault, Gtrid, How, Line, Origin, line}
 use Rattle.xa_monitor.proofs.Chains.{untold}
 use Rattle.xa_monitor.specs.Agreement.{IsLineOf, WaitsAt}
@@ -20,25 +17,19 @@ use Rattle.xa_monitor.specs.Seen.{Seen, Seen.Answered}
 use Rattle.xa_monitor.specs.Sessions.{Finds, IsSession as Is_session, Log.LeftBy, MayFail}
 use Rattle.xa_monitor.specs.Standings.{Comes, Explains, ExplainsAsked, ExplainsIf, MayStand}
 use Rattle.xa_server.proofs.Failures.{IsFailedToHear, failed_in_answer, failed_in_request}
-use Rattle.xa_server.proofs.LeftLogs.{listed, raised_once, start_of}
 use Rattle.xa_server.proofs.LogLemmas.{same_keeps}
-use Rattle.xa_server.proofs.LogStarts.{none_there}
-use Rattle.xa_server.proofs.OlderBranches.{HasNoRow.None_committed}
-use Rattle.xa_server.proofs.OwnBranches.{AllMay, Commits, NeverCommits, PassesOn, Stands, all_may, broken_turn, commits_kept, commits_row, is_explained, row_decides, same_passed, session_passes, stand_alike, stood, stood_found, stood_own, turned_commits, turned_never, turned_stands, undone_no_row}
+use Rattle.xa_server.proofs.OwnBranches.{AllMay, PassesOn, Stands, all_may, is_explained, same_passed, session_passes, stood, stood_found, stood_own}
 use Rattle.xa_server.proofs.OwnSessions.{SessionPasses, StartsStand}
 use Rattle.xa_server.proofs.SessionChains.{Laws, knows, line_is, old, on_branches, raised, tied}
-use Rattle.xa_server.specs.Sessions.{HoldsLeft, IsEmptyLog, IsSession, IsSessionLeft, IsSessionLeft.AfterLine, IsSessionLeft.InAnswer, IsSessionLeft.InRequest}
-use Rattle.xa_server.specs.Transactions.{AreServedFor, AreServedFor.Between, AreServedFor.NoneYet, AreServedFor.OneMore, IsAlike, IsNeverCommitted, IsToCommit, MayStandFor, WasLeftDecided, WasLeftUndecided}
+use Rattle.xa_server.specs.Sessions.{HoldsLeft, IsSession, IsSessionLeft, IsSessionLeft.AfterLine, IsSessionLeft.InAnswer, IsSessionLeft.InRequest}
+use Rattle.xa_server.specs.Transactions.{MayStandFor}
 use Rattle.xa_server.specs.declared.server.Server.{Server}
 use Rattle.xa_session.proofs.FailedAnswers.{fit_line}
 use Rattle.xa_session.specs.Logging.{KeepsLog, LeavesContent}
 use Rattle.xa_session.specs.Session.{known_waiting}
 use Rattle.xa_session.specs.Tracking.{IsFailedAnswer, IsRaisedFrom}
-use Rattle.xa_tm.proofs.History.OneMore.{lists_is}
 use Rattle.xa_tm.specs.BookAndLog.{IsTied}
 use Rattle.xa_tm.specs.Calls.{book_in, log_in}
-use Rattle.xa_tm.specs.Laws.{StartRowsAreApart}
-use Rattle.xa_tm.specs.Starting.{StartsHaveContent}
 
 -- ** an answer that some state explains
 
@@ -123,7 +114,8 @@ module _ {L : Type 0} (moment : L → Moment) (laws : Laws L) (name : List ℕ) 
       x : AllMay g o told from at_start explained done cut to
       x = all_may g o told from at_start explained done cut to may
 
-  -- in an answer: what the next start finds is what was left behind it, or before it, with the call under way
+  -- in an answer: what the next start finds is what was left after it, or before it, with the call
+  -- under way
   module _ (t r : ℕ) (code : Code) (call : Call) (waits : known_waiting now.session.lines t r ≡ Some call) (failed : IsFailedToHear t r code call now left) where
     abbrev seen : Seen
     seen = Answered told (line t r) call (Ret code)
@@ -205,4 +197,3 @@ module _ {L : Type 0} (moment : L → Moment) (laws : Laws L) (name : List ℕ) 
       raised moment laws name handed o told now is c has left performs.keeps honest
   start_raised c handed o told _ now _ has is (InAnswer t r n code call left waits performs) honest =
       raised moment laws name handed o told now is c has left performs.keeps honest
-

@@ -1,4 +1,4 @@
--- A right history is right without a decision of which nothing was done.
+-- A right history is right without a decision about which nothing was done.
 use Rattle.std.proofs.Common.{◌≡◌, ◌⊎◌, inl, inr, ◌<◌, ◌+◌, ℕ, List, [], ◌∷◌, length, Bool, true, false, ◌&&◌, ◌||◌, refl, sym, ap, ◌∙◌, subst}
 use Rattle.std.proofs.lemmas.Bool.{or_parts}
 use Rattle.std.specs.Prelude.{if◌then◌else◌, nat_eq, nat_lt, Option, Some, None}
@@ -14,11 +14,10 @@ use Rattle.xa_mirror.proofs.LinesWithout.{claimed_is, issued_are, live_free, liv
 use Rattle.xa_mirror.proofs.RowsWithout.{others_apart, others_wait}
 use Rattle.xa_mirror.specs.HistoryWithout.{IsRightWithout, IsUntouched, LeavesUntouched, fault_without, history_without, others}
 use Rattle.xa_model.proofs.Invariant.RowLists.{without_keeps}
-use Rattle.xa_model.specs.Facts.{acknowledges, begun, claimed, decided_so, each_of_some, handed_over, has_gtrid, has_row, heuristic_rows, incarnation, is_older, is_settled, is_settled_lately, issued, log, outlived, participants, participants_in, participants_settled, recorded, says_read_only, says_yes, says_yes_in, sequence, standing, started, up, was_told, was_told_lately, without}
+use Rattle.xa_model.specs.Facts.{acknowledges, claimed, decided_so, each_of_some, handed_over, has_gtrid, is_settled, is_settled_lately, issued, log, outlived, participants, participants_in, says_read_only, says_yes, says_yes_in}
 use Rattle.xa_model.specs.Facts.Distinct.{EachOnce}
-use Rattle.xa_model.specs.Facts.InDoubt.{is_in_doubt_at}
-use Rattle.xa_model.specs.Protocol.{AllAreSettled, AllHaveVoted, AllRight, HasVoted, IsKnown, IsOnlyBranch, IsOpen, IsRowSettled, IsSoundPage, MayBeCalled, Right, RightCall, RightClaim, RightDecision, RightDone, RightFault, RightIssue, RightOrigin, RightRow, SoundAnswer, call_code}
-use Rattle.xa_model.specs.Trace.{Answer, Branch, Call, Code, Fault, Fault.InDecide, Fault.InDone, Fault.InHear, Fault.InResolve, Fault.InRestart, Gtrid, Happening, Happening.Begun, Happening.Claimed, Happening.CompletedAlone, Happening.Decided, Happening.Done, Happening.Failed, Happening.Heard, Happening.Issued, Happening.Nothing, Happening.Resolved, Happening.ResolvedOpen, Happening.Restarted, Happening.Took, Kind, Kind.Commit, Kind.End, Kind.Forget, Kind.Join, Kind.OnePhase, Kind.Prepare, Kind.Rollback, Kind.Start, Line, Outcome as AnOutcome, Trace, Trace.From, Trace.Then, line}
+use Rattle.xa_model.specs.Protocol.{AllHaveVoted, AllRight, HasVoted, IsKnown, IsOpen, IsRowSettled, IsSoundPage, MayBeCalled, Right, RightCall, RightDecision, RightDone, RightFault, RightIssue, RightRow, SoundAnswer, call_code}
+use Rattle.xa_model.specs.Trace.{Answer, Branch, Call, Fault, Fault.InDecide, Fault.InDone, Fault.InHear, Fault.InResolve, Fault.InRestart, Gtrid, Happening, Happening.Begun, Happening.Claimed, Happening.CompletedAlone, Happening.Decided, Happening.Done, Happening.Failed, Happening.Heard, Happening.Issued, Happening.Nothing, Happening.Resolved, Happening.ResolvedOpen, Happening.Restarted, Happening.Took, Kind, Kind.Commit, Kind.End, Kind.Forget, Kind.Join, Kind.OnePhase, Kind.Prepare, Kind.Rollback, Kind.Start, Line, Outcome as AnOutcome, Trace, Trace.From, Trace.Then, line}
 
 module _ (g : Gtrid) (tr : Trace) (still : IsUntouched g tr) where
   abbrev ur : Trace

@@ -1,12 +1,11 @@
 -- Lists of rows without those of one transaction.
-use Rattle.std.proofs.Common.{◌≡◌, ◌≤◌, ℕ, List, [], ◌∷◌, ◌++◌, length, map, Bool, true, false, ◌||◌, ◌==◌, refl, sym, ap, ◌∙◌, subst, arith}
-use Rattle.std.proofs.lemmas.Bool.{eq-eqb}
+use Rattle.std.proofs.Common.{◌≡◌, ◌≤◌, List, [], ◌∷◌, ◌++◌, length, map, Bool, true, false, ◌||◌, refl, sym, ap, ◌∙◌, subst, arith}
 use Rattle.std.specs.Prelude.{if◌then◌else◌}
 use Rattle.xa_base.proofs.BranchKeys.{gtrid_eq-true}
 use Rattle.xa_base.specs.Branch.{gtrid_eq}
 use Rattle.xa_mirror.specs.HistoryWithout.{others}
 use Rattle.xa_model.specs.Facts.{Change, Change.AddRecord, Change.AddRows, Change.DropRows, Change.NoChange, has_gtrid, heuristics_changed, lists_row, participants_in, row_for, rows_changed, without, without_each}
-use Rattle.xa_model.specs.Trace.{Branch, Gtrid, Recorded, Row, Trace}
+use Rattle.xa_model.specs.Trace.{Gtrid, Recorded, Row, Trace}
 
 clash : {t : Bool} → t ≡ true → t ≡ false → ⊥
 clash p q = cc
@@ -78,7 +77,7 @@ joined_without g (x ∷ xs) ys = by (gtrid_eq x.gtrid g) (joined_without g xs ys
     by true rest = rest
     by false rest = ap (λ zs. x ∷ zs) rest
 
--- a change, but for rows of the transaction that it adds
+-- a change, without rows of the transaction that it adds
 abbrev pub change_without : Gtrid → Change → Change
 change_without g (AddRows xs) = AddRows (without g xs)
 change_without g c = c
@@ -141,7 +140,7 @@ unchanged (DropRows gs) xs e = none_less_each gs xs (omega (arith, e))
 unchanged (AddRecord x) xs e = refl
 unchanged NoChange xs e = refl
 
--- ** some transactions but for one
+-- ** some transactions except one
 
 pub others_apart : (g h : Gtrid) (gs : List Gtrid) → has_gtrid gs h ≡ false → has_gtrid (others g gs) h ≡ false
 others_apart g h [] e = refl

@@ -1,17 +1,20 @@
--- Sessions one after another, among which a log was made anew of a mirror, agree on each transaction.
-use Rattle.std.proofs.Common.{◌≡◌, ◌≤◌, ◌⊎◌, inl, inr, ℕ, List, [], Bool, true, false, refl, sym, ap, ◌∙◌, subst}
+-- Sessions one after another, among which a log was made anew of a mirror, agree on each
+-- transaction.
+use Rattle.std.proofs.Common.{◌≡◌, ◌⊎◌, inl, inr, ℕ, List, [], Bool, true, false, refl, sym, ap, ◌∙◌, subst}
+use Rattle.std.proofs.lemmas.Bool.{true≢false}
 use Rattle.std.specs.FinMap.{get}
 use Rattle.std.specs.Prelude.{if◌then◌else◌, Option, Some, None, is_some}
 use Rattle.xa_base.proofs.BranchKeys.{branch_eq-refl}
 use Rattle.xa_base.specs.Branch.{branch_eq}
 use Rattle.xa_base.specs.StateTable.{broken}
 use Rattle.xa_base.specs.declared.state.Standing.{Standing}
-use Rattle.xa_base.specs.declared.state.Standing.TheVariants.{Committed, Completed, Prepared, Unstarted}
+use Rattle.xa_base.specs.declared.state.Standing.TheVariants.{Completed, Prepared, Unstarted}
 use Rattle.xa_log.specs.Content.{Content}
 use Rattle.xa_log.specs.Contract.{Moment}
-use Rattle.xa_mirror.proofs.MirroredRows.{all_over, left_never, mirror_commits, mirror_never, mirror_row_commits, mirror_stands, row_in_log}
+use Rattle.xa_mirror.proofs.MirroredRows.{all_over, decided_over, left_never, mirror_commits, mirror_never, mirror_row_commits, mirror_stands, row_in_log}
 use Rattle.xa_mirror.proofs.OneSession.{one_more, start_raised}
-use Rattle.xa_mirror.specs.Mirrors.{AllAreOver, AreServedAnew, AreServedAnew.Between, AreServedAnew.MadeAnew, AreServedAnew.NoneYet, AreServedAnew.OneMore, FailoversAgree, ServedAreServedAnew, WasLeftDecided, WasLeftUndecided}
+use Rattle.xa_mirror.specs.ToldMirrors.{WasHandedRow}
+use Rattle.xa_mirror.specs.Mirrors.{AllAreOver, AreServedAnew, AreServedAnew.Between, AreServedAnew.MadeAnew, AreServedAnew.NoneYet, AreServedAnew.OneMore, FailoversAgree, SomeIsCommitted, WasLeftDecided, WasLeftUndecided}
 use Rattle.xa_model.specs.Facts.{has_record, lists_row}
 use Rattle.xa_model.specs.Promises.Agreement.{IsUndone}
 use Rattle.xa_model.specs.Trace.{Branch, Gtrid, How, Line, Origin}
@@ -26,6 +29,7 @@ use Rattle.xa_server.proofs.OwnSessions.{StartsStand}
 use Rattle.xa_server.proofs.SessionChains.{Laws}
 use Rattle.xa_server.specs.Sessions.{AreServed, AreServed.Between as Ends_between, AreServed.NoneYet as No_session, AreServed.OneMore as One_session, IsEmptyLog, WasLeft}
 use Rattle.xa_server.specs.Transactions.{AreServedFor, AreServedFor.Between as BetweenFor, AreServedFor.NoneYet as NoneYetFor, AreServedFor.OneMore as OneMoreFor, IsAlike, IsNeverCommitted, IsToCommit, MayStandFor, MayStandFor.AsTold as AsToldFor, MayStandFor.CutOff as CutOffFor, MayStandFor.EndedAlone as EndedAloneFor, MayStandFor.UnderWay as UnderWayFor, MayTurn, MayTurn.EndsByItself}
+use Rattle.xa_server.specs.Votes.{IsLogged}
 use Rattle.xa_server.specs.declared.server.Server.{Server}
 use Rattle.xa_session.specs.Tracking.{IsRaisedFrom}
 use Rattle.xa_tm.specs.Laws.{StartRowsAreApart}
@@ -129,10 +133,16 @@ module _ {L : Type 0} (moment : L → Moment) (laws : Laws L) (content : StartsH
         let never = starts_never c f served was (start_of c) from_c in
         record { never_committed = λ b q e. never.none b q (ap broken e); no_row = sym row ∙ never.no_row }
 
-    pub committed_over : (b : Branch) → is_some (get c.decisions g) ≡ false → b.gtrid ≡ g → f b ≡ Committed → AllAreOver g f
-    committed_over b none q e = all_over g f b (stands.no_row (row ∙ none)) q (ap broken e)
+    pub settled_over : is_some (get c.decisions g) ≡ false → SomeIsCommitted g f ⊎ WasLeftDecided moment name g c f served → AllAreOver g f
+    settled_over none (inl some) = all_over g f some.0 (stands.no_row (row ∙ none)) some.1 (ap broken some.2)
+    settled_over none (inr was) = decided_over g f (start_of c) (row ∙ none) (starts_commit c f served was (start_of c) from_c)
 
 -- ** sessions over one log
+
+-- a log that holds a content has its rows
+logged_row : (found : Option Content) (c : Content) (g : Gtrid) → found ≡ Some c → IsLogged found g → is_some (get c.decisions g) ≡ true
+logged_row None c g has row = absurd row
+logged_row (Some d) c g has row = subst (λ (x : Content). is_some (get x.decisions g) ≡ true) (let same : d ≡ c = cc in same) row
 
 module _ {L : Type 0} (moment : L → Moment) (name : List ℕ) (g : Gtrid) where
   pub over_one_log : (c : Content) (f : Branch → Standing) → AreServedFor moment name g c f → AreServedAnew moment name g c f
@@ -157,7 +167,7 @@ module _ {L : Type 0} (moment : L → Moment) (name : List ℕ) (g : Gtrid) wher
       (subst (MayTurn t Prepared) (sym (final d ∙ ap (λ u. if u then Completed how else from d) (branch_eq-refl d))) (EndsByItself how))
 
   -- where all branches are known
-  served_anew : (last : Option (Server L)) (f : Branch → Standing) → AreServed moment name last f → (c : Content) → WasLeft moment last c
+  pub served_anew : (last : Option (Server L)) (f : Branch → Standing) → AreServed moment name last f → (c : Content) → WasLeft moment last c
       → AreServedAnew moment name g c f
   served_anew _ _ No_session c was = NoneYet c was
   served_anew _ _ (One_session last from to handed o told seen now left done cut before handed_on is is_left honest may) c was =
@@ -167,15 +177,45 @@ module _ {L : Type 0} (moment : L → Moment) (name : List ℕ) (g : Gtrid) wher
       Between c from to d (served_anew last from before c was) (ended_there d how from to (is_some (get c.decisions g)) was_prepared final)
       (λ b same other. final b ∙ ap (λ t. if t then Completed how else from b) other)
 
+module _ {L : Type 0} (moment : L → Moment) (content : StartsHaveContent) (apart : StartRowsAreApart) (name : List ℕ) (g : Gtrid) where
+  -- an empty log has no row
+  empty_none : (c : Content) → IsEmptyLog c → is_some (get c.decisions g) ≡ true → ⊥
+  empty_none c empty row =
+      true≢false (sym row
+      ∙ (sym (listed content apart c g) ∙ ap (λ xs. lists_row xs g) (none_there c (start_of c) empty (raised_once content apart c)).rows))
+
+  -- what was left of a row
+  left_row : (last : Option (Server L)) (f : Branch → Standing) (served : AreServed moment name last f) (c : Content) (was : WasLeft moment last c)
+      → is_some (get c.decisions g) ≡ true → WasLeftDecided moment name g c f (served_anew moment name g last f served c was)
+  unfolding served_anew
+  left_row _ _ No_session c was row = absurd (empty_none c was row)
+  left_row _ _ (One_session last from to handed o told seen now left done cut before handed_on is is_left honest may) c was row = inl row
+  left_row _ _ (Ends_between last from to d how before was_prepared final) c was row = left_row last from before c was row
+
+  -- one of these sessions was handed a log that has it
+  pub handed_row : (last : Option (Server L)) (f : Branch → Standing) (served : AreServed moment name last f) (c : Content) (was : WasLeft moment last c)
+      → WasHandedRow moment name g last f served → WasLeftDecided moment name g c f (served_anew moment name g last f served c was)
+  unfolding served_anew
+  handed_row _ _ No_session c was handed_it = absurd handed_it
+  handed_row _ _ (One_session last from to handed o told seen now left done cut before handed_on is is_left honest may) c was (inl row) =
+      inr (left_row last from before handed_on.left handed_on.was_left
+      (ap (λ m. is_some (get m g)) (sym handed_on.holds.same.decisions)
+      ∙ logged_row (moment handed).content handed_on.holds.content g handed_on.holds.has row))
+  handed_row _ _ (One_session last from to handed o told seen now left done cut before handed_on is is_left honest may) c was (inr earlier) =
+      inr (handed_row last from before handed_on.left handed_on.was_left earlier)
+  handed_row _ _ (Ends_between last from to d how before was_prepared final) c was handed_it = handed_row last from before c was handed_it
+
 -- ** a failover
 
 module _ {L : Type 0} (moment : L → Moment) (laws : Laws L) (content : StartsHaveContent) (apart : StartRowsAreApart) where
   pub failovers_agree : FailoversAgree moment
-  failovers_agree name last from to c d e handed o told seen now left done cut served was_left mirror holds is is_left honest may leaves =
-      (λ b b' same committed undone. (alike b.gtrid).agree b b' refl (sym same) committed undone, record {
-        committed = λ b b' same committed prepared. (alike b.gtrid).committed b b' refl (sym same) committed prepared;
-        undone = λ b undone. (alike b.gtrid).undone b refl undone;
-      })
+  failovers_agree name last from to c d e handed o told seen now left done cut served was_left mirror holds is is_left honest may leaves = (
+    λ b b' same committed undone. (alike b.gtrid).agree b b' refl (sym same) committed undone,
+    record {
+      committed = λ b b' same committed prepared. (alike b.gtrid).committed b b' refl (sym same) committed prepared;
+      undone = λ b undone. (alike b.gtrid).undone b refl undone;
+    },
+  )
     where
       alike : (g : Gtrid) → IsAlike g to e
       alike g =

@@ -1,4 +1,5 @@
--- A decision to commit, taken out of a history: as if the log had failed in it, and had not written its row.
+-- A decision to commit, left out of a history: as if the log had failed in it, and its row hadn't
+-- been written.
 use Rattle.std.specs.Prelude.{◌≡◌, List, [], ◌∷◌, length, true, false, ◌||◌, if◌then◌else◌}
 use Rattle.xa_base.specs.Branch.{gtrid_eq}
 use Rattle.xa_base.specs.declared.call.Call.TheVariants as Calls
@@ -7,51 +8,55 @@ use Rattle.xa_model.specs.Facts.{decided_so, has_gtrid, has_row, heuristic_rows,
 use Rattle.xa_model.specs.Protocol.{AllRight}
 use Rattle.xa_model.specs.Trace.{Branch, Fault, Fault.InDecide, Fault.InDone, Gtrid, Happening, Happening.Decided, Happening.Done, Happening.Failed, Happening.Issued, Happening.Nothing, Happening.Resolved, Happening.ResolvedOpen, Happening.Restarted, Trace, Trace.From, Trace.Then}
 
--- ** what was done of a decision
+-- ** what was done about a decision
 
--- It is decided to commit it, in this process, or by a row.
-abbrev pub IsToCommit : Trace → Gtrid → Type 0
-IsToCommit tr g = (decided_so Outcome.Commit tr g || has_row tr g) ≡ true
+-- it is decided to commit it, in this process, or by a row
+abbrev pub HasDecision : Trace → Gtrid → Type 0
+HasDecision tr g = (decided_so Outcome.Commit tr g || has_row tr g) ≡ true
 
--- the happening does nothing of that: it issues no xa_commit of a branch of the transaction, as none is if no page that lists one is resolved;
--- and its row doesn't leave the log, nor is in doubt to have left
+-- The happening does nothing about it: it issues no xa_commit of a branch of the transaction, it
+-- resolves no page that lists one, and its row neither leaves the log nor is in doubt to have
+-- left.
 abbrev pub LeavesUntouched : Gtrid → Trace → Happening → Type 0
 LeavesUntouched g tr (Issued l (Calls.Commit b one_phase)) = gtrid_eq b.gtrid g ≡ false
-LeavesUntouched g tr (Resolved r) = IsToCommit tr g → lists_one_of g (page tr r) ≡ false
-LeavesUntouched g tr (ResolvedOpen r) = IsToCommit tr g → lists_one_of g (page tr r) ≡ false
+LeavesUntouched g tr (Resolved r) = HasDecision tr g → lists_one_of g (page tr r) ≡ false
+LeavesUntouched g tr (ResolvedOpen r) = HasDecision tr g → lists_one_of g (page tr r) ≡ false
 LeavesUntouched g tr (Done h) = gtrid_eq h g ≡ false
 LeavesUntouched g tr (Failed (InDone gs)) = has_gtrid gs g ≡ false
 LeavesUntouched g tr _ = Unit
 
--- nothing of a history does
+-- so does all that happened
 abbrev pub IsUntouched : Gtrid → Trace → Type 0
 IsUntouched g (From o) = Unit
 IsUntouched g (Then tr e) = IsUntouched g tr × LeavesUntouched g tr e
 
 -- ** the history without it
 
--- these transactions but for the one
+-- these transactions except the one
 abbrev pub others : Gtrid → List Gtrid → List Gtrid
 others g [] = []
 others g (h ∷ hs) = if gtrid_eq h g then others g hs else h ∷ others g hs
 
--- the log failed in these decisions but for the one
+-- the log failed in these decisions except the one
 abbrev pub fault_without : Gtrid → Fault → Fault
 fault_without g (InDecide gs) = InDecide (others g gs)
 fault_without g f = f
 
--- The same happened, but for the decision: nothing happened in its place, and where the log failed in it, it failed in the others. So a restart
--- finds its row no more.
+-- The same happened, except the decision: nothing happened in its place, and if the log failed in
+-- it, it failed in the others. The start has no row of it, and a restart finds none.
 abbrev pub history_without : Gtrid → Trace → Trace
 history_without g (From o) = From (record o { rows = without g o.rows })
-history_without g (Then tr (Decided h Outcome.Commit)) = Then (history_without g tr) (if gtrid_eq h g then Nothing else Decided h Outcome.Commit)
+history_without g (Then tr (Decided h Outcome.Commit)) =
+    Then (history_without g tr) (if gtrid_eq h g then Nothing else Decided h Outcome.Commit)
 history_without g (Then tr (Failed f)) = Then (history_without g tr) (Failed (fault_without g f))
-history_without g (Then tr (Restarted i d h)) = Then (history_without g tr) (Restarted i (length (without g (log (Then tr (Restarted i d h))))) h)
+history_without g (Then tr (Restarted i d h)) =
+    Then (history_without g tr) (Restarted i (length (without g (log (Then tr (Restarted i d h))))) h)
 history_without g (Then tr e) = Then (history_without g tr) e
 
 -- ** what is so of it
 
--- It is right, leaves each branch where it stood, and has the same rows, but for this one, and the same records.
+-- It is right, leaves each branch where it stood, and has the same records and the same rows,
+-- except this one.
 pub record IsRightWithout (g : Gtrid) (tr : Trace) : Type 0 where
   pub right : AllRight (history_without g tr)
   pub there : (b : Branch) → standing (history_without g tr) b ≡ standing tr b
@@ -59,6 +64,6 @@ pub record IsRightWithout (g : Gtrid) (tr : Trace) : Type 0 where
   pub records : heuristic_rows (history_without g tr) ≡ heuristic_rows tr
   pub incarnation_is : incarnation (history_without g tr) ≡ incarnation tr
 
--- A decision of which nothing was done may be taken out of a right history.
+-- A decision about which nothing was done may be left out of a right history.
 abbrev pub DecisionsMayBeLeftOut : Type 0
 DecisionsMayBeLeftOut = (g : Gtrid) (tr : Trace) → AllRight tr → IsUntouched g tr → IsRightWithout g tr

@@ -1,2 +1,4 @@
 pub mod HistoryWithout
 pub mod Mirrors
+pub mod ToldMirrors
+pub mod WorkedFailover

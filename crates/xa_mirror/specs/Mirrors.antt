@@ -1,12 +1,13 @@
--- A log that is made anew of a mirror, a database to which the driver writes each decision before it issues an xa_commit of it; and sessions
--- of a manager one after another, among which the log was lost, and made anew so.
-use Rattle.std.specs.Prelude.{◌≡◌, ◌≤◌, ◌⊎◌, ℕ, true, false, if◌then◌else◌, List, Option, Some, is_some}
-use Rattle.std.specs.FinMap.{get}
+-- A log that is made anew of a mirror, a database to which the driver writes each decision before
+-- it issues an xa_commit of it; and sessions of a manager one after another, among which the log
+-- was lost, and made anew so.
+use Rattle.std.specs.Prelude.{◌≡◌, ◌≤◌, ◌⊎◌, ℕ, true, false, List, Option, is_some}
+use Rattle.std.specs.FinMap.{empty, get}
 use Rattle.xa_base.specs.Branch.{branch_eq}
 use Rattle.xa_base.specs.StateTable.{broken}
 use Rattle.xa_base.specs.declared.state.Standing.{Standing}
 use Rattle.xa_base.specs.declared.state.Standing.TheVariants.{Committed, Completed, Forgotten, ReadOnly, Unstarted}
-use Rattle.xa_log.specs.Content.{Content}
+use Rattle.xa_log.specs.Content.{Content, without_decision}
 use Rattle.xa_log.specs.Contract.{Moment}
 use Rattle.xa_model.specs.Trace.{Branch, Gtrid, Line, Origin}
 use Rattle.xa_monitor.specs.Agreement.{MayAllStand, StandAlike}
@@ -24,7 +25,12 @@ use Rattle.xa_tm.specs.Calls.{log_in}
 abbrev pub NoneIsCommitted : Gtrid → (Branch → Standing) → Type 0
 NoneIsCommitted g f = (b : Branch) → b.gtrid ≡ g → f b ≡ Committed → ⊥
 
--- The branch waits for nothing, and isn't undone: it is committed, it only read, its database ended it by itself, or it never was.
+-- some branch of it does
+abbrev pub SomeIsCommitted : Gtrid → (Branch → Standing) → Type 0
+SomeIsCommitted g f = (b : Branch) × (b.gtrid ≡ g) × (f b ≡ Committed)
+
+-- The branch waits for nothing, and isn't undone: it is committed, it only read, its database
+-- ended it by itself, or it never was.
 abbrev pub IsOver : Standing → Type 0
 IsOver Unstarted = Unit
 IsOver Committed = Unit
@@ -37,9 +43,11 @@ IsOver _ = ⊥
 abbrev pub AllAreOver : Gtrid → (Branch → Standing) → Type 0
 AllAreOver g f = (b : Branch) → b.gtrid ≡ g → IsOver (f b)
 
--- What a mirror has of a transaction, where its branches stand so, and where this was left in the log. It may lack a row, as of a decision that
--- was lost with the log before the mirror had it: then none of its branches is committed. It may have a row that left the log: then all of its
--- branches are over.
+-- What a mirror has of a transaction, if its branches stand so, and this was left in the log. It
+-- may lack the row, as of a decision that was lost with the log before the mirror had it: then
+-- none of the branches is committed. It may have a row that left the log: then all of them are
+-- over. A row that both have is the same, a record of the mirror is one of the log's too, and the
+-- mirror's incarnation isn't smaller.
 pub record IsMirrorFor (g : Gtrid) (f : Branch → Standing) (log mirror : Content) : Type 0 where
   pub later : log.incarnation ≤ mirror.incarnation
   pub missing : HasRowOf log g → HasNoRowOf mirror g → NoneIsCommitted g f
@@ -51,10 +59,25 @@ pub record IsMirrorFor (g : Gtrid) (f : Branch → Standing) (log mirror : Conte
 abbrev pub IsMirrorOf : (f : Branch → Standing) (log mirror : Content) → Type 0
 IsMirrorOf f log mirror = (g : Gtrid) → IsMirrorFor g f log mirror
 
+-- A mirror may have the very rows that were left, and no records, in an incarnation that isn't
+-- smaller,
+abbrev pub copied : ℕ → Content → Content
+copied n c = record { decisions = c.decisions; heuristics = empty; incarnation = n }
+
+abbrev pub CopiesAreMirrors : Type 0
+CopiesAreMirrors = (f : Branch → Standing) (c : Content) (n : ℕ) → c.incarnation ≤ n → IsMirrorOf f c (copied n c)
+
+-- or lack that of a transaction of which no branch is committed.
+abbrev pub CopiesMayLackARow : Type 0
+CopiesMayLackARow =
+    (f : Branch → Standing) (c : Content) (n : ℕ) (g : Gtrid) → c.incarnation ≤ n → NoneIsCommitted g f
+    → IsMirrorOf f c (without_decision g (copied n c))
+
 -- ** the sessions
 
--- Where the branches of a transaction may stand after sessions of the manager of this name, and what log is left. These are the sessions of
--- `AreServedFor` of `xa_server`, and a log may be handed on in one more way: it is lost, and made anew of a mirror.
+-- Where the branches of a transaction may stand after sessions of the manager of this name, and
+-- what log is left. These are the sessions of `AreServedFor` of `xa_server`, and a log may be
+-- handed on in one more way: it is lost, and made anew of a mirror.
 pub data AreServedAnew {L : Type 0} (moment : L → Moment) (name : List ℕ) (g : Gtrid) : Content → (Branch → Standing) → Type 0 where
   NoneYet : (c : Content) → IsEmptyLog c → AreServedAnew moment name g c (λ b. Unstarted)
   OneMore :
@@ -74,16 +97,17 @@ ServedAreServedAnew {L} moment =
 
 -- ** what follows
 
--- The branches of the transaction stand alike, and the log that is left decides of what is prepared still.
+-- The branches of the transaction stand alike, and the log that is left decides of what is
+-- prepared still.
 abbrev pub AnewAgree : {L : Type 0} → (L → Moment) → Type 0
 AnewAgree {L} moment =
     (name : List ℕ) (g : Gtrid) (c : Content) (f : Branch → Standing) → AreServedAnew moment name g c f → IsAlike g f c
 
--- The log that one of these sessions left has the row of the transaction, and so has each log that was made of a mirror since, as long as the
--- log before it had it; or such a log has it.
+-- The log that one of these sessions left has the row of the transaction, and so has each log that
+-- was made of a mirror since, as long as the log before it had it; or such a log has it.
 abbrev pub WasLeftDecided : {L : Type 0} (moment : L → Moment) (name : List ℕ) (g : Gtrid) (c : Content) (f : Branch → Standing)
     → AreServedAnew moment name g c f → Type 0
-WasLeftDecided moment name g _ _ (NoneYet c empty) = ⊥
+WasLeftDecided moment name g _ _ (NoneYet c is_empty) = ⊥
 WasLeftDecided moment name g _ _ (OneMore c d from to handed o told seen now left done cut before has is is_left honest may leaves) =
     HasRowOf d g ⊎ WasLeftDecided moment name g c from before
 WasLeftDecided moment name g _ _ (Between c from to d before turns others) = WasLeftDecided moment name g c from before
@@ -95,34 +119,38 @@ AnewDecisionsStand {L} moment =
     (name : List ℕ) (g : Gtrid) (c : Content) (f : Branch → Standing) (served : AreServedAnew moment name g c f)
     → WasLeftDecided moment name g c f served → IsToCommit g f c
 
--- The log that one of these sessions left, or that was made of a mirror, has no row of the transaction, which is begun no more, and none of its
--- branches stood committed then. No mirror since then has a row of it.
+-- The log that one of these sessions left, or that was made of a mirror, has no row of the
+-- transaction, which is begun no more, and none of its branches stood committed then. No mirror
+-- since then has a row of it.
 abbrev pub WasLeftUndecided : {L : Type 0} (moment : L → Moment) (name : List ℕ) (g : Gtrid) (c : Content) (f : Branch → Standing)
     → AreServedAnew moment name g c f → Type 0
-WasLeftUndecided moment name g _ _ (NoneYet c empty) = ⊥
+WasLeftUndecided moment name g _ _ (NoneYet c is_empty) = ⊥
 WasLeftUndecided moment name g _ _ (OneMore c d from to handed o told seen now left done cut before has is is_left honest may leaves) =
     (HasNoRowOf d g × (g.incarnation ≤ d.incarnation) × NoneIsCommitted g to) ⊎ WasLeftUndecided moment name g c from before
 WasLeftUndecided moment name g _ _ (Between c from to d before turns others) = WasLeftUndecided moment name g c from before
 WasLeftUndecided moment name g _ _ (MadeAnew c d f before mirror) =
     HasNoRowOf d g × (((g.incarnation ≤ d.incarnation) × NoneIsCommitted g f) ⊎ WasLeftUndecided moment name g c f before)
 
--- So none ever is. A decision that a mirror lacks is undone with its log: it is as if the log had failed in it.
+-- So none ever is. A decision that a mirror lacks is undone with its log: it is as if the log had
+-- failed in it.
 abbrev pub AnewUndecidedStays : {L : Type 0} → (L → Moment) → Type 0
 AnewUndecidedStays {L} moment =
     (name : List ℕ) (g : Gtrid) (c : Content) (f : Branch → Standing) (served : AreServedAnew moment name g c f)
     → WasLeftUndecided moment name g c f served → IsNeverCommitted g f c
 
--- If the log that is left has no row of a transaction, and one of its branches is committed, all of them are over.
-abbrev pub CommittedAreOver : {L : Type 0} → (L → Moment) → Type 0
-CommittedAreOver {L} moment =
-    (name : List ℕ) (g : Gtrid) (c : Content) (f : Branch → Standing) (b : Branch) → AreServedAnew moment name g c f → HasNoRowOf c g → b.gtrid ≡ g
-    → f b ≡ Committed → AllAreOver g f
+-- If the log that is left has no row of a transaction, and one of its branches is committed, or a
+-- log that was left before had the row, all of them are over.
+abbrev pub SettledAreOver : {L : Type 0} → (L → Moment) → Type 0
+SettledAreOver {L} moment =
+    (name : List ℕ) (g : Gtrid) (c : Content) (f : Branch → Standing) (served : AreServedAnew moment name g c f) → HasNoRowOf c g
+    → SomeIsCommitted g f ⊎ WasLeftDecided moment name g c f served → AllAreOver g f
 
 -- ** of all transactions
 
--- Sessions of a manager are served over one log, which is lost then, and made anew of a mirror of what was left in it. Over that a further
--- session is served. Then no branch of any transaction stands committed beside one that stands rolled back or lost, and the log that this
--- session leaves decides of what is prepared still.
+-- Sessions of a manager are served over one log, which is lost then, and made anew of a mirror of
+-- what was left in it. Over that a further session is served. Then no branch of any transaction
+-- stands committed beside one that stands rolled back or lost, and the log that this session
+-- leaves decides of what is prepared still.
 abbrev pub FailoversAgree : {L : Type 0} → (L → Moment) → Type 0
 FailoversAgree {L} moment =
     (name : List ℕ) (last : Option (Server L)) (from to : Branch → Standing) (c d e : Content) (handed : L) (o : Origin) (told seen : Seen)

@@ -3,9 +3,13 @@
 
 ghost use Rattle.xa_mirror.specs.Mirrors.{AnewAgree, AnewDecisionsStand, AnewUndecidedStays};
 ghost use Rattle.xa_mirror.specs.HistoryWithout.{DecisionsMayBeLeftOut};
-ghost use Rattle.xa_mirror.specs.Mirrors.{CommittedAreOver, FailoversAgree, ServedAreServedAnew};
+ghost use Rattle.xa_mirror.specs.Mirrors.{CopiesAreMirrors, CopiesMayLackARow, FailoversAgree};
+ghost use Rattle.xa_mirror.specs.Mirrors.{ServedAreServedAnew, SettledAreOver};
+ghost use Rattle.xa_mirror.specs.ToldMirrors.{ToldFailoversAgree, ToldMirrorsAreMirrors};
 
 use xa_log::DecisionLog;
+use xa_outcomes::laws::served_sessions_are_parts;
+use xa_server::laws::heard_ends_stay;
 use xa_session::laws::{sessions_are_explained, starts_find_the_log, waiting_calls_are_tracked};
 use xa_tm::laws::starts_are_histories;
 
@@ -20,10 +24,10 @@ use xa_tm::laws::starts_are_histories;
 /// - `decided`: if a log that was left, or that was made of a mirror, has its row, and no mirror
 ///   since then lacked it as the log still had it, none of its branches is ever rolled back or
 ///   lost, and the row is there as long as one is prepared;
-/// - `undecided`: if such a log has none, and no branch of it is committed, none ever is, as long as
-///   no mirror has the row;
-/// - `over`: if the log that is left has no row of it, and one of its branches is committed, all of
-///   them are over;
+/// - `undecided`: if such a log has none, and no branch of it is committed, none ever is, as long
+///   as no mirror has the row;
+/// - `over`: if the log that is left has no row of it, and one of its branches is committed, or a
+///   log that was left before had the row, all of them are over;
 /// - `one_log`: sessions over one log, which was never lost, are such;
 /// - `failover`: of all transactions at once: sessions over a log, a log that is made anew of its
 ///   mirror, and a session over that.
@@ -31,7 +35,7 @@ pub fn mirrors_go_on<L: DecisionLog + Drop>()
     ensures agree { AnewAgree L.moment }
     ensures decided { AnewDecisionsStand L.moment }
     ensures undecided { AnewUndecidedStays L.moment }
-    ensures over { CommittedAreOver L.moment }
+    ensures over { SettledAreOver L.moment }
     ensures one_log { ServedAreServedAnew L.moment }
     ensures failover { FailoversAgree L.moment }
 {
@@ -41,10 +45,38 @@ pub fn mirrors_go_on<L: DecisionLog + Drop>()
     waiting_calls_are_tracked::<L>();
 }
 
-/// A decision to commit of which nothing was done may be left out of a right history: none of an
-/// xa_commit of a branch of the transaction was issued behind it, nor of a resolved page, and the
-/// row didn't leave the log. What is left is right, has each branch where it stood, and the rows and
-/// records but for that one: it is as if the log had failed in it.
+/// There are such mirrors, wherever branches stand: one that has the rows that were left, in an
+/// incarnation that isn't smaller (`copies`), also without that of a transaction none of whose
+/// branches is committed (`lacking`).
+pub fn mirrors_are_there()
+    ensures copies { CopiesAreMirrors }
+    ensures lacking { CopiesMayLackARow }
+{}
+
+/// What a mirror has is what `mirrors_go_on` supposes, if the driver writes the row of a
+/// transaction before it issues an xa_commit of a branch of it, and takes a row away only once it
+/// has left the log (`IsToldMirror`): of a transaction that the mirror lacks no lines and replies
+/// tell an xa_commit, and of one whose row left the log an answer told that a branch is committed,
+/// or a session was handed a log with the row.
+///
+/// - `mirrors`: each such mirror is one;
+/// - `failover`: so sessions over a log, a log that is made anew of such a mirror, and a session
+///   over that agree.
+pub fn told_mirrors_are_mirrors<L: DecisionLog + Drop>()
+    ensures mirrors { ToldMirrorsAreMirrors L.moment }
+    ensures failover { ToldFailoversAgree L.moment }
+{
+    starts_are_histories();
+    served_sessions_are_parts::<L>();
+    heard_ends_stay::<L>();
+    mirrors_go_on::<L>();
+}
+
+/// A decision to commit about which nothing was done may be left out of a right history: no
+/// xa_commit of a branch of the transaction was issued, no page that lists one was resolved after
+/// it, and its row didn't leave the log. Without it the history is right, leaves each branch where
+/// it stood, and has the same records and the same rows, except this one. It is as if the log had
+/// failed in it.
 pub fn decisions_may_be_left_out()
     ensures { DecisionsMayBeLeftOut }
 {}

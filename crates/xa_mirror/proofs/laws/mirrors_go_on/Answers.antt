@@ -1,4 +1,4 @@
-use Rattle.xa_mirror.proofs.ServedAnew.{anew_alike, anew_commits, anew_never, committed_over, failovers_agree, over_one_log}
+use Rattle.xa_mirror.proofs.ServedAnew.{anew_alike, anew_commits, anew_never, failovers_agree, over_one_log, settled_over}
 use Rattle.xa_server.proofs.SessionChains.{Laws}
 use Rattle.xa_mirror.proofs.laws.mirrors_go_on.Goals as goal
 
@@ -19,7 +19,7 @@ returns g c =
       agree = λ name h content f served. anew_alike moment laws starts.content starts.apart name h content f served;
       decided = λ name h content f served was. anew_commits moment laws starts.content starts.apart name h content f served was;
       undecided = λ name h content f served was. anew_never moment laws starts.content starts.apart name h content f served was;
-      over = λ name h content f b served none same committed. committed_over moment laws starts.content starts.apart name h content f served b none same committed;
+      over = λ name h content f served none settled. settled_over moment laws starts.content starts.apart name h content f served none settled;
       one_log = λ name h content f served. over_one_log moment name h content f served;
       failover = failovers_agree moment laws starts.content starts.apart;
     }
