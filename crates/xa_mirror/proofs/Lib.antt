@@ -2,6 +2,7 @@ mod Copies
 mod FactsWithout
 mod IssuedCommits
 mod LinesWithout
+mod MadeLogs
 mod MirroredRows
 mod OneSession
 mod RightWithout

@@ -1,4 +1,5 @@
 pub mod HistoryWithout
+pub mod MadeLogs
 pub mod Mirrors
 pub mod ToldMirrors
 pub mod WorkedFailover

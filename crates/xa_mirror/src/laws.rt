@@ -3,6 +3,7 @@
 
 ghost use Rattle.xa_mirror.specs.Mirrors.{AnewAgree, AnewDecisionsStand, AnewUndecidedStays};
 ghost use Rattle.xa_mirror.specs.HistoryWithout.{DecisionsMayBeLeftOut};
+ghost use Rattle.xa_mirror.specs.MadeLogs.{MadeLogsHoldLines};
 ghost use Rattle.xa_mirror.specs.Mirrors.{CopiesAreMirrors, CopiesMayLackARow, FailoversAgree};
 ghost use Rattle.xa_mirror.specs.Mirrors.{ServedAreServedAnew, SettledAreOver};
 ghost use Rattle.xa_mirror.specs.ToldMirrors.{ToldFailoversAgree, ToldMirrorsAreMirrors};
@@ -71,6 +72,13 @@ pub fn told_mirrors_are_mirrors<L: DecisionLog + Drop>()
     heard_ends_stay::<L>();
     mirrors_go_on::<L>();
 }
+
+/// A log that was made of lines may be handed to the next session: what `restore_log` of
+/// `xa_restore` leaves in an empty log that is in order (`made`, `order`) has the row of each
+/// decision of the lines, no other row, no record, and as many starts as they say.
+pub fn made_logs_hold_lines<L: DecisionLog + Drop>()
+    ensures { MadeLogsHoldLines L.moment }
+{}
 
 /// A decision to commit about which nothing was done may be left out of a right history: no
 /// xa_commit of a branch of the transaction was issued, no page that lists one was resolved after
