@@ -1,6 +1,6 @@
 -- A mirror that has the rows of a log is a mirror of it, also if it lacks one of a transaction of
 -- which no branch is committed.
-use Rattle.std.proofs.Common.{◌≡◌, ◌∙◌, Bool, true, false, None, refl, sym, ap, subst}
+use Rattle.std.proofs.Common.{inl, ◌≡◌, ◌∙◌, Bool, true, false, None, refl, sym, ap, subst}
 use Rattle.std.proofs.lemmas.Bool.{true≢false}
 use Rattle.std.specs.FinMap.{empty, get, get-empty, get-remove, remove}
 use Rattle.std.specs.Prelude.{cond, is_some}
@@ -34,7 +34,7 @@ lacking_copies f c n g later none h = by (gtrid_eq h g) refl
         let gone : get (remove c.decisions g) h ≡ None = there ∙ ap (λ t. cond t None (get c.decisions h)) e in
         record {
           later = later;
-          missing = λ has lacks. subst (λ k. NoneIsCommitted k f) (sym (gtrid_eq-true h g e)) none;
+          missing = λ has lacks. inl (subst (λ k. NoneIsCommitted k f) (sym (gtrid_eq-true h g e)) none);
           more = λ left has. absurd (true≢false (sym has ∙ ap is_some gone));
           same = λ has here. absurd (true≢false (sym here ∙ ap is_some gone));
           records = λ b q has. absurd (no_record b has);

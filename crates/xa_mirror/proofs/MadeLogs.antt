@@ -1,5 +1,5 @@
 -- What a log holds that was made of lines.
-use Rattle.std.proofs.Common.{◌≡◌, ◌≤◌, ◌∙◌, ℕ, List, None, refl, ap, arith}
+use Rattle.std.proofs.Common.{◌≤◌, ◌∙◌, ℕ, refl, ap, arith}
 use Rattle.std.specs.FinMap.{get, get-empty}
 use Rattle.std.specs.Prelude.{◌+◌}
 use Rattle.xa_base.specs.Branch.{branch_cmp, gtrid_cmp}

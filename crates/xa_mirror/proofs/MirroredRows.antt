@@ -1,11 +1,11 @@
 -- A start over a log that was made of a mirror: where the branches of a transaction stand goes on
 -- by what it has of the transaction.
-use Rattle.std.proofs.Common.{◌≡◌, ◌≤◌, inl, inr, List, [], ◌∷◌, Bool, true, false, Option, Some, None, refl, sym, ap, ◌∙◌, subst, arith}
+use Rattle.std.proofs.Common.{◌⊎◌, ◌≡◌, ◌≤◌, inl, inr, List, [], ◌∷◌, Bool, true, false, Option, Some, None, refl, sym, ap, ◌∙◌, subst, arith}
 use Rattle.std.proofs.lemmas.Bool.{true≢false}
 use Rattle.std.specs.FinMap.{get}
 use Rattle.std.specs.List.{list_any}
 use Rattle.std.specs.Ordering.{eq_by_cmp}
-use Rattle.std.specs.Prelude.{◌||◌, if◌then◌else◌, is_some}
+use Rattle.std.specs.Prelude.{◌||◌, if◌then◌else◌, is_some, unwrap_or}
 use Rattle.xa_base.proofs.BranchKeys.{branch_eq-refl, branch_eq-true}
 use Rattle.xa_base.proofs.BranchOrder.{branches_total}
 use Rattle.xa_base.proofs.Orders.{branch_swap}
@@ -13,8 +13,9 @@ use Rattle.xa_base.specs.Branch.{branch_cmp, branch_eq, gtrid_eq}
 use Rattle.xa_base.specs.StateTable.{broken}
 use Rattle.xa_base.specs.declared.state.Standing.{Standing}
 use Rattle.xa_base.specs.declared.state.Standing.TheVariants.{Active, Committed, Completed, Forgotten, Idle, Lost, Prepared, ReadOnly, RollbackOnly, RolledBack, Unstarted}
-use Rattle.xa_log.specs.Content.{Content}
+use Rattle.xa_log.specs.Content.{Content, participants_of}
 use Rattle.xa_log.specs.KeySet.{contains, contains-from_list, from_list}
+use Rattle.xa_log.specs.KeySet.{empty as nobody}
 use Rattle.xa_mirror.specs.Mirrors.{AllAreOver, IsMirrorFor, IsOver, NoneIsCommitted}
 use Rattle.xa_model.specs.Facts.{has_branch, has_record, lists_row, participants_in}
 use Rattle.xa_model.specs.Trace.{Branch, Gtrid, Origin, Row}
@@ -131,6 +132,34 @@ pub decided_over : (g : Gtrid) (f : Branch → Standing) (o : Origin) → lists_
 decided_over g f o none (inl row) = absurd (true≢false (sym row ∙ none))
 decided_over g f o none (inr over) = λ b q. over_if (f b) (over.1 b q).0 (over.1 b q).1
 
+-- with a row, if all that it waits for are over
+over_unless : (f : Standing) → IsKept (broken f) → (f ≡ Prepared → IsOver f) → IsOver f
+over_unless Unstarted k n = tt
+over_unless Active k n = absurd k
+over_unless Idle k n = absurd k
+over_unless RollbackOnly k n = absurd k
+over_unless Prepared k n = n refl
+over_unless RolledBack k n = absurd k
+over_unless Lost k n = absurd k
+over_unless Committed k n = tt
+over_unless ReadOnly k n = tt
+over_unless (Completed how) k n = tt
+over_unless (Forgotten how) k n = tt
+
+waits_at : (x : Option Waiting) (b : Branch) → waits_in x b ≡ true → contains (unwrap_or x nobody) b ≡ true
+unfolding waits_in
+waits_at (Some set) b e = e
+waits_at None b e = absurd (true≢false (sym e))
+
+pub participants_over : (g : Gtrid) (c : Content) (f : Branch → Standing) (next : Origin) → IsRaisedFrom c next → Stands g next (λ b. broken (f b))
+    → is_some (get c.decisions g) ≡ true → ((b : Branch) → contains (participants_of c g) b ≡ true → IsOver (f b)) → AllAreOver g f
+participants_over g c f next from_c stands row over b q =
+    over_unless (f b) (stands.kept has b q)
+    (λ p. over b (waits_at (get c.decisions g) b (sym (waits_in_log c next from_c g b) ∙ stands.covers has b q (ap broken p))))
+  where
+    has : lists_row next.rows g ≡ true
+    has = row_in_log c next from_c g ∙ row
+
 -- ** a start over the mirror
 
 module _ (content : StartsHaveContent) (apart : StartRowsAreApart) (g : Gtrid) (c d : Content) (f : Branch → Standing) (mirror : IsMirrorFor g f c d)
@@ -165,7 +194,11 @@ module _ (content : StartsHaveContent) (apart : StartRowsAreApart) (g : Gtrid) (
   covers row false none b q e = absurd (past_not_prepared (broken (f b)) (over_past (f b) (mirror.more none row b q)) e)
 
   no_row : is_some (get d.decisions g) ≡ false → (t : Bool) → is_some (get c.decisions g) ≡ t → HasNoRow (λ b. broken (f b)) g
-  no_row gone true has = None_committed (λ b q e. mirror.missing has gone b q (committed_before (f b) e))
+  no_row gone true has = by (mirror.missing has gone)
+    where
+      by : NoneIsCommitted g f ⊎ AllAreOver g f → HasNoRow (λ b. broken (f b)) g
+      by (inl none) = None_committed (λ b q e. none b q (committed_before (f b) e))
+      by (inr over) = All_over (λ b q. (over_kept (f b) (over b q), over_past (f b) (over b q)))
   no_row gone false none = stood.no_row (row_in_log c lost from_c g ∙ none)
 
   pub mirror_stands : Stands g next (λ b. broken (f b))

@@ -9,12 +9,13 @@ use Rattle.xa_base.specs.Branch.{branch_eq}
 use Rattle.xa_base.specs.StateTable.{broken}
 use Rattle.xa_base.specs.declared.state.Standing.{Standing}
 use Rattle.xa_base.specs.declared.state.Standing.TheVariants.{Completed, Prepared, Unstarted}
-use Rattle.xa_log.specs.Content.{Content}
+use Rattle.xa_log.specs.Content.{Content, participants_of}
 use Rattle.xa_log.specs.Contract.{Moment}
-use Rattle.xa_mirror.proofs.MirroredRows.{all_over, decided_over, left_never, mirror_commits, mirror_never, mirror_row_commits, mirror_stands, row_in_log}
+use Rattle.xa_log.specs.KeySet.{contains}
+use Rattle.xa_mirror.proofs.MirroredRows.{all_over, decided_over, left_never, mirror_commits, mirror_never, mirror_row_commits, mirror_stands, participants_over, row_in_log}
 use Rattle.xa_mirror.proofs.OneSession.{one_more, start_raised}
 use Rattle.xa_mirror.specs.ToldMirrors.{WasHandedRow}
-use Rattle.xa_mirror.specs.Mirrors.{AllAreOver, AreServedAnew, AreServedAnew.Between, AreServedAnew.MadeAnew, AreServedAnew.NoneYet, AreServedAnew.OneMore, FailoversAgree, SomeIsCommitted, WasLeftDecided, WasLeftUndecided}
+use Rattle.xa_mirror.specs.Mirrors.{AllAreOver, AreServedAnew, AreServedAnew.Between, AreServedAnew.MadeAnew, AreServedAnew.NoneYet, AreServedAnew.OneMore, FailoversAgree, IsOver, SomeIsCommitted, WasLeftDecided, WasLeftUndecided}
 use Rattle.xa_model.specs.Facts.{has_record, lists_row}
 use Rattle.xa_model.specs.Promises.Agreement.{IsUndone}
 use Rattle.xa_model.specs.Trace.{Branch, Gtrid, How, Line, Origin}
@@ -132,6 +133,9 @@ module _ {L : Type 0} (moment : L → Moment) (laws : Laws L) (content : StartsH
     anew_never was =
         let never = starts_never c f served was (start_of c) from_c in
         record { never_committed = λ b q e. never.none b q (ap broken e); no_row = sym row ∙ never.no_row }
+
+    pub waited_over : is_some (get c.decisions g) ≡ true → ((b : Branch) → contains (participants_of c g) b ≡ true → IsOver (f b)) → AllAreOver g f
+    waited_over has over = participants_over g c f (start_of c) from_c stands has over
 
     pub settled_over : is_some (get c.decisions g) ≡ false → SomeIsCommitted g f ⊎ WasLeftDecided moment name g c f served → AllAreOver g f
     settled_over none (inl some) = all_over g f some.0 (stands.no_row (row ∙ none)) some.1 (ap broken some.2)

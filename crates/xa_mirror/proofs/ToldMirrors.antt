@@ -9,8 +9,8 @@ use Rattle.xa_log.specs.Contract.{Moment}
 use Rattle.xa_mirror.proofs.IssuedCommits.{OnlyManagers, committed_issued, failed_issued, issued_behind, issued_seen, only_managers, untold_issued, were_issued}
 use Rattle.xa_mirror.proofs.MirroredRows.{committed_before}
 use Rattle.xa_mirror.proofs.ServedAnew.{handed_row, served_anew}
-use Rattle.xa_mirror.specs.Mirrors.{AllAreOver, SettledAreOver, FailoversAgree, NoneIsCommitted}
-use Rattle.xa_mirror.specs.ToldMirrors.{IsCommitIssued, NoCommitIssued, ToldFailoversAgree, ToldMirrorsAreMirrors, WasHandedRow, WasToldCommitted}
+use Rattle.xa_mirror.specs.Mirrors.{AllAreOver, FailoversAgree, IsOver, NoneIsCommitted, ParticipantsAreOver, SettledAreOver}
+use Rattle.xa_mirror.specs.ToldMirrors.{AllToldCommitted, IsCommitIssued, NoCommitIssued, ToldFailoversAgree, ToldMirrorsAreMirrors, WasHandedRow, WasToldCommitted}
 use Rattle.xa_model.specs.Facts.{standing}
 use Rattle.xa_model.specs.Trace.{Branch, Fault, Gtrid, Origin, Trace}
 use Rattle.xa_monitor.specs.Seen.{Seen}
@@ -20,7 +20,7 @@ use Rattle.xa_outcomes.specs.Served.{HaveServedHistory, IsOfServed, ServedSessio
 use Rattle.xa_server.proofs.LeftLogs.{raised_once, start_of}
 use Rattle.xa_server.specs.HeardEnds.{ServedEndsStay}
 use Rattle.xa_server.specs.Sessions.{AreServed, AreServed.Between, AreServed.NoneYet, AreServed.OneMore, IsSessionLeft, IsSessionLeft.AfterLine, IsSessionLeft.InAnswer, IsSessionLeft.InRequest, WasLeft}
-use Rattle.xa_server.specs.Transactions.{HasNoRowOf}
+use Rattle.xa_server.specs.Transactions.{HasNoRowOf, HasRowOf}
 use Rattle.xa_server.specs.declared.server.Server.{Server}
 use Rattle.xa_tm.specs.Laws.{StartRowsAreApart}
 use Rattle.xa_tm.specs.Starting.{StartsHaveContent}
@@ -74,7 +74,7 @@ module _ {L : Type 0} (moment : L → Moment) (name : List ℕ) (g : Gtrid) wher
       never_issued last from before past parts none (sym (ap (λ t. were_issued t g) is) ∙ e)
 
 module _ {L : Type 0} (moment : L → Moment) (content : StartsHaveContent) (apart : StartRowsAreApart) (parts : ServedSessionsAreParts moment)
-    (ends : ServedEndsStay moment) (over : SettledAreOver moment) (agree : FailoversAgree moment) where
+    (ends : ServedEndsStay moment) (over : SettledAreOver moment) (waited : ParticipantsAreOver moment) (agree : FailoversAgree moment) where
   none_committed : (name : List ℕ) (g : Gtrid) (last : Option (Server L)) (f : Branch → Standing) (served : AreServed moment name last f) (c : Content)
       → WasLeft moment last c → NoCommitIssued moment name g last f served → NoneIsCommitted g f
   none_committed name g last f served c was none b q e =
@@ -93,10 +93,18 @@ module _ {L : Type 0} (moment : L → Moment) (content : StartsHaveContent) (apa
   all_over name g last f served c was gone (inr row) =
       over name g c f (served_anew moment name g last f served c was) gone (inr (handed_row moment content apart name g last f served c was row))
 
+  either : (name : List ℕ) (g : Gtrid) (last : Option (Server L)) (f : Branch → Standing) (served : AreServed moment name last f) (c : Content)
+      → WasLeft moment last c → HasRowOf c g → NoCommitIssued moment name g last f served ⊎ AllToldCommitted moment name g last f served c
+      → NoneIsCommitted g f ⊎ AllAreOver g f
+  either name g last f served c was has (inl none) = inl (none_committed name g last f served c was none)
+  either name g last f served c was has (inr all) =
+      inr (waited name g c f (served_anew moment name g last f served c was) has
+      (λ b waits. subst IsOver (sym (ends name last f served b Committed (all b waits))) tt))
+
   pub told_mirrors : ToldMirrorsAreMirrors moment
   told_mirrors name g last f served log mirror was told = record {
     later = told.later;
-    missing = λ has lacks. none_committed name g last f served log was (told.missing has lacks);
+    missing = λ has lacks. either name g last f served log was has (told.missing has lacks);
     more = λ gone has. all_over name g last f served log was gone (told.more gone has);
     same = told.same;
     records = told.records;

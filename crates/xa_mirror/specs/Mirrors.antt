@@ -7,8 +7,9 @@ use Rattle.xa_base.specs.Branch.{branch_eq}
 use Rattle.xa_base.specs.StateTable.{broken}
 use Rattle.xa_base.specs.declared.state.Standing.{Standing}
 use Rattle.xa_base.specs.declared.state.Standing.TheVariants.{Committed, Completed, Forgotten, ReadOnly, Unstarted}
-use Rattle.xa_log.specs.Content.{Content, without_decision}
+use Rattle.xa_log.specs.Content.{Content, participants_of, without_decision}
 use Rattle.xa_log.specs.Contract.{Moment}
+use Rattle.xa_log.specs.KeySet.{contains}
 use Rattle.xa_model.specs.Trace.{Branch, Gtrid, Line, Origin}
 use Rattle.xa_monitor.specs.Agreement.{MayAllStand, StandAlike}
 use Rattle.xa_monitor.specs.Seen.{Seen}
@@ -44,13 +45,14 @@ abbrev pub AllAreOver : Gtrid → (Branch → Standing) → Type 0
 AllAreOver g f = (b : Branch) → b.gtrid ≡ g → IsOver (f b)
 
 -- What a mirror has of a transaction, if its branches stand so, and this was left in the log. It
--- may lack the row, as of a decision that was lost with the log before the mirror had it: then
--- none of the branches is committed. It may have a row that left the log: then all of them are
--- over. A row that both have is the same, a record of the mirror is one of the log's too, and the
--- mirror's incarnation isn't smaller.
+-- may lack the row: then none of the branches is committed, as of a decision that was lost with
+-- the log before the mirror had it, or all of them are over, as if the row has left the mirror
+-- first. It may have a row that left the log: then all of them are over. A row that both have is
+-- the same, a record of the mirror is one of the log's too, and the mirror's incarnation isn't
+-- smaller.
 pub record IsMirrorFor (g : Gtrid) (f : Branch → Standing) (log mirror : Content) : Type 0 where
   pub later : log.incarnation ≤ mirror.incarnation
-  pub missing : HasRowOf log g → HasNoRowOf mirror g → NoneIsCommitted g f
+  pub missing : HasRowOf log g → HasNoRowOf mirror g → NoneIsCommitted g f ⊎ AllAreOver g f
   pub more : HasNoRowOf log g → HasRowOf mirror g → AllAreOver g f
   pub same : HasRowOf log g → HasRowOf mirror g → get mirror.decisions g ≡ get log.decisions g
   pub records : (b : Branch) → b.gtrid ≡ g → is_some (get mirror.heuristics b) ≡ true → is_some (get log.heuristics b) ≡ true
@@ -144,6 +146,12 @@ abbrev pub SettledAreOver : {L : Type 0} → (L → Moment) → Type 0
 SettledAreOver {L} moment =
     (name : List ℕ) (g : Gtrid) (c : Content) (f : Branch → Standing) (served : AreServedAnew moment name g c f) → HasNoRowOf c g
     → SomeIsCommitted g f ⊎ WasLeftDecided moment name g c f served → AllAreOver g f
+
+-- And so they are if the log has the row, and all that it waits for are over.
+abbrev pub ParticipantsAreOver : {L : Type 0} → (L → Moment) → Type 0
+ParticipantsAreOver {L} moment =
+    (name : List ℕ) (g : Gtrid) (c : Content) (f : Branch → Standing) → AreServedAnew moment name g c f → HasRowOf c g
+    → ((b : Branch) → contains (participants_of c g) b ≡ true → IsOver (f b)) → AllAreOver g f
 
 -- ** of all transactions
 

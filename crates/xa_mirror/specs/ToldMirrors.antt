@@ -1,6 +1,6 @@
 -- What a mirror has of a log, by what a driver told and was replied: it writes the row of a
 -- transaction to the mirror before it issues an xa_commit of a branch of it, and takes it away
--- only once the row has left the log.
+-- only once the row has left the log, or all that it waits for are committed.
 use Rattle.std.specs.Prelude.{◌≡◌, ◌≤◌, ◌⊎◌, ℕ, true, List, Option, is_some}
 use Rattle.std.specs.FinMap.{get}
 use Rattle.xa_base.specs.Branch.{gtrid_eq}
@@ -9,8 +9,9 @@ use Rattle.xa_base.specs.declared.answer.Answer.TheVariants.{Page}
 use Rattle.xa_base.specs.declared.call.Call.TheVariants as Calls
 use Rattle.xa_base.specs.declared.state.Standing.{Standing}
 use Rattle.xa_base.specs.declared.state.Standing.TheVariants.{Committed}
-use Rattle.xa_log.specs.Content.{Content}
+use Rattle.xa_log.specs.Content.{Content, participants_of}
 use Rattle.xa_log.specs.Contract.{Moment}
+use Rattle.xa_log.specs.KeySet.{contains}
 use Rattle.xa_mirror.specs.Mirrors.{IsMirrorFor}
 use Rattle.xa_model.specs.Facts.{lists_one_of}
 use Rattle.xa_model.specs.Trace.{Branch, Gtrid, Happening.Issued, Happening.Resolved, Happening.ResolvedOpen, Line, Origin}
@@ -67,15 +68,21 @@ abbrev pub WasToldCommitted : {L : Type 0} (moment : L → Moment) (name : List 
     → AreServed moment name last f → Type 0
 WasToldCommitted moment name g last f served = (b : Branch) × (b.gtrid ≡ g) × WasToldEndServed moment name b Committed last f served
 
+-- Answers to xa_commit told them that all are committed that its row waits for.
+abbrev pub AllToldCommitted : {L : Type 0} (moment : L → Moment) (name : List ℕ) (g : Gtrid) (last : Option (Server L)) (f : Branch → Standing)
+    → AreServed moment name last f → (log : Content) → Type 0
+AllToldCommitted moment name g last f served log =
+    (b : Branch) → contains (participants_of log g) b ≡ true → WasToldEndServed moment name b Committed last f served
+
 -- ** what the mirror has
 
 -- What a mirror has of a transaction, after such sessions. Of one that it lacks no xa_commit was
--- issued. Of one whose row left the log they were told that a branch is committed, or one of them
--- was handed a log with the row.
+-- issued, or all are told to be committed that the row waits for. Of one whose row left the log
+-- they were told that a branch is committed, or one of them was handed a log with the row.
 pub record IsToldMirror {L : Type 0} (moment : L → Moment) (name : List ℕ) (g : Gtrid) (last : Option (Server L)) (f : Branch → Standing)
     (served : AreServed moment name last f) (log mirror : Content) : Type 0 where
   pub later : log.incarnation ≤ mirror.incarnation
-  pub missing : HasRowOf log g → HasNoRowOf mirror g → NoCommitIssued moment name g last f served
+  pub missing : HasRowOf log g → HasNoRowOf mirror g → NoCommitIssued moment name g last f served ⊎ AllToldCommitted moment name g last f served log
   pub more : HasNoRowOf log g → HasRowOf mirror g → WasToldCommitted moment name g last f served ⊎ WasHandedRow moment name g last f served
   pub same : HasRowOf log g → HasRowOf mirror g → get mirror.decisions g ≡ get log.decisions g
   pub records : (b : Branch) → b.gtrid ≡ g → is_some (get mirror.heuristics b) ≡ true → is_some (get log.heuristics b) ≡ true

@@ -1,11 +1,11 @@
 //! What is so of sessions among which a log was made anew of a mirror. These functions do nothing:
 //! each contract is a theorem.
 
-ghost use Rattle.xa_mirror.specs.Mirrors.{AnewAgree, AnewDecisionsStand, AnewUndecidedStays};
 ghost use Rattle.xa_mirror.specs.HistoryWithout.{DecisionsMayBeLeftOut};
 ghost use Rattle.xa_mirror.specs.MadeLogs.{MadeLogsHoldLines};
+ghost use Rattle.xa_mirror.specs.Mirrors.{AnewAgree, AnewDecisionsStand, AnewUndecidedStays};
 ghost use Rattle.xa_mirror.specs.Mirrors.{CopiesAreMirrors, CopiesMayLackARow, FailoversAgree};
-ghost use Rattle.xa_mirror.specs.Mirrors.{ServedAreServedAnew, SettledAreOver};
+ghost use Rattle.xa_mirror.specs.Mirrors.{ParticipantsAreOver, ServedAreServedAnew, SettledAreOver};
 ghost use Rattle.xa_mirror.specs.ToldMirrors.{ToldFailoversAgree, ToldMirrorsAreMirrors};
 
 use xa_log::DecisionLog;
@@ -16,19 +16,21 @@ use xa_tm::laws::starts_are_histories;
 
 /// Sessions of a manager one after another agree on each transaction, also if the log was lost
 /// between two of them, once or more, and made anew of a mirror (`AreServedAnew`). Of the mirror it
-/// is supposed that it may lack the row of a transaction none of whose branches is committed, and
-/// may have that of one whose branches are all over; that a row is the same in both; and that its
-/// incarnation isn't smaller (`IsMirrorFor`).
+/// is supposed (`IsMirrorFor`) that it may lack the row of a transaction none of whose branches is
+/// committed, or whose branches are all over; that it may have a row that left the log, if they are
+/// all over; that a row is the same in both, and a record of the mirror one of the log's; and that
+/// its incarnation isn't smaller.
 ///
 /// - `agree`: none of the transaction's branches is committed beside one that is rolled back or
 ///   lost, and the log that is left decides of what is prepared still;
 /// - `decided`: if a log that was left, or that was made of a mirror, has its row, and no mirror
 ///   since then lacked it as the log still had it, none of its branches is ever rolled back or
 ///   lost, and the row is there as long as one is prepared;
-/// - `undecided`: if such a log has none, and no branch of it is committed, none ever is, as long
-///   as no mirror has the row;
+/// - `undecided`: if such a log has none, no branch of it is committed, and it is begun no more,
+///   none ever is, as long as no mirror has the row;
 /// - `over`: if the log that is left has no row of it, and one of its branches is committed, or a
 ///   log that was left before had the row, all of them are over;
+/// - `participants`: so they are if the log has the row, and all that it waits for are over;
 /// - `one_log`: sessions over one log, which was never lost, are such;
 /// - `failover`: of all transactions at once: sessions over a log, a log that is made anew of its
 ///   mirror, and a session over that.
@@ -37,6 +39,7 @@ pub fn mirrors_go_on<L: DecisionLog + Drop>()
     ensures decided { AnewDecisionsStand L.moment }
     ensures undecided { AnewUndecidedStays L.moment }
     ensures over { SettledAreOver L.moment }
+    ensures participants { ParticipantsAreOver L.moment }
     ensures one_log { ServedAreServedAnew L.moment }
     ensures failover { FailoversAgree L.moment }
 {
@@ -56,9 +59,10 @@ pub fn mirrors_are_there()
 
 /// What a mirror has is what `mirrors_go_on` supposes, if the driver writes the row of a
 /// transaction before it issues an xa_commit of a branch of it, and takes a row away only once it
-/// has left the log (`IsToldMirror`): of a transaction that the mirror lacks no lines and replies
-/// tell an xa_commit, and of one whose row left the log an answer told that a branch is committed,
-/// or a session was handed a log with the row.
+/// has left the log, or all that it waits for are committed (`IsToldMirror`). Of a transaction that
+/// the mirror lacks no lines and replies tell an xa_commit, or they tell that all are committed. Of
+/// one whose row left the log they tell that a branch is committed, or a session was handed a log
+/// with the row.
 ///
 /// - `mirrors`: each such mirror is one;
 /// - `failover`: so sessions over a log, a log that is made anew of such a mirror, and a session

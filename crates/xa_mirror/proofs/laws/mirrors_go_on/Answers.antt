@@ -1,4 +1,4 @@
-use Rattle.xa_mirror.proofs.ServedAnew.{anew_alike, anew_commits, anew_never, failovers_agree, over_one_log, settled_over}
+use Rattle.xa_mirror.proofs.ServedAnew.{anew_alike, anew_commits, anew_never, failovers_agree, over_one_log, settled_over, waited_over}
 use Rattle.xa_server.proofs.SessionChains.{Laws}
 use Rattle.xa_mirror.proofs.laws.mirrors_go_on.Goals as goal
 
@@ -20,6 +20,7 @@ returns g c =
       decided = λ name h content f served was. anew_commits moment laws starts.content starts.apart name h content f served was;
       undecided = λ name h content f served was. anew_never moment laws starts.content starts.apart name h content f served was;
       over = λ name h content f served none settled. settled_over moment laws starts.content starts.apart name h content f served none settled;
+      participants = λ name h content f served has over. waited_over moment laws starts.content starts.apart name h content f served has over;
       one_log = λ name h content f served. over_one_log moment name h content f served;
       failover = failovers_agree moment laws starts.content starts.apart;
     }

@@ -9,6 +9,6 @@ returns g c =
     let ends = c.heard_ends_stay.ensures.served in
     let go_on = c.mirrors_go_on.ensures in
     record {
-      mirrors = told_mirrors moment starts.content starts.apart parts ends go_on.over go_on.failover;
-      failover = told_failovers moment starts.content starts.apart parts ends go_on.over go_on.failover;
+      mirrors = told_mirrors moment starts.content starts.apart parts ends go_on.over go_on.participants go_on.failover;
+      failover = told_failovers moment starts.content starts.apart parts ends go_on.over go_on.participants go_on.failover;
     }

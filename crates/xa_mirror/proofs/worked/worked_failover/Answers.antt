@@ -9,8 +9,8 @@ pub returns : goal.returns
 returns g c = record {
   fails_over = IfOk-weaker c.worked_sessions.result _ _
       (λ last honestly order honest empty left n leaves later.
-        MadeAnew left (copied n left) (stand_at first_gtrid Committed Prepared)
-        (c.mirrors_go_on.ensures.one_log [] first_gtrid left (stand_at first_gtrid Committed Prepared) ((honestly order honest empty).stand.alone left leaves))
-        (c.mirrors_are_there.ensures.copies (stand_at first_gtrid Committed Prepared) left n later first_gtrid))
-      c.worked_sessions.ensures;
+      MadeAnew left (copied n left) (stand_at first_gtrid Committed Prepared)
+      (c.mirrors_go_on.ensures.one_log [] first_gtrid left (stand_at first_gtrid Committed Prepared) ((honestly order honest empty).stand.alone left leaves))
+      (c.mirrors_are_there.ensures.copies (stand_at first_gtrid Committed Prepared) left n later first_gtrid))
+      c.worked_sessions.ensures.worked;
 }
