@@ -7,9 +7,10 @@
 #include <string.h>
 #include <unistd.h>
 
+#include "answer.h"
 #include "xid_text.h"
 
-enum { LOCKS = 128, TRIES = 1000, SECONDS_TO_CONNECT = 10, NO_SUCH_TABLE = 1146 };
+enum { LOCKS = 128, TRIES = 1000, NO_SUCH_TABLE = 1146 };
 
 static struct connection *connection_of(int rmid)
 {
@@ -47,14 +48,14 @@ static bool is_timeout_set(struct connection *c, const char *seconds)
     char statement[64];
 
     snprintf(statement, sizeof statement, "SET SESSION innodb_lock_wait_timeout = %s", seconds);
-    return seconds[0] == '\0' || mysql_query(c->link, statement) == 0;
+    return seconds[0] == '\0' || is_done(c->link, statement);
 }
 
 /* Work outside of a branch would be committed by itself: so one that begins later finds the
  * connection read-only. */
 static bool is_connected(struct connection *c, const struct words *words)
 {
-    unsigned seconds = SECONDS_TO_CONNECT;
+    unsigned seconds = LONGEST_GREETING;
 
     c->link = mysql_init(NULL);
     if (c->link == NULL)
@@ -64,7 +65,7 @@ static bool is_connected(struct connection *c, const struct words *words)
             or_null(words->socket), 0)
             != NULL
         && (c->label[0] == '\0' || is_lock_taken(c)) && is_timeout_set(c, words->lock_timeout)
-        && (!c->held.is_dynamic || mysql_query(c->link, "SET SESSION TRANSACTION READ ONLY") == 0))
+        && (!c->held.is_dynamic || is_done(c->link, "SET SESSION TRANSACTION READ ONLY")))
         return true;
     fprintf(stderr, "gf_mariadb: %s\n", mysql_error(c->link));
     mysql_close(c->link);
@@ -223,7 +224,7 @@ static int strays_of(struct connection *c, unsigned long found[LOCKS])
     for (int slot = 0; slot < LOCKS; slot++)
         length +=
             (size_t)snprintf(statement + length, sizeof statement - length, "%sIS_USED_LOCK('%s.%d')", slot ? "," : "", c->label, slot);
-    MYSQL_RES *rows = mysql_query(c->link, statement) == 0 ? mysql_store_result(c->link) : NULL;
+    MYSQL_RES *rows = is_done(c->link, statement) ? mysql_store_result(c->link) : NULL;
     MYSQL_ROW row = rows == NULL ? NULL : mysql_fetch_row(rows);
     for (int slot = 0; row != NULL && slot < LOCKS; slot++) {
         struct sought it = {.number = row[slot] == NULL ? 0 : strtoul(row[slot], NULL, 10)};
@@ -250,7 +251,7 @@ static bool are_strays_ended(struct connection *c)
     for (int tries = 0; tries < TRIES && (count = strays_of(c, found)) > 0; tries++) {
         for (int i = 0; i < count; i++) {
             snprintf(statement, sizeof statement, "KILL CONNECTION %lu", found[i]);
-            mysql_query(c->link, statement); /* it may have gone meanwhile */
+            is_done(c->link, statement); /* it may have gone meanwhile */
         }
         usleep(20000);
     }
@@ -307,10 +308,10 @@ static char *own_identity(struct connection *c)
     bool is_drawn = drawn != NULL && is_uuid(drawn); /* nothing else of the server gets into a statement */
     snprintf(statement, sizeof statement, "CREATE SQL SECURITY INVOKER VIEW IF NOT EXISTS garterfossil_identity AS SELECT '%.36s' AS id",
         is_drawn ? drawn : "");
-    bool is_made = is_drawn && mysql_query(c->link, "SET SESSION TRANSACTION READ WRITE") == 0 && mysql_query(c->link, statement) == 0;
+    bool is_made = is_drawn && is_done(c->link, "SET SESSION TRANSACTION READ WRITE") && is_done(c->link, statement);
     free(drawn);
     if (c->held.is_dynamic)
-        mysql_query(c->link, "SET SESSION TRANSACTION READ ONLY");
+        is_done(c->link, "SET SESSION TRANSACTION READ ONLY");
     return is_made ? value_of(c->link, asked) : NULL;
 }
 

@@ -22,6 +22,8 @@ int finish(struct connection *);
 MYSQL_RES *list_of(struct connection *);
 /* The next identifier of a list. False at its end. */
 bool is_listed_next(MYSQL_RES *, XID *);
+/* Whether the server has done a statement. */
+bool is_done(MYSQL *, const char *statement);
 /* The first value of the first row, to be freed; NULL if there is none. */
 char *value_of(MYSQL *, const char *statement);
 

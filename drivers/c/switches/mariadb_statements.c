@@ -3,6 +3,7 @@
 #include <stdlib.h>
 #include <string.h>
 
+#include "answer.h"
 #include "mariadb.h"
 #include "xid_text.h"
 
@@ -54,12 +55,23 @@ static bool is_sent(struct connection *c, enum step step, const char *verb, cons
     return mysql_send_query(c->link, statement, (unsigned long)length) == 0;
 }
 
+static bool is_read(MYSQL *link)
+{
+    wait_for_answer(mysql_get_socket(link), LONGEST_ANSWER);
+    return mysql_read_query_result(link) == 0;
+}
+
+bool is_done(MYSQL *link, const char *statement)
+{
+    return mysql_send_query(link, statement, strlen(statement)) == 0 && is_read(link);
+}
+
 static bool is_run(struct connection *c, const char *verb, const XID *xid)
 {
     char statement[STATEMENT], text[XID_TEXT];
 
     snprintf(statement, sizeof statement, "XA %s %s", verb, in_sql(xid, text));
-    return mysql_query(c->link, statement) == 0;
+    return is_done(c->link, statement);
 }
 
 /* The branch couldn't be ended as it was asked: it is rolled back, and the code says why. */
@@ -110,7 +122,7 @@ bool is_listed_next(MYSQL_RES *rows, XID *xid)
 
 MYSQL_RES *list_of(struct connection *c)
 {
-    return mysql_query(c->link, "XA RECOVER") == 0 ? mysql_store_result(c->link) : NULL;
+    return is_done(c->link, "XA RECOVER") ? mysql_store_result(c->link) : NULL;
 }
 
 /* Whether the server lists a branch. It says that there is none, too, while another connection that
@@ -129,7 +141,7 @@ static bool is_listed(struct connection *c, const XID *xid)
 
 char *value_of(MYSQL *link, const char *statement)
 {
-    MYSQL_RES *rows = mysql_query(link, statement) == 0 ? mysql_store_result(link) : NULL;
+    MYSQL_RES *rows = is_done(link, statement) ? mysql_store_result(link) : NULL;
     MYSQL_ROW row = rows == NULL ? NULL : mysql_fetch_row(rows);
     char *value = row == NULL || row[0] == NULL ? NULL : strdup(row[0]);
 
@@ -159,7 +171,7 @@ static int finish_prepared(struct connection *c, bool is_right)
 
 int finish(struct connection *c)
 {
-    bool is_right = mysql_read_query_result(c->link) == 0;
+    bool is_right = is_read(c->link);
 
     if (!is_right && is_lost(c))
         return over(&c->held, XAER_RMFAIL);

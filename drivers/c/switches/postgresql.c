@@ -8,6 +8,7 @@
 #include <string.h>
 #include <unistd.h>
 
+#include "answer.h"
 #include "xid_text.h"
 
 enum { TRIES = 1000, STATEMENT = 65536 };
@@ -46,9 +47,13 @@ static int look_at_result(PGEventId event, void *info, void *connection)
  * connection read-only. */
 static bool is_connected(struct connection *c, const char *info)
 {
-    c->link = PQconnectdb(info);
+    char seconds[12];
+
+    /* What stands in front of the settings is what holds if they don't say otherwise. */
+    snprintf(seconds, sizeof seconds, "%d", LONGEST_GREETING);
+    c->link = PQconnectdbParams((const char *[]){"connect_timeout", "dbname", NULL}, (const char *[]){seconds, info, NULL}, 1);
     if (PQstatus(c->link) == CONNECTION_OK && PQregisterEventProc(c->link, look_at_result, "gf_postgresql", c) == 1
-        && (!c->held.is_dynamic || is_true(PQexec(c->link, "SET default_transaction_read_only = on"), PGRES_COMMAND_OK)))
+        && (!c->held.is_dynamic || is_true(asked(c, "SET default_transaction_read_only = on"), PGRES_COMMAND_OK)))
         return true;
     fprintf(stderr, "gf_postgresql: %s", PQerrorMessage(c->link));
     PQfinish(c->link);
@@ -226,7 +231,7 @@ static bool are_ended(struct connection *c, const char *statement)
     bool is_done = false, is_right = true;
 
     for (int tries = 0; tries < TRIES && is_right && !is_done; tries++) {
-        PGresult *result = PQexec(c->link, statement);
+        PGresult *result = asked(c, statement);
         is_right = PQresultStatus(result) == PGRES_TUPLES_OK;
         is_done = is_right && PQntuples(result) == 0;
         PQclear(result);
@@ -258,7 +263,7 @@ static bool is_list_read(struct connection *c)
     PQclear(c->listed);
     c->row = 0;
     c->listed =
-        are_strays_ended(c) ? PQexec(c->link, "SELECT gid FROM pg_prepared_xacts WHERE database = current_database() ORDER BY gid") : NULL;
+        are_strays_ended(c) ? asked(c, "SELECT gid FROM pg_prepared_xacts WHERE database = current_database() ORDER BY gid") : NULL;
     if (PQresultStatus(c->listed) == PGRES_TUPLES_OK)
         return true;
     PQclear(c->listed);
@@ -301,10 +306,10 @@ API PGconn *gf_pg_connection(int rmid)
 /* As the drivers in Python and Java call it. */
 API int gf_pg_switch_identity(int rmid, const char *kept, char identity[256])
 {
-    static const char asked[] = "SELECT 'the database ' || oid || ' of the system ' || system_identifier || ' of PostgreSQL'"
+    static const char asks[] = "SELECT 'the database ' || oid || ' of the system ' || system_identifier || ' of PostgreSQL'"
                                 " FROM pg_control_system(), pg_database WHERE datname = current_database()";
     struct connection *c = connection_of(rmid);
-    PGresult *result = c == NULL ? NULL : PQexec(c->link, asked);
+    PGresult *result = c == NULL ? NULL : asked(c, asks);
     bool is_told = PQresultStatus(result) == PGRES_TUPLES_OK && PQntuples(result) == 1;
 
     (void)kept;

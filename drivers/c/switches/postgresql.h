@@ -22,6 +22,8 @@ struct connection {
 
 /* Whether PostgreSQL has room for its text. */
 bool has_text(const XID *);
+/* What came of a statement of one result, which needs no COPY; NULL if it couldn't be sent. */
+PGresult *asked(struct connection *, const char *statement);
 /* Reads what came of a statement. False if the connection is lost, or in the midst of a COPY. */
 bool is_answered(struct connection *);
 /* A call by one statement: its code, or with TMASYNC a handle. */

@@ -4,6 +4,7 @@
 #include <stdio.h>
 #include <string.h>
 
+#include "answer.h"
 #include "postgresql.h"
 #include "xid_text.h"
 
@@ -16,12 +17,36 @@ bool has_text(const XID *xid)
     return xid->gtrid_length + xid->bqual_length <= XIDDATASIZE && strlen(text_of(xid, text)) < GID;
 }
 
+static PGresult *next_result(struct connection *c)
+{
+    bool is_there = true;
+
+    while (is_there && PQisBusy(c->link)) {
+        wait_for_answer(PQsocket(c->link), LONGEST_ANSWER);
+        is_there = PQconsumeInput(c->link) == 1;
+    }
+    return PQgetResult(c->link);
+}
+
+PGresult *asked(struct connection *c, const char *statement)
+{
+    PGresult *last = NULL, *result;
+
+    if (PQsendQuery(c->link, statement) != 1)
+        return NULL;
+    while ((result = next_result(c)) != NULL) {
+        PQclear(last);
+        last = result;
+    }
+    return last;
+}
+
 bool is_answered(struct connection *c)
 {
     PGresult *result;
 
     c->tag[0] = c->sqlstate[0] = '\0';
-    while ((result = PQgetResult(c->link)) != NULL) {
+    while ((result = next_result(c)) != NULL) {
         ExecStatusType status = PQresultStatus(result);
         bool is_copy = status == PGRES_COPY_IN || status == PGRES_COPY_OUT || status == PGRES_COPY_BOTH;
         const char *sqlstate = PQresultErrorField(result, PG_DIAG_SQLSTATE);

@@ -3,8 +3,11 @@
 #include <stddef.h>
 #include <stdio.h>
 #include <string.h>
+#include <sys/socket.h>
+#include <unistd.h>
 
 #include "../src/session.h"
+#include "../switches/answer.h"
 #include "../switches/xid_text.h"
 #include "story.h"
 
@@ -120,7 +123,23 @@ static void values_of_headers(void)
     IS(sizeof(struct xa_switch_t), 32 + 2 * sizeof(long) + 10 * sizeof(void (*)(void)));
 }
 
+/* Of a database that is silent the connection is lost. */
+static void answers_that_never_come(void)
+{
+    int ends[2];
+    char byte;
+
+    IS(socketpair(AF_UNIX, SOCK_STREAM, 0, ends), 0);
+    IS(write(ends[1], "x", 1), 1);
+    wait_for_answer(ends[0], LONGEST_ANSWER);
+    IS(read(ends[0], &byte, 1), 1);
+    wait_for_answer(ends[0], 50);
+    IS(read(ends[0], &byte, 1), 0);
+    close(ends[0]);
+    close(ends[1]);
+}
+
 const struct story of_parts[] = {{"parts: settings that are wrong", settings_that_are_wrong},
     {"parts: texts of identifiers", texts_of_identifiers}, {"parts: places of logs", places_of_logs},
-    {"parts: texts of UUIDs", texts_of_uuids}, {"parts: numbers in replies", numbers_in_replies},
-    {"parts: values of headers", values_of_headers}, {NULL, NULL}};
+    {"parts: answers that never come", answers_that_never_come}, {"parts: texts of UUIDs", texts_of_uuids},
+    {"parts: numbers in replies", numbers_in_replies}, {"parts: values of headers", values_of_headers}, {NULL, NULL}};

@@ -1,0 +1,11 @@
+/* How long an answer of a database is waited for. */
+#ifndef ANSWER_H
+#define ANSWER_H
+
+/* Milliseconds for each call of XA; seconds for a connection that is made. */
+enum { LONGEST_ANSWER = 60000, LONGEST_GREETING = 10 };
+
+/* Waits until a socket has something to read, for so many milliseconds at most. Then it is shut:
+ * whoever reads from it finds the connection lost. */
+void wait_for_answer(int socket, long milliseconds);
+#endif
