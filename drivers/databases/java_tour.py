@@ -7,7 +7,7 @@ import subprocess
 import tempfile
 
 from broker import BrokerServer
-from jdbc import ACTIVEMQ, BITRONIX, compiled, driver_of, paths_of
+from jdbc import ACTIVEMQ, BITRONIX, HIBERNATE, compiled, driver_of, paths_of
 from servers import MariaDBServer, Missing, PostgreSQLServer, free_port, processes_of
 from world import TOP
 
@@ -164,6 +164,18 @@ def see_broker(world, path):
     return not is_right
 
 
+def see_hibernate(world, folder, path):
+    """What Hibernate's sessions hold is written as the transaction is committed, also after one that a time-out rolled back. How much was
+    wrong."""
+    words = ["java", "-cp", ":".join(path), "Persist", f"{folder}/persist.db", world.coordinator, *(server.url() for server in world.servers), "it"]
+    with open(f"{world.home}/driver.log", "a") as log:
+        said = subprocess.run(words, stdout=subprocess.PIPE, stderr=log, text=True).stdout.split("\n")[:-1]
+    held = [rows_of(world, f"it-{name}") for name in ("committed", "undone", "late", "next")]
+    is_right = said == ["rolled back", "committed"] and held == [[1, 1], [0, 0], [0, 0], [1, 1]]
+    print(f"{'ok   ' if is_right else 'WRONG'} Java: Hibernate's sessions are written with the transaction: {held}", flush=True)
+    return not is_right
+
+
 def run(world):
     """Prints each story. How many were wrong."""
     if {type(server) for server in world.servers} != {PostgreSQLServer, MariaDBServer}:
@@ -172,7 +184,7 @@ def run(world):
     folder = tempfile.mkdtemp(dir=world.home)
     os.chmod(folder, 0o755)
     names = ["Tour", "Grow", "Halt", "Hooks", "Speed"]
-    for needed, more, what in ((ACTIVEMQ, ["Broker", "Drain", "Leftover"], "a broker"),):
+    for needed, more, what in ((ACTIVEMQ, ["Broker", "Drain", "Leftover"], "a broker"), (HIBERNATE, ["Persist"], "Hibernate")):
         try:
             paths_of(needed)
             names += more
@@ -194,6 +206,7 @@ def run(world):
             wrong = subprocess.run(words, stderr=log).returncode != 0
         wrong += see_set_ups(world, folder, path) + see_command(world, folder, path) + see_grown(world, folder, path)
         wrong += see_broker(world, path) if "Broker" in names else 0
+        wrong += see_hibernate(world, folder, path) if "Persist" in names else 0
         return wrong + sum(see_failover(world, folder, path, mirror) for mirror in (0, 1))
     finally:
         for server in world.servers:

@@ -13,7 +13,7 @@ from servers import Missing, PostgreSQLServer, free_port
 from world import HERE, TOP
 
 JARS = "/usr/share/java"
-#: The files of what drivers/java, Bitronix and ActiveMQ need, and their packages of Debian.
+#: The files of what drivers/java, Bitronix, ActiveMQ and Hibernate need, and their packages of Debian.
 INTERFACES = {
     "geronimo-jta-1.2-spec.jar": "libgeronimo-jta-1.2-spec-java",
     "geronimo-jms_1.1_spec.jar": "libgeronimo-jms-1.1-spec-java",
@@ -27,6 +27,17 @@ ACTIVEMQ = {
     "activemq-protobuf.jar": "libactivemq-protobuf-java",
     "hawtbuf.jar": "libhawtbuf-java",
     "geronimo-j2ee-management-1.1-spec.jar": "libgeronimo-j2ee-management-1.1-spec-java",
+    "slf4j-api.jar": "libslf4j-java",
+    "slf4j-nop.jar": "libslf4j-java",
+}
+HIBERNATE = {
+    "hibernate-core.jar": "libhibernate3-java",
+    "hibernate-commons-annotations.jar": "libhibernate-commons-annotations-java",
+    "geronimo-jpa_2.0_spec.jar": "libgeronimo-jpa-2.0-spec-java",
+    "antlr.jar": "libantlr-java",
+    "commons-collections3.jar": "libcommons-collections3-java",
+    "dom4j.jar": "libdom4j-java",
+    "javassist.jar": "libjavassist-java",
     "slf4j-api.jar": "libslf4j-java",
     "slf4j-nop.jar": "libslf4j-java",
 }
@@ -59,6 +70,8 @@ def compiled(folder, names):
         path += paths_of(BITRONIX)
     if {"Bank", "Drain", "Broker"} & set(names):
         path += paths_of(ACTIVEMQ)
+    if "Persist" in names:
+        path += paths_of(HIBERNATE)
     subprocess.run([f"{TOP}/drivers/java/build", folder], check=True, stdout=subprocess.DEVNULL)
     path.append(f"{folder}/garterfossil-javax.jar")
     sources = [f"{HERE}/java/{name}.java" for name in names]
