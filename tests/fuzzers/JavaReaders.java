@@ -119,6 +119,9 @@ final class JavaReaders {
         System.exit(0);
     }
 
+    /** Seconds of the clock after which an input is taken for one that doesn't end: a machine with much to do may leave it no processor for some. */
+    private static final long MOST_SECONDS = 600;
+
     /** What an input ends in on a thread of its own, which one that doesn't end keeps; null if it ends well. */
     private static Throwable inTime(Callable<Void> input) throws InterruptedException {
         FutureTask<Void> task = new FutureTask<>(input);
@@ -126,7 +129,7 @@ final class JavaReaders {
         thread.setDaemon(true);
         thread.start();
         try {
-            task.get(60, TimeUnit.SECONDS);
+            task.get(MOST_SECONDS, TimeUnit.SECONDS);
             return null;
         } catch (ExecutionException error) {
             return error.getCause();
