@@ -13,8 +13,9 @@ from .machine import BYTES_A_JOB, jobs_for, processors
 # All that follows was measured on a machine that adds up so many squares in so many seconds.
 SQUARES, SECONDS = 200_000, 0.0115
 # Minutes of one processor, from nothing: of --quick, of what the whole gate does of it, and of all
-# proofs of rt ci with the tests.
-QUICK, QUICK_PART, PROOFS = 8, 4, 94
+# proofs of rt ci with the tests. (94 before there were xa_conduct, xa_labels and xa_outcomes, which
+# are counted by what they took beside the others in a run on another machine.)
+QUICK, QUICK_PART, PROOFS = 8, 4, 111
 # Processor seconds of an edit.
 EDIT = 6
 # Minutes at the end, in which processors are idle: if the program is built anew, and if all is
