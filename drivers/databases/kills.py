@@ -52,7 +52,7 @@ class Kills:
             print("kills: a driver failed:", "".join(it.readlines()[-20:]), file=sys.stderr)
 
     def kill(self, what):
-        """Kills something. False where it isn't there at this moment."""
+        """Kills something. False if it isn't there at this moment."""
         if what == "driver":
             self.driver.kill()
             self.driver.wait()

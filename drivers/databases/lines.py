@@ -1,4 +1,4 @@
-"""Writes random requests, right and wrong, to the coordinator. Each line gets just one reply, and behind what is refused the
+"""Writes random requests, right and wrong, to the coordinator. Each line gets exactly one reply, and after what is refused the
 session stands as before: as much has happened, the same calls wait, the same is owed."""
 
 import collections
@@ -13,7 +13,7 @@ CODES = [0, 0, 0, 0, 3, 4, 5, 6, 7, 8, 100, 102, 107, 108, -3, -4, -5, -6, -7, -
 FOREIGN = ["-1:00:00", "3:0a:0b", "7::", "x:00:00", "7:0A:0b", "7:00:00:00"]
 ODD = ["", " ", "begin", "begin  0", "begin 0 ", " begin 0", "begin -1", "begin 00", "begin 99999999999", "issue 0 0", "decide", "done",
        "\t", "quit now", "status up", "é" * 3, "\udcff\udcfe", "x" * 5000, "crash", "crash tm", "BEGIN 0"]
-#: What is asked behind each line: how the session stands.
+#: What is asked after each line: how the session stands.
 LOOKS = ["status", *(f"waiting {thread} {rm}" for thread in range(2) for rm in range(2)), "owed 0", "owed 1"]
 
 
@@ -42,7 +42,7 @@ class Requests:
         return f"{name} {self.branch()}{flags}"
 
     def answer_to(self, thread, rm, waits):
-        """An answer to the call that waits first, mostly a fitting one; or a call, where nothing waits."""
+        """An answer to the call that waits first, mostly a fitting one; or a call, if nothing waits."""
         words = waits.split(" ")[1:]
         if not words:
             return f"issue {thread} {rm} xa_open"
@@ -54,7 +54,7 @@ class Requests:
         return " ".join([f"answer {thread} {rm} {words[0]}", *branch, str(code)])
 
     def any(self, stands):
-        """A request, where the session stands so."""
+        """A request, for a session that stands so."""
         rng = self.rng
         thread, rm = rng.randrange(2), rng.randrange(2)
         if rng.random() < 0.02:

@@ -1,4 +1,4 @@
-"""A stand-in for psycopg2 where that isn't installed: just what the driver's adapter uses of it, over libpq by ctypes.
+"""A stand-in for psycopg2 if that isn't installed: only what the driver's adapter uses of it, over libpq by ctypes.
 
 The adapter's own code is what is tried with it; psycopg2 itself isn't. No program should use it for anything else."""
 
@@ -48,7 +48,7 @@ def drop_notice(_, notice):
 
 
 class Error(Exception):
-    """An error, with the server's SQLSTATE where the server told it."""
+    """An error, with the server's SQLSTATE if the server told it."""
 
     pgcode = None
 
@@ -106,7 +106,7 @@ class Connection:
     def __init__(self, pointer):
         self.pointer = pointer
         PQ.PQsetNoticeProcessor(pointer, ctypes.cast(drop_notice, POINTER), None)
-        # psycopg2 begins a transaction by itself where this is false; the adapter sets it at once.
+        # psycopg2 begins a transaction by itself if this is false; the adapter sets it at once.
         self.autocommit = False
 
     @property

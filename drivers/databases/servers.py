@@ -11,9 +11,9 @@ import subprocess
 import sys
 import time
 
-#: The user of the servers where this is run by root, whom neither server takes.
+#: The user of the servers if this is run by root, whom neither server takes.
 SERVER_USER = "postgres"
-#: Where this is in the environment, also in that of a driver that is started, the databases are reached by their other modules.
+#: If this is in the environment, also in that of a driver that is started, the databases are reached by their other modules.
 OTHER_MODULES = "WITH_OTHER_MODULES"
 
 
@@ -22,7 +22,7 @@ class Missing(Exception):
 
 
 def as_server_user():
-    """What subprocess.Popen needs to start a server: another user, where this is root."""
+    """What subprocess.Popen needs to start a server: another user, if this is root."""
     if os.geteuid() != 0:
         return {}
     try:
@@ -67,7 +67,7 @@ def free_port():
 
 
 class Server:
-    """A server, in a folder of its own. It listens on a socket there, and on a port only where it is given one."""
+    """A server, in a folder of its own. It listens on a socket there, and on a port only if it is given one."""
 
     port = None
     #: The module that reaches it, as its adapter is called, the other one, and the adapter's class.

@@ -1,4 +1,4 @@
-"""Stories over two databases: how a transaction ends where everything goes well, and where something goes wrong at each of its
+"""Stories over two databases: how a transaction ends if everything goes well, and if something goes wrong at each of its
 moments. Each is looked at in the databases."""
 
 import logging
@@ -57,7 +57,7 @@ class Tour:
             t[rm].execute("INSERT INTO moved VALUES (%s, 1)", [t.gtrid])
 
     def at(self, moment, do, xa=None):
-        """Has something done at a moment: before the first call or move of this name, behind the decision to commit, or once both have
+        """Has something done at a moment: before the first call or move of this name, after the decision to commit, or once both have
         acknowledged and the coordinator hasn't heard of it."""
         xa = xa or self.xa
         if moment == BEHIND:
@@ -190,7 +190,7 @@ class Tour:
         xa._session.coordinator.kill()
 
     def driver_is_frozen(self):
-        """A driver stops behind its decision and keeps its connections. The next one has to end them before it looks."""
+        """A driver stops after its decision and keeps its connections. The next one has to end them before it looks."""
         with self.xa.transaction() as t:
             self.write(t, 0, 1)
             self.at(BEHIND, lambda: self.freeze(t, self.xa))
@@ -453,7 +453,7 @@ class Asked:
         return self.make(thread, rm, self.ask(f"issue {thread} {rm} {text}").partition(" ")[2])
 
     def make(self, thread, rm, text):
-        """Makes a call, and tells the answer. (The driver's own make xa_end with what comes behind it.)"""
+        """Makes a call, and tells the answer. (The driver's own make xa_end with what comes after it.)"""
         name, *words = text.split(" ")
         connection = self.connections[thread, rm]
         if name == "xa_recover":

@@ -98,7 +98,7 @@ class Driver:
         self.process.wait()
 
     def told(self):
-        """What it was told of each transfer. A line that it hadn't written whole as it was killed tells nothing, nor what stands behind it."""
+        """What it was told of each transfer. A line that it hadn't written whole as it was killed tells nothing, nor what stands after it."""
         with open(f"{self.home}/told", encoding="utf-8") as it:
             return dict(json.loads(line) for line in it if line.endswith("\n") and line.count("[") == 1)
 

@@ -97,7 +97,7 @@ class Program:
         text = text if self.chance.random() < 0.3 else mutated(self.chance, text, self.sessions)
         said, status = self.served([], text)
         asked, replies = text.removesuffix(b"\n").split(b"\n"), said.split(b"\n")[1:-1]
-        # The session ends behind a quit, unless a request before it on its line is refused.
+        # The session ends after a quit, unless a request before it on its line is refused.
         ends = {len(asked) if text else 0, *(at for at, it in enumerate(asked, 1) if b"quit" in it.split(b";"))}
         return text, status in STATUSES and (status != 0 or len(replies) in ends)
 
