@@ -1,4 +1,5 @@
 mod Following
+mod Misled
 mod OwnDeeds
 mod Paths
 mod Refused

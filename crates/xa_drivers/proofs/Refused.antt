@@ -12,11 +12,11 @@ use Rattle.xa_base.specs.declared.state.Standing.{Standing}
 use Rattle.xa_base.specs.declared.state.Standing.TheVariants.{Unstarted}
 use Rattle.xa_drivers.specs.Deeds.{Deeds, Deeds.Did, Deeds.Ended, Deeds.Made, Deeds.Nothing, Deeds.Severed, Deeds.Told, Deeds.ToldLost, stands}
 use Rattle.xa_drivers.specs.Faithful.{AreApart, IsFaithful, IsLostNext, IsLostNext.FirstMade, IsLostNext.NoneMade, IsNext, IsNext.Before, IsNext.Newest, Keeps, Keeps.Begins, Keeps.Ends, Keeps.Loses, Keeps.Makes, Keeps.Does, Keeps.Tells, Keeps.TellsLoss, MayMake, Untold, Untold.ALoss, Untold.AnAnswer, is_open, is_severed, line_on, open_on}
-use Rattle.xa_drivers.specs.Worked.{RulesRefuse, RulesRefuseOthers, listing, recover}
+use Rattle.xa_drivers.specs.Worked.{RulesRefuse, RulesRefuseOthers, asked, listing, recover}
 use Rattle.xa_model.proofs.Keys.{line_eq-refl}
 use Rattle.xa_model.specs.Facts.{fits}
 use Rattle.xa_model.specs.Protocol.{OldOrigin}
-use Rattle.xa_model.specs.Trace.{Answer, Branch, Call, Line, Origin, line_eq, line_of}
+use Rattle.xa_model.specs.Trace.{Answer, Branch, Call, Happening.Issued, Line, Origin, line_eq, line_of}
 use Rattle.xa_monitor.specs.Explained.{HasOnlyOlderRows}
 use Rattle.xa_monitor.specs.Seen.{IsHistory.Starts, start_with}
 
@@ -41,18 +41,24 @@ module _ (o : Origin) (from : Branch → Standing) where
   last_of _ _ (Tells ds us rest l c a k next) = (us, k, next)
   last_of _ _ (TellsLoss ds us rest l c k next) = (us, k, next)
 
-  -- one call was made
-  one_made : (l : Line) (c : Call) (a : Answer) (us : List Untold) → Keeps o from (Made Nothing l c a) us → us ≡ AnAnswer l c a ∷ []
-  one_made l c a us k =
-      let m = last_of (Made Nothing l c a) us k in
-      m.3 ∙ ap (λ z. AnAnswer l c a ∷ z) (last_of Nothing m.0 m.1)
+  -- where calls were issued alone, there is nothing to tell
+  none_made_yet : (cs : List (Line × Call)) (us : List Untold) → Keeps o from (asked cs) us → us ≡ []
+  none_made_yet [] us k = last_of Nothing us k
+  none_made_yet ((l, c) ∷ cs) us k = none_made_yet cs us (last_of (Did (asked cs) (Issued l c)) us k)
 
-  -- two were
-  two_made : (l m : Line) (c d : Call) (a x : Answer) (us : List Untold) → Keeps o from (Made (Made Nothing l c a) m d x) us
-      → us ≡ AnAnswer m d x ∷ AnAnswer l c a ∷ []
-  two_made l m c d a x us k =
-      let n = last_of (Made (Made Nothing l c a) m d x) us k in
-      n.3 ∙ ap (λ z. AnAnswer m d x ∷ z) (one_made l c a n.0 n.1)
+  module _ (cs : List (Line × Call)) where
+    -- one call was made
+    one_made : (l : Line) (c : Call) (a : Answer) (us : List Untold) → Keeps o from (Made (asked cs) l c a) us → us ≡ AnAnswer l c a ∷ []
+    one_made l c a us k =
+        let m = last_of (Made (asked cs) l c a) us k in
+        m.3 ∙ ap (λ z. AnAnswer l c a ∷ z) (none_made_yet cs m.0 m.1)
+
+    -- two were
+    two_made : (l m : Line) (c d : Call) (a x : Answer) (us : List Untold) → Keeps o from (Made (Made (asked cs) l c a) m d x) us
+        → us ≡ AnAnswer m d x ∷ AnAnswer l c a ∷ []
+    two_made l m c d a x us k =
+        let n = last_of (Made (Made (asked cs) l c a) m d x) us k in
+        n.3 ∙ ap (λ z. AnAnswer m d x ∷ z) (one_made l c a n.0 n.1)
 
   -- ** what is next
 
@@ -71,7 +77,7 @@ module _ (o : Origin) (from : Branch → Standing) where
       true≢false (sym (line_eq-refl l) ∙ (ap (λ z. line_eq z l) (sym e) ∙ (ap (line_eq (line_on u)) (sym f) ∙ apart.lines)))
 
   -- nothing was issued yet, in a history that starts with no branch
-  start : HasOnlyOlderRows o → OldOrigin (record o { held = λ r x. new_branch })
+  pub start : HasOnlyOlderRows o → OldOrigin (record o { held = λ r x. new_branch })
   start old = record { rows_old = old.rows_old; record_old = old.record_old; held_old = λ b. inl (unstarted (fits b)) }
     where
       unstarted : (t : Bool) → (if t then new_branch else new_branch).standing ≡ Unstarted
@@ -98,12 +104,12 @@ module _ (o : Origin) (from : Branch → Standing) where
       let m = last_of (Made ds l (Calls.Rollback b) a) f.untold f.keeps in
       other (m.2.own_line Rollback b refl opens)
 
-  order : (l : Line) (c d : Call) (a x : Answer) → c ≢ d → IsFaithful o from (Told (Made (Made Nothing l c a) l d x) l d x) → ⊥
-  order l c d a x differ f = by (next_of (AnAnswer l d x) (AnAnswer l d x ∷ AnAnswer l c a ∷ []) f.untold
-      (subst (λ z. IsNext (AnAnswer l d x) z f.untold) (two_made l l c d a x m.0 m.1) m.2))
+  order : (cs : List (Line × Call)) (l : Line) (c d : Call) (a x : Answer) → c ≢ d → IsFaithful o from (Told (Made (Made (asked cs) l c a) l d x) l d x) → ⊥
+  order cs l c d a x differ f = by (next_of (AnAnswer l d x) (AnAnswer l d x ∷ AnAnswer l c a ∷ []) f.untold
+      (subst (λ z. IsNext (AnAnswer l d x) z f.untold) (two_made cs l l c d a x m.0 m.1) m.2))
     where
-      m : LastOf (Told (Made (Made Nothing l c a) l d x) l d x) f.untold
-      m = last_of (Told (Made (Made Nothing l c a) l d x) l d x) f.untold f.keeps
+      m : LastOf (Told (Made (Made (asked cs) l c a) l d x) l d x) f.untold
+      m = last_of (Told (Made (Made (asked cs) l c a) l d x) l d x) f.untold f.keeps
 
       by : NextOf (AnAnswer l d x) (AnAnswer l d x ∷ AnAnswer l c a ∷ []) f.untold → ⊥
       by (inl (same, apart, rest)) =
@@ -132,10 +138,10 @@ module _ (o : Origin) (from : Branch → Standing) where
   lost_has l _ _ _ (NoneMade c lost us rest next) = has_loss l lost us rest next
   lost_has l _ _ _ (FirstMade c a lost us mid rest first next) = loss_before l c a us mid first (has_loss l lost mid rest next)
 
-  connected : (l : Line) (c d : Call) (a : Answer) → IsFaithful o from (ToldLost (Made Nothing l c a) l (Some d)) → ⊥
-  connected l c d a f =
-      let m = last_of (ToldLost (Made Nothing l c a) l (Some d)) f.untold f.keeps in
-      subst (HasLoss l) (one_made l c a m.0 m.1) (lost_has l (Some d) m.0 f.untold m.2)
+  connected : (cs : List (Line × Call)) (l : Line) (c d : Call) (a : Answer) → IsFaithful o from (ToldLost (Made (asked cs) l c a) l (Some d)) → ⊥
+  connected cs l c d a f =
+      let m = last_of (ToldLost (Made (asked cs) l c a) l (Some d)) f.untold f.keeps in
+      subst (HasLoss l) (one_made cs l c a m.0 m.1) (lost_has l (Some d) m.0 f.untold m.2)
 
   module _ (l m : Line) (b : Branch) where
     abbrev the_page : Untold
@@ -149,19 +155,19 @@ module _ (o : Origin) (from : Branch → Standing) where
     vote_first rest (inr (ws, e, inl (same, apart, i))) = let never : ⊥ = cc in never
     vote_first rest (inr (ws, e, inr (vs, i, never))) = never
 
-  page : (l m : Line) (b : Branch)
-      → IsFaithful o from (Told (Made (Made Nothing l (Calls.Prepare b) (Ret Success)) m recover (listing b)) m recover (listing b)) → ⊥
-  page l m b f =
-      let n = last_of (Told (Made (Made Nothing l (Calls.Prepare b) (Ret Success)) m recover (listing b)) m recover (listing b)) f.untold f.keeps in
-      let next = subst (λ z. IsNext (the_page l m b) z f.untold) (two_made l m (Calls.Prepare b) recover (Ret Success) (listing b) n.0 n.1) n.2 in
+  page : (cs : List (Line × Call)) (l m : Line) (b : Branch)
+      → IsFaithful o from (Told (Made (Made (asked cs) l (Calls.Prepare b) (Ret Success)) m recover (listing b)) m recover (listing b)) → ⊥
+  page cs l m b f =
+      let n = last_of (Told (Made (Made (asked cs) l (Calls.Prepare b) (Ret Success)) m recover (listing b)) m recover (listing b)) f.untold f.keeps in
+      let next = subst (λ z. IsNext (the_page l m b) z f.untold) (two_made cs l m (Calls.Prepare b) recover (Ret Success) (listing b) n.0 n.1) n.2 in
       vote_first l m b f.untold (next_of (the_page l m b) (the_page l m b ∷ the_vote l m b ∷ []) f.untold next)
 
-  answer : (l : Line) (c : Call) (a x : Answer) → a ≢ x → IsFaithful o from (Told (Made Nothing l c a) l c x) → ⊥
-  answer l c a x differ f = by (next_of (AnAnswer l c x) (AnAnswer l c a ∷ []) f.untold
-      (subst (λ z. IsNext (AnAnswer l c x) z f.untold) (one_made l c a m.0 m.1) m.2))
+  answer : (cs : List (Line × Call)) (l : Line) (c : Call) (a x : Answer) → a ≢ x → IsFaithful o from (Told (Made (asked cs) l c a) l c x) → ⊥
+  answer cs l c a x differ f = by (next_of (AnAnswer l c x) (AnAnswer l c a ∷ []) f.untold
+      (subst (λ z. IsNext (AnAnswer l c x) z f.untold) (one_made cs l c a m.0 m.1) m.2))
     where
-      m : LastOf (Told (Made Nothing l c a) l c x) f.untold
-      m = last_of (Told (Made Nothing l c a) l c x) f.untold f.keeps
+      m : LastOf (Told (Made (asked cs) l c a) l c x) f.untold
+      m = last_of (Told (Made (asked cs) l c a) l c x) f.untold f.keeps
 
       by : NextOf (AnAnswer l c x) (AnAnswer l c a ∷ []) f.untold → ⊥
       by (inl (same, apart, rest)) = differ (let e : a ≡ x = cc in e)
@@ -203,12 +209,12 @@ module _ (o : Origin) (from : Branch → Standing) where
         let left = second_left y mid (next_of (AnAnswer l c y) three mid took) in
         still_made other rest (next_of (ALoss l other) _ rest (subst (λ z. IsNext (ALoss l other) z rest) left next))
 
-  both_made : (l : Line) (c d : Call) (a x : Answer)
-      → IsFaithful o from (ToldLost (Severed (Made (Made Nothing l c a) l d x) l) l (Some c)) → ⊥
-  both_made l c d a x f =
-      let m = last_of (ToldLost (Severed (Made (Made Nothing l c a) l d x) l) l (Some c)) f.untold f.keeps in
-      let s = last_of (Severed (Made (Made Nothing l c a) l d x) l) m.0 m.1 in
-      not_lost l c d a x _ (Some c) m.0 f.untold (s.2 ∙ ap (λ z. ALoss l (open_on (stands from (Made (Made Nothing l c a) l d x)) l) ∷ z) (two_made l l c d a x s.0 s.1)) refl m.2
+  both_made : (cs : List (Line × Call)) (l : Line) (c d : Call) (a x : Answer)
+      → IsFaithful o from (ToldLost (Severed (Made (Made (asked cs) l c a) l d x) l) l (Some c)) → ⊥
+  both_made cs l c d a x f =
+      let m = last_of (ToldLost (Severed (Made (Made (asked cs) l c a) l d x) l) l (Some c)) f.untold f.keeps in
+      let s = last_of (Severed (Made (Made (asked cs) l c a) l d x) l) m.0 m.1 in
+      not_lost l c d a x _ (Some c) m.0 f.untold (s.2 ∙ ap (λ z. ALoss l (open_on (stands from (Made (Made (asked cs) l c a) l d x)) l) ∷ z) (two_made cs l l c d a x s.0 s.1)) refl m.2
 
   refused : RulesRefuse o from
   refused = record {

@@ -1,14 +1,15 @@
 -- A faithful driver, worked out; and drivers that aren't, one for each rule.
-use Rattle.std.specs.Prelude.{◌≡◌, ◌≢◌, true, false, List, [], ◌∷◌, Some, pos}
+use Rattle.std.specs.Prelude.{◌≡◌, ◌≢◌, true, false, List, [], ◌∷◌, Some, None, pos}
 use Rattle.xa_base.specs.declared.answer.Answer.TheVariants.{Page, Ret}
 use Rattle.xa_base.specs.declared.call.Call.TheVariants as Calls
-use Rattle.xa_base.specs.declared.code.Code.TheVariants.{Success}
+use Rattle.xa_base.specs.declared.code.Code.TheVariants.{NotAnXid, RolledBack, Success}
+use Rattle.xa_base.specs.declared.code.RbCode.TheVariants.{Rollback}
 use Rattle.xa_base.specs.declared.state.Standing.{Standing}
-use Rattle.xa_base.specs.declared.state.Standing.TheVariants.{Committed, Prepared, Unstarted}
+use Rattle.xa_base.specs.declared.state.Standing.TheVariants.{Active, Committed, Idle, Prepared, Unstarted}
 use Rattle.xa_base.specs.declared.step.Outcome.TheVariants as Outcomes
 use Rattle.xa_drivers.specs.Deeds.{Deeds, Deeds.Did, Deeds.Made, Deeds.Nothing, Deeds.Severed, Deeds.Told, Deeds.ToldLost, ObeyTable, stands}
-use Rattle.xa_drivers.specs.Faithful.{IsFaithful, is_open}
-use Rattle.xa_model.specs.Trace.{Answer, Branch, Call, Gtrid, Happening.Begun, Happening.Decided, Happening.Issued, Line, Name.Ours, Origin, line_eq, line_of}
+use Rattle.xa_drivers.specs.Faithful.{IsFaithful, StandByTold, is_open}
+use Rattle.xa_model.specs.Trace.{Answer, Branch, Call, Gtrid, Happening.Begun, Happening.Decided, Happening.Issued, Line, Name.Ours, Origin, line, line_eq, line_of}
 use Rattle.xa_monitor.specs.Agreement.{IsLineOf}
 use Rattle.xa_monitor.specs.Explained.{HasOnlyOlderRows}
 
@@ -55,6 +56,11 @@ FaithfulDriversAreThere =
 
 -- ** and some that aren't
 
+-- these calls were issued
+abbrev pub asked : List (Line × Call) → Deeds
+asked [] = Nothing
+asked ((l, c) ∷ cs) = Did (asked cs) (Issued l c)
+
 -- a page that lists this branch alone
 abbrev pub recover : Call
 recover = Calls.Recover (pos 32) true true
@@ -62,7 +68,7 @@ recover = Calls.Recover (pos 32) true true
 abbrev pub listing : Branch → Answer
 listing b = Page (Ours b ∷ [])
 
--- No driver is faithful that
+-- Whatever was issued, no driver is faithful that
 -- - `unissued`: makes a call which wasn't issued;
 -- - `gone`: makes one on a connection that is gone, before that is told;
 -- - `elsewhere`: calls an open branch on another line;
@@ -77,14 +83,89 @@ pub record RulesRefuse (o : Origin) (from : Branch → Standing) : Type 0 where
   pub elsewhere :
       (ds : Deeds) (l : Line) (b : Branch) (a : Answer) → is_open (stands from ds b) ≡ true → l ≢ line_of b
       → IsFaithful o from (Made ds l (Calls.Rollback b) a) → ⊥
-  pub order : (l : Line) (c d : Call) (a x : Answer) → c ≢ d → IsFaithful o from (Told (Made (Made Nothing l c a) l d x) l d x) → ⊥
-  pub connected : (l : Line) (c d : Call) (a : Answer) → IsFaithful o from (ToldLost (Made Nothing l c a) l (Some d)) → ⊥
+  pub order :
+      (cs : List (Line × Call)) (l : Line) (c d : Call) (a x : Answer) → c ≢ d
+      → IsFaithful o from (Told (Made (Made (asked cs) l c a) l d x) l d x) → ⊥
+  pub connected :
+      (cs : List (Line × Call)) (l : Line) (c d : Call) (a : Answer) → IsFaithful o from (ToldLost (Made (asked cs) l c a) l (Some d)) → ⊥
   pub two_made :
-      (l : Line) (c d : Call) (a x : Answer) → IsFaithful o from (ToldLost (Severed (Made (Made Nothing l c a) l d x) l) l (Some c)) → ⊥
+      (cs : List (Line × Call)) (l : Line) (c d : Call) (a x : Answer)
+      → IsFaithful o from (ToldLost (Severed (Made (Made (asked cs) l c a) l d x) l) l (Some c)) → ⊥
   pub page :
-      (l m : Line) (b : Branch)
-      → IsFaithful o from (Told (Made (Made Nothing l (Calls.Prepare b) (Ret Success)) m recover (listing b)) m recover (listing b)) → ⊥
-  pub answer : (l : Line) (c : Call) (a x : Answer) → a ≢ x → IsFaithful o from (Told (Made Nothing l c a) l c x) → ⊥
+      (cs : List (Line × Call)) (l m : Line) (b : Branch)
+      → IsFaithful o from (Told (Made (Made (asked cs) l (Calls.Prepare b) (Ret Success)) m recover (listing b)) m recover (listing b)) → ⊥
+  pub answer :
+      (cs : List (Line × Call)) (l : Line) (c : Call) (a x : Answer) → a ≢ x → IsFaithful o from (Told (Made (asked cs) l c a) l c x) → ⊥
 
 abbrev pub RulesRefuseOthers : Type 0
 RulesRefuseOthers = (o : Origin) (from : Branch → Standing) → RulesRefuse o from
+
+-- ** and why they must not
+
+-- Databases obey the table, and yet the branches don't stand where the theorem of sessions
+-- supposes that they do.
+pub record IsMisled (from : Branch → Standing) (ds : Deeds) : Type 0 where
+  pub obey : ObeyTable (λ b. true) from ds
+  pub unexplained : (o : Origin) → HasOnlyOlderRows o → StandByTold o from ds → ⊥
+
+abbrev pub vote : Branch → Call
+vote b = Calls.Prepare b
+
+abbrev pub ending : Branch → Call
+ending b = Calls.End b false
+
+abbrev pub xa_commit : Branch → Call
+xa_commit b = Calls.Commit b false
+
+-- the line of recoveries to the branch's resource manager
+abbrev pub first : Branch → Line
+first b = line 0 b.rm
+
+-- A coordinator is misled by a driver that
+-- - `unissued`: makes a call which wasn't issued;
+-- - `gone`: makes an xa_prepare on a connection that is gone;
+-- - `elsewhere`: rolls an open branch back on another line;
+-- - `order`: tells the answer to xa_prepare before that to xa_end;
+-- - `connected`: tells that a line is lost whose connection is there, on which xa_end and
+--   xa_prepare are made then;
+-- - `two_made`: tells that a line is lost before the answers to xa_end and xa_prepare;
+-- - `page`: tells a page before the xa_prepare of the branch that it lists;
+-- - `answer`: tells a vote that wasn't given.
+pub record BrokenRulesMislead (b : Branch) : Type 0 where
+  pub unissued : IsMisled (λ x. Unstarted) (Made Nothing (line_of b) (Calls.Start b false) (Ret Success))
+  pub gone :
+      IsMisled (λ x. Idle)
+      (Told (Made (Severed (asked ((line_of b, vote b) ∷ [])) (line_of b)) (line_of b) (vote b) (Ret NotAnXid)) (line_of b) (vote b)
+      (Ret NotAnXid))
+  pub elsewhere :
+      IsMisled (λ x. Idle)
+      (Told (ToldLost (Severed (Made (asked ((first b, Calls.Rollback b) ∷ [])) (first b) (Calls.Rollback b) (Ret Success)) (line_of b))
+      (line_of b) None) (first b) (Calls.Rollback b) (Ret Success))
+  pub order :
+      IsMisled (λ x. Active)
+      (Told (Made (Made (asked ((line_of b, vote b) ∷ (line_of b, ending b) ∷ [])) (line_of b) (ending b) (Ret Success)) (line_of b)
+      (vote b) (Ret Success)) (line_of b) (vote b) (Ret Success))
+  pub connected :
+      IsMisled (λ x. Active)
+      (Told (Made (Made (Made
+      (ToldLost (asked ((first b, xa_commit b) ∷ (line_of b, vote b) ∷ (line_of b, ending b) ∷ [])) (line_of b) (Some (ending b)))
+      (line_of b) (ending b) (Ret Success)) (line_of b) (vote b) (Ret Success)) (first b) (xa_commit b) (Ret Success)) (first b)
+      (xa_commit b) (Ret Success))
+  pub two_made :
+      IsMisled (λ x. Active)
+      (Told (Made (ToldLost (Severed (Made (Made
+      (asked ((first b, xa_commit b) ∷ (line_of b, vote b) ∷ (line_of b, ending b) ∷ [])) (line_of b) (ending b) (Ret Success)) (line_of b)
+      (vote b) (Ret Success)) (line_of b)) (line_of b) (Some (ending b))) (first b) (xa_commit b) (Ret Success)) (first b) (xa_commit b)
+      (Ret Success))
+  pub page :
+      IsMisled (λ x. Idle)
+      (Told (Made (Made (asked ((first b, recover) ∷ (line_of b, vote b) ∷ [])) (line_of b) (vote b) (Ret Success)) (first b) recover
+      (listing b)) (first b) recover (listing b))
+  pub answer :
+      IsMisled (λ x. Idle)
+      (Told (Made (Told (Made (asked ((first b, xa_commit b) ∷ (line_of b, vote b) ∷ [])) (line_of b) (vote b)
+      (Ret (RolledBack Rollback))) (line_of b) (vote b) (Ret Success)) (first b) (xa_commit b) (Ret NotAnXid)) (first b) (xa_commit b)
+      (Ret NotAnXid))
+
+abbrev pub CoordinatorsAreMisled : Type 0
+CoordinatorsAreMisled = (b : Branch) → BrokenRulesMislead b

@@ -5,7 +5,8 @@ ghost use Rattle.xa_drivers.specs.Faithful.{DriversSuffice};
 ghost use Rattle.xa_drivers.specs.Sessions.{DrivenAreServed, DrivenAreServedFor, DrivenSessionsAgree};
 ghost use Rattle.xa_drivers.specs.Sessions.{DrivenSessionsGoOn, DrivenTransactionsAgree};
 ghost use Rattle.xa_drivers.specs.Sessions.{DriversSufficeFor};
-ghost use Rattle.xa_drivers.specs.Worked.{FaithfulDriversAreThere, RulesRefuseOthers};
+ghost use Rattle.xa_drivers.specs.Worked.{CoordinatorsAreMisled, FaithfulDriversAreThere};
+ghost use Rattle.xa_drivers.specs.Worked.{RulesRefuseOthers};
 
 use xa_log::DecisionLog;
 use xa_server::laws::{served_sessions_agree, served_transactions_agree, sessions_go_on};
@@ -74,4 +75,10 @@ pub fn driven_transactions_agree<L: DecisionLog + Drop>()
 pub fn faithful_drivers_are_there()
     ensures there { FaithfulDriversAreThere }
     ensures refused { RulesRefuseOthers }
+{}
+
+/// And the rules are there for a reason: drivers that break them, one for each, over databases that
+/// obey the branch state table, leave branches where the theorem of sessions doesn't suppose them.
+pub fn broken_rules_mislead()
+    ensures { CoordinatorsAreMisled }
 {}
