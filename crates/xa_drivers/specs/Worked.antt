@@ -69,7 +69,7 @@ abbrev pub listing : Branch → Answer
 listing b = Page (Ours b ∷ [])
 
 -- Whatever was issued, no driver is faithful that
--- - `unissued`: makes a call which wasn't issued;
+-- - `unissued`: makes a call although none was issued;
 -- - `gone`: makes one on a connection that is gone, before that is told;
 -- - `elsewhere`: calls an open branch on another line;
 -- - `order`: tells the answer to a second call before that to the first;
@@ -122,7 +122,7 @@ abbrev pub first : Branch → Line
 first b = line 0 b.rm
 
 -- A coordinator is misled by a driver that
--- - `unissued`: makes a call which wasn't issued;
+-- - `unissued`: makes a call although none was issued;
 -- - `gone`: makes an xa_prepare on a connection that is gone;
 -- - `elsewhere`: rolls an open branch back on another line;
 -- - `order`: tells the answer to xa_prepare before that to xa_end;
