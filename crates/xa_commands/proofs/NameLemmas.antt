@@ -1,5 +1,5 @@
 -- Names as text, and names in labels.
-use Rattle.std.proofs.Common.{◌≡◌, ◌≢◌, ◌⊎◌, ◌∙◌, ◌+◌, ◌<◌, ℕ, Bool, true, false, if◌then◌else◌, unwrap_or, Bor, List, [], ◌∷◌, Option, Some, None, Result, Ok, Err, IfErr, map, option_map, slice_get, length, nat_lt, refl, sym, ap, subst, arith}
+use Rattle.std.proofs.Common.{◌≡◌, ◌≢◌, ◌∙◌, ◌+◌, ◌<◌, ℕ, Bool, true, false, if◌then◌else◌, unwrap_or, Bor, List, [], ◌∷◌, Option, Some, None, Result, Ok, Err, IfErr, map, option_map, slice_get, length, nat_lt, refl, sym, ap, arith}
 use Rattle.std.proofs.lemmas.Bool.{and_parts, true≢false}
 use Rattle.std.proofs.lemmas.Bool.Decides.{nat_tests}
 use Rattle.std.proofs.lemmas.Option.{slice_get-map}
@@ -12,7 +12,7 @@ use Rattle.xa_names.specs.KeptNames.{AgreeInNames, DifferAt, Names, has_rms}
 use Rattle.xa_names.specs.Names.{IsName, is_manager_name, is_manager_name_byte}
 use Rattle.xa_names.specs.declared.kept_names.NameFault.{NameFault}
 use Rattle.xa_names.specs.declared.kept_names.NameFault.TheVariants.{Manager, ResourceManager, Unnamed, Unkept}
-use Rattle.xa_commands.specs.Names.{AgreeAtEach, MayOpen, name_given, label_names, names_rms}
+use Rattle.xa_commands.specs.Names.{MayOpen, name_given, label_names, names_rms}
 use Rattle.xa_commands.specs.declared.failure.Failure.TheVariants.{Name}
 
 -- ** text

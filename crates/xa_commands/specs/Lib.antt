@@ -1,3 +1,4 @@
+pub mod Claims
 pub mod Failures
 pub mod NameChanges
 pub mod Names

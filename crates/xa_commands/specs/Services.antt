@@ -1,5 +1,5 @@
 -- What is written to a driver, and what it is written from.
-use Rattle.std.specs.Prelude.{◌≡◌, ◌⊎◌, ℕ, Bool, List, Option, Some, OnOk, Result}
+use Rattle.std.specs.Prelude.{◌≡◌, ◌⊎◌, ℕ, Bool, List, Option, Some, OnOk}
 use Rattle.std.specs.Io.KnownBytes.{Appends, Keeps}
 use Rattle.sqlite.specs.Files.{image_of}
 use Rattle.sqlite.specs.Recovery.{Image}
@@ -12,7 +12,7 @@ use Rattle.xa_sql_log.specs.OpenedDatabase.{HoldsLog}
 use Rattle.xa_sql_log.specs.ShutLogs.{HoldsShut}
 use Rattle.xa_files.specs.Outputs.{AppendsBeginning}
 use Rattle.xa_log.specs.Content.{Content}
-use Rattle.xa_log.specs.declared.log_fault.LogFault.{LogFault}
+use Rattle.xa_conduct.specs.Acting.{GoesOn}
 use Rattle.xa_commands.specs.Names.{introduction, label_of}
 use Rattle.xa_commands.specs.declared.service.Left.{Left}
 use Rattle.xa_commands.specs.declared.service.Left.TheVariants.{Whole, Strange}
@@ -60,6 +60,11 @@ pub record StartsNot {L : Type 0} (logs : DecisionLog.Ghosts L) (handed : L) (wr
   pub silent : Keeps written all
   pub why : ((failure ≡ Run faults.Log) × IsToBlame logs handed) ⊎ ((failure ≡ Run faults.Memory) × ((left : L) × IsOnlyRead logs handed left))
 
+-- the log of a session that is over
+abbrev pub log_of : {L : Type 0} → Left L → L
+log_of (Whole log) = log
+log_of (Strange log) = log
+
 module _ {L : Type 0} (logs : DecisionLog.Ghosts L) (name : List ℕ) (threads rms : ℕ) (handed : L) where
   -- a coordinator served a driver over this log
   abbrev pub HasServed : (unread left written all : Option (List ℕ)) → (log : L) → Type 0
@@ -82,6 +87,12 @@ module _ {L : Type 0} (logs : DecisionLog.Ghosts L) (name : List ℕ) (threads r
       StartsNot logs handed written all failure
       ⊎ ((first : Server L) × (last : Server L)
       × IsBrokenOff logs.moment name threads rms (logs.moment handed) unread written all first last)
+
+  -- a coordinator conducted a driver over this log: it did what lines of requests ask for that were asked of it, and no more
+  abbrev pub HasConducted : Left L → Type 0
+  HasConducted left =
+      (first : Server L) × (last : Server L) × (log_of left ≡ log_in last.session.manager) × Starts logs.moment name threads rms (logs.moment handed) first
+      × GoesOn logs.moment first last
 
 -- ** over files
 
@@ -116,6 +127,10 @@ module _ {D L : Type 0} (disk : Ghosts D) (logs : DecisionLog.Ghosts L) (name : 
   HasEndedFiles unread left written all served =
       (ended : Left L) × HasEnded logs name threads rms handed unread left written all ended × IsEndedInto disk logs.moment served ended
 
+  -- the same for one that conducted it
+  abbrev pub HasConductedFiles : Served → Type 0
+  HasConductedFiles served = (ended : Left L) × HasConducted logs name threads rms handed ended × IsEndedInto disk logs.moment served ended
+
   module _ (rm_names : List (List ℕ)) where
     -- the same, behind the line with its names
     abbrev pub HasEndedNamed : (unread left written all : Option (List ℕ)) → Served → Type 0
@@ -140,3 +155,15 @@ module _ {D L : Type 0} (disk : Ghosts D) (logs : DecisionLog.Ghosts L) (image :
   abbrev pub HasServedFrom : (unread left written all : Option (List ℕ)) → Served → Type 0
   HasServedFrom unread left written all served =
       ((served ≡ NotYet) × Keeps written all) ⊎ HasWorked unread left written all served
+
+  -- The same of a service that conducts its driver; of one that was broken off no more is said than over which log.
+  abbrev pub HasConductedFrom : Served → Type 0
+  HasConductedFrom served =
+      (served ≡ NotYet)
+      ⊎ ((handed : L) × OpensAs logs.moment image (label_of name rm_names) handed
+      × (HasConductedFiles disk logs name threads rms handed served ⊎ ((failure : Failure) × (served ≡ BrokenOff failure))))
+
+-- the session of a service went to its end
+abbrev pub HasEndedByItself : Served → Type 0
+HasEndedByItself (Closed closed) = Unit {0}
+HasEndedByItself served = ⊥

@@ -1,11 +1,11 @@
-//! What is done for a driver that is conducted, over a log in any store, over one in files, and over the log at a path.
+//! What is done for a driver that is conducted, over a log in any store, and over one in files.
+
+ghost use Rattle.std.specs.Prelude.{IfOk};
+ghost use Rattle.xa_commands.specs.Services.{HasConducted, HasConductedFiles};
 
 use crate::failure::Failure;
-use crate::introduction::introduce;
-use crate::log_names::{check_rm_names, label_of, manager_named};
-use crate::logs::open_claimed;
-use crate::service::{Left, Served, Service, end_in_files};
-use sqlite::{FileStore, Start};
+use crate::service::{Left, Served, end_in_files};
+use sqlite::FileStore;
 use sqlite_disk::Disk;
 use std::alloc::Global;
 use std::io::{BufReader, Read, Write};
@@ -24,7 +24,9 @@ fn conduct_over<L: DecisionLog + Drop, R: Read, W: Write>(
     log: L,
     input: &mut BufReader<R>,
     out: &mut W,
-) -> Result<Left<L>, Failure> {
+) -> Result<Left<L>, Failure>
+    ensures { IfOk result (HasConducted L.DecisionLog name.now threads rms log) }
+{
     let server = Server::new(alloc, threads, rms, log)?;
     let conductor = xa_conduct::serve(server, alloc, name, threads, rms, input, out)?;
     if conductor.is_strange() {
@@ -33,41 +35,21 @@ fn conduct_over<L: DecisionLog + Drop, R: Read, W: Write>(
     Ok(Left::Whole(conductor.into_server().into_log()))
 }
 
-/// The same over files, behind the line that has the names, where there are some. They are closed then.
-fn conduct_named<D: Disk + Drop, R: Read, W: Write>(
+/// The same over files, which are closed then, or shut.
+pub(crate) fn conduct_in_files<D: Disk + Drop, R: Read, W: Write>(
     alloc: Global,
     name: &ManagerName,
-    service: &Service<'_, '_>,
+    threads: u32,
+    rms: u32,
     log: SqlLog<FileStore<D>>,
     input: &mut BufReader<R>,
     out: &mut W,
-) -> Result<Served, Failure> {
-    introduce(alloc, name, service.rm_names, out)?;
-    match conduct_over(alloc, name, service.threads, service.rms, log, input, out) {
+) -> Result<Served, Failure>
+    ensures { IfOk result (HasConductedFiles D.Disk ⟦<SqlLog<FileStore<D>> as DecisionLog>⟧
+        name.now threads rms log) }
+{
+    match conduct_over(alloc, name, threads, rms, log, input, out) {
         Ok(left) => Ok(end_in_files(left)),
         Err(failure) => Err(failure),
-    }
-}
-
-/// Opens the log of a service, or makes it, conducts the driver behind `input` and `out` over it, and closes it.
-pub(crate) fn conduct_from<S: Start, R: Read, W: Write>(
-    rt: &HostRuntime,
-    service: &Service<'_, '_>,
-    start: S,
-    input: &mut BufReader<R>,
-    out: &mut W,
-) -> Result<Served, Failure> {
-    let alloc = rt.alloc();
-    check_rm_names(service.rm_names, service.rms)?;
-    let name = manager_named(service.name)?;
-    let label = label_of(alloc, &name, service.rm_names)?;
-    let log = match open_claimed(rt, service.log, start, label.as_str(), service.at_least) {
-        Ok(Some(log)) => log,
-        Ok(None) => return Ok(Served::NotYet),
-        Err(failure) => return Err(failure),
-    };
-    match conduct_named(alloc, &name, service, log, input, out) {
-        Ok(served) => Ok(served),
-        Err(failure) => Ok(Served::BrokenOff(failure)),
     }
 }

@@ -1,7 +1,8 @@
 //! The log at a path: how it is opened, and left.
 
-ghost use Rattle.std.specs.Prelude.{IfOk, IfSome};
+ghost use Rattle.std.specs.Prelude.{◌≡◌, ◌<◌, ◌≤◌, IfErr, IfOk, IfSome, OnOk};
 ghost use Rattle.sqlite_wal.specs.Files.{image_at};
+ghost use Rattle.xa_commands.specs.Claims.{IsAdmitted};
 ghost use Rattle.xa_commands.specs.Services.{OpensAs};
 
 use crate::ages::is_older;
@@ -27,6 +28,13 @@ pub type HostLog = SqlLog<FileStore<FileFrom<Unknown>>>;
 pub(crate) const MOST_TRIES: u32 = 20;
 
 const PAUSE_MILLISECONDS: u64 = 50;
+
+/// A log that was opened for a manager, and the incarnation that it had as it was looked at.
+#[derive(Drop)]
+pub(crate) struct ClaimedLog<L: Drop> {
+    pub log: L,
+    pub incarnation: u64,
+}
 
 /// Why the log at a path isn't opened for a manager.
 #[derive(Drop)]
@@ -74,8 +82,11 @@ fn check_journal(rt: &HostRuntime, path: &str) -> Result<(), ClaimFault> {
     Ok(())
 }
 
-/// Refuses a log that is another's, or of which only a part is there. Its files are locked meanwhile.
-fn check_claim(rt: &HostRuntime, path: &str, label: &str, at_least: u64) -> Result<(), ClaimFault> {
+/// Refuses a log that is another's, or of which only a part is there. Its files are locked
+/// meanwhile. Gives its incarnation.
+fn check_claim(rt: &HostRuntime, path: &str, label: &str, at_least: u64) -> Result<u64, ClaimFault>
+    ensures old { IfOk result (λ incarnation. at_least ≤ incarnation) }
+{
     if SqlLog::is_half(rt, path)? {
         return Err(ClaimFault::Half);
     }
@@ -83,15 +94,19 @@ fn check_claim(rt: &HostRuntime, path: &str, label: &str, at_least: u64) -> Resu
 }
 
 /// Refuses a log that says this of itself to whoever has another label, or asks for more starts, and
-/// one that is shut to all. To whoever has more names it isn't refused for good.
+/// one that is shut to all. To whoever has more names it isn't refused for good. Gives its
+/// incarnation, which is 0 where there is no log yet.
 fn admit(
     alloc: Global,
     head: Option<LogHead>,
     label: &str,
     at_least: u64,
-) -> Result<(), ClaimFault> {
+) -> Result<u64, ClaimFault>
+    ensures admitted { IfOk result (IsAdmitted head label.now at_least) }
+{
     let Some(head) = head else {
-        return check_age(0, at_least);
+        check_age(0, at_least)?;
+        return Ok(0);
     };
     if let Err(fault) = verdict(alloc, head.label.as_str(), label)? {
         return Err(ClaimFault::Names(head.label, fault));
@@ -104,11 +119,15 @@ fn admit(
     if head.label.len() < label.len() {
         return Err(ClaimFault::FewerNames);
     }
-    Ok(())
+    Ok(head.incarnation)
 }
 
 /// Refuses a log of too low an incarnation.
-fn check_age(incarnation: u64, at_least: u64) -> Result<(), ClaimFault> {
+fn check_age(incarnation: u64, at_least: u64) -> Result<(), ClaimFault>
+    ensures old { OnOk result (at_least ≤ incarnation) }
+    ensures fault { IfErr result (λ fault. (fault ≡ ClaimFault.Older incarnation) ×
+        (incarnation < at_least)) }
+{
     if is_older(incarnation, at_least) {
         return Err(ClaimFault::Older(incarnation));
     }
@@ -131,9 +150,11 @@ fn claim_log<S: Start>(
     start: S,
     label: &str,
     at_least: u64,
-) -> Result<SqlLog<FileStore<FileFrom<S>>>, ClaimFault>
-    ensures { IfOk result (OpensAs ⟦<SqlLog<FileStore<FileFrom<S>>> as DecisionLog>⟧.moment
-        (image_at S.Start) label.now) }
+) -> Result<ClaimedLog<SqlLog<FileStore<FileFrom<S>>>>, ClaimFault>
+    ensures opened { IfOk result (λ claimed. OpensAs
+        ⟦<SqlLog<FileStore<FileFrom<S>>> as DecisionLog>⟧.moment (image_at S.Start) label.now
+        claimed.log) }
+    ensures old { IfOk result (λ claimed. at_least ≤ claimed.incarnation) }
 {
     check_journal(rt, path)?;
     check_missing(rt, path, at_least)?;
@@ -142,9 +163,9 @@ fn claim_log<S: Start>(
         Err(LockFault::InUse) => return Err(ClaimFault::InUse),
         Err(LockFault::Log(fault)) => return Err(ClaimFault::Log(fault)),
     };
-    check_claim(rt, path, label, at_least)?;
+    let incarnation = check_claim(rt, path, label, at_least)?;
     match SqlLog::open_locked(rt, files, label) {
-        Ok(log) => Ok(log),
+        Ok(log) => Ok(ClaimedLog { log, incarnation }),
         Err(fault) => Err(ClaimFault::Log(fault)),
     }
 }
@@ -231,15 +252,17 @@ pub(crate) fn open_claimed<S: Start>(
     start: S,
     label: &str,
     at_least: u64,
-) -> Result<Option<SqlLog<FileStore<FileFrom<S>>>>, Failure>
-    ensures { IfOk result (λ opened. IfSome opened (OpensAs
-        ⟦<SqlLog<FileStore<FileFrom<S>>> as DecisionLog>⟧.moment (image_at S.Start) label.now)) }
+) -> Result<Option<ClaimedLog<SqlLog<FileStore<FileFrom<S>>>>>, Failure>
+    ensures opened { IfOk result (λ claimed. IfSome claimed (λ c. OpensAs
+        ⟦<SqlLog<FileStore<FileFrom<S>>> as DecisionLog>⟧.moment (image_at S.Start) label.now
+        c.log)) }
+    ensures old { IfOk result (λ claimed. IfSome claimed (λ c. at_least ≤ c.incarnation)) }
 {
     if let Some(failure) = place_failure(rt, path)? {
         return Err(failure);
     }
     let fault = match claim_log(rt, path, start, label, at_least) {
-        Ok(log) => return Ok(Some(log)),
+        Ok(claimed) => return Ok(Some(claimed)),
         Err(fault) => fault,
     };
     match claim_failure(rt, path, label, at_least, fault)? {
@@ -252,8 +275,8 @@ pub(crate) fn open_claimed<S: Start>(
 /// While another process has it, this waits for a second.
 pub fn open_unnamed(rt: &HostRuntime, path: &str) -> Result<HostLog, Failure> {
     for _ in 0..MOST_TRIES {
-        if let Some(log) = open_claimed(rt, path, Unknown, "", 0)? {
-            return Ok(log);
+        if let Some(claimed) = open_claimed(rt, path, Unknown, "", 0)? {
+            return Ok(claimed.log);
         }
         pause(rt);
     }

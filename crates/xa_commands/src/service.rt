@@ -1,19 +1,19 @@
 //! What is done for a driver, over a log in any store, over one in files, and over the log at a path.
 
-ghost use Rattle.std.specs.Prelude.{◌≡◌, ℕ, List, map, option_map, IfErr, IfOk, OnOk, Ok};
+ghost use Rattle.std.specs.Prelude.{◌≡◌, ◌≤◌, ℕ, List, false, map, option_map, true, IfErr, IfOk, IfSome, IsOk, OnOk, Ok};
 ghost use Rattle.sqlite_disk.specs.declared.Files.{Files};
 ghost use Rattle.std.specs.Io.Buffered.{reader_remaining};
 ghost use Rattle.sqlite_wal.specs.Files.{image_at};
 ghost use Rattle.xa_commands.specs.Failures.{failure_status};
-ghost use Rattle.xa_commands.specs.Names.{MayName, name_given};
-ghost use Rattle.xa_commands.specs.Services.{HasEnded, HasEndedFiles, HasEndedNamed, HasFailed, HasFailedNamed, HasServedFrom, IsClosedInto, IsEndedInto};
+ghost use Rattle.xa_commands.specs.Names.{MayName, label_of, name_given};
+ghost use Rattle.xa_commands.specs.Services.{HasConductedFiles, HasConductedFrom, HasEnded, HasEndedByItself, HasEndedFiles, HasEndedNamed, HasFailed, HasFailedNamed, HasServedFrom, IsClosedInto, IsEndedInto, OpensAs};
 
-use crate::conduct::conduct_from;
+use crate::conduct::conduct_in_files;
 use crate::failure::Failure;
 use crate::introduction::introduce;
 use crate::log_names::{check_rm_names, label_of, manager_named};
 use crate::log_reasons::in_use;
-use crate::logs::{MOST_TRIES, broken_off, leave, leave_shut, open_claimed, pause};
+use crate::logs::{ClaimedLog, MOST_TRIES, broken_off, leave, leave_shut, open_claimed, pause};
 use crate::stores::shut_in_files;
 use sqlite::{FileFrom, FileStore, Start, Unknown};
 use sqlite_disk::Disk;
@@ -34,6 +34,8 @@ pub struct Service<'b, 'a> {
     pub log: &'a str,
     /// The log has had so many starts at least, or is refused.
     pub at_least: u64,
+    /// The driver says what its transactions do, and is told which calls to make; or else it asks for each step.
+    pub by_moves: bool,
     pub threads: u32,
     pub rms: u32,
 }
@@ -135,7 +137,8 @@ pub fn serve_in_files<D: Disk + Drop, R: Read, W: Write>(
     }
 }
 
-/// The same behind the line that has the names, where there are some.
+/// The same behind the line that has the names, where there are some; and if the driver is one of
+/// moves, it is conducted.
 fn serve_named<D: Disk + Drop, R: Read, W: Write>(
     alloc: Global,
     name: &ManagerName,
@@ -144,18 +147,62 @@ fn serve_named<D: Disk + Drop, R: Read, W: Write>(
     input: &mut BufReader<R>,
     out: &mut W,
 ) -> Result<Served, Failure>
-    ensures ended { IfOk result (HasEndedNamed D.Disk ⟦<SqlLog<FileStore<D>> as DecisionLog>⟧
+    ensures ended { service.now.by_moves ≡ false →
+        IfOk result (HasEndedNamed D.Disk ⟦<SqlLog<FileStore<D>> as DecisionLog>⟧
         name.now service.now.threads service.now.rms log
         (map (λ rm. rm.now) service.now.rm_names.now)
         (reader_remaining R.remaining input.old) (reader_remaining R.remaining input.new)
         (W.contents out.old) (W.contents out.new)) }
-    ensures broken { IfErr result (HasFailedNamed D.Disk ⟦<SqlLog<FileStore<D>> as DecisionLog>⟧
+    ensures broken { service.now.by_moves ≡ false →
+        IfErr result (HasFailedNamed D.Disk ⟦<SqlLog<FileStore<D>> as DecisionLog>⟧
         name.now service.now.threads service.now.rms log
         (map (λ rm. rm.now) service.now.rm_names.now)
         (reader_remaining R.remaining input.old) (W.contents out.old) (W.contents out.new)) }
+    ensures moved { service.now.by_moves ≡ true →
+        IfOk result (HasConductedFiles D.Disk ⟦<SqlLog<FileStore<D>> as DecisionLog>⟧
+        name.now service.now.threads service.now.rms log) }
 {
     introduce(alloc, name, service.rm_names, out)?;
-    serve_in_files(alloc, name, service.threads, service.rms, log, input, out)
+    if service.by_moves {
+        conduct_in_files(alloc, name, service.threads, service.rms, log, input, out)
+    } else {
+        serve_in_files(alloc, name, service.threads, service.rms, log, input, out)
+    }
+}
+
+/// The log of a service as it was opened, and the name of the manager.
+#[derive(Drop)]
+struct Begun<L: Drop> {
+    name: ManagerName,
+    claimed: ClaimedLog<L>,
+}
+
+/// Opens the log of a service, or makes it. There is none if it is to be tried again.
+fn begin<S: Start>(
+    rt: &HostRuntime,
+    service: &Service<'_, '_>,
+    start: S,
+) -> Result<Option<Begun<SqlLog<FileStore<FileFrom<S>>>>>, Failure>
+    ensures names { IfOk result (λ _. MayName service.now.rms service.now.rm_names.now) }
+    ensures given { IfOk result (λ _. (name : List ℕ) ×
+        (name_given (option_map (λ name. name.now) service.now.name) ≡ Ok name)) }
+    ensures name { IfOk result (λ begun. IfSome begun (λ b.
+        name_given (option_map (λ name. name.now) service.now.name) ≡ Ok b.name)) }
+    ensures opened { IfOk result (λ begun. IfSome begun (λ b. OpensAs
+        ⟦<SqlLog<FileStore<FileFrom<S>>> as DecisionLog>⟧.moment (image_at S.Start)
+        (label_of b.name (map (λ rm. rm.now) service.now.rm_names.now)) b.claimed.log)) }
+    ensures old { IfOk result (λ begun. IfSome begun (λ b.
+        service.now.at_least ≤ b.claimed.incarnation)) }
+{
+    let alloc = rt.alloc();
+    check_rm_names(service.rm_names, service.rms)?;
+    let name = manager_named(service.name)?;
+    let label = label_of(alloc, &name, service.rm_names)?;
+    match open_claimed(rt, service.log, start, label.as_str(), service.at_least) {
+        Ok(Some(claimed)) => Ok(Some(Begun { name, claimed })),
+        Ok(None) => Ok(None),
+        Err(failure) => return Err(failure),
+    }
 }
 
 /// Opens the log of a service, or makes it, serves the driver behind `input` and `out` over it, and closes it. `start` stands for
@@ -168,69 +215,73 @@ pub fn serve_from<S: Start, R: Read, W: Write>(
     out: &mut W,
 ) -> Result<Served, Failure>
     ensures names { IfOk result (λ _. MayName service.now.rms service.now.rm_names.now) }
-    ensures served { IfOk result (λ served. (name : List ℕ) ×
+    ensures served { service.now.by_moves ≡ false → IfOk result (λ served. (name : List ℕ) ×
         (name_given (option_map (λ name. name.now) service.now.name) ≡ Ok name) ×
         HasServedFrom ⟦<FileFrom<S> as Disk>⟧
         ⟦<SqlLog<FileStore<FileFrom<S>>> as DecisionLog>⟧ (image_at S.Start) name
         (map (λ rm. rm.now) service.now.rm_names.now) service.now.threads service.now.rms
         (reader_remaining R.remaining input.old) (reader_remaining R.remaining input.new)
         (W.contents out.old) (W.contents out.new) served) }
+    ensures moved { service.now.by_moves ≡ true → IfOk result (λ served. (name : List ℕ) ×
+        (name_given (option_map (λ name. name.now) service.now.name) ≡ Ok name) ×
+        HasConductedFrom ⟦<FileFrom<S> as Disk>⟧
+        ⟦<SqlLog<FileStore<FileFrom<S>>> as DecisionLog>⟧ (image_at S.Start) name
+        (map (λ rm. rm.now) service.now.rm_names.now) service.now.threads service.now.rms
+        served) }
+    ensures waits { result ≡ Ok Served.NotYet →
+        (reader_remaining R.remaining input.new ≡ reader_remaining R.remaining input.old)
+        × (W.contents out.new ≡ W.contents out.old) }
 {
-    let alloc = rt.alloc();
-    check_rm_names(service.rm_names, service.rms)?;
-    let name = manager_named(service.name)?;
-    let label = label_of(alloc, &name, service.rm_names)?;
-    let log = match open_claimed(rt, service.log, start, label.as_str(), service.at_least) {
-        Ok(Some(log)) => log,
-        Ok(None) => return Ok(Served::NotYet),
-        Err(failure) => return Err(failure),
+    let Some(begun) = begin(rt, service, start)? else {
+        return Ok(Served::NotYet);
     };
-    match serve_named(alloc, &name, service, log, input, out) {
+    let Begun { name, claimed } = begun;
+    match serve_named(rt.alloc(), &name, service, claimed.log, input, out) {
         Ok(served) => Ok(served),
         Err(failure) => Ok(Served::BrokenOff(failure)),
     }
 }
 
-/// A service of these.
-fn service_of<'b, 'a>(
-    name: Option<&'a str>,
-    rm_names: &'b [&'a str],
-    log: &'a str,
-    at_least: u64,
-    threads: u32,
-    rms: u32,
-) -> Service<'b, 'a>
-    ensures name { result.name ≡ name.entry }
-    ensures names { result.rm_names.now ≡ rm_names.now }
-    ensures log { result.log.now ≡ log.now }
-    ensures old { result.at_least ≡ at_least }
-    ensures threads { result.threads ≡ threads }
-    ensures rms { result.rms ≡ rms }
+/// The same, of files of the host: while another process has the log, this waits for a second.
+fn serve_at<R: Read, W: Write>(
+    rt: &HostRuntime,
+    service: &Service<'_, '_>,
+    input: &mut BufReader<R>,
+    out: &mut W,
+) -> Result<Served, Failure> {
+    for _ in 0..MOST_TRIES {
+        match serve_from(rt, service, Unknown, input, out)? {
+            Served::NotYet => pause(rt),
+            served => return Ok(served),
+        }
+    }
+    Err(in_use(rt.alloc(), service.log))
+}
+
+/// What comes of a service of which so much came, whose replies were all written, or not.
+fn end_of_service(
+    rt: &HostRuntime,
+    path: &str,
+    served: Served,
+    flushed: Result<(), io::Error>,
+) -> Result<(), Failure>
+    ensures ended { OnOk result (HasEndedByItself served) }
+    ensures written { OnOk result (IsOk flushed) }
 {
-    Service {
-        name,
-        rm_names,
-        log,
-        at_least,
-        threads,
-        rms,
+    match served {
+        Served::NotYet => Err(in_use(rt.alloc(), path)),
+        Served::Closed(closed) => {
+            let left = leave(rt, path, closed);
+            flushed.map_err(|_| Failure::Run(RunFault::Output))?;
+            left
+        }
+        Served::Shut(was_shut) => Err(leave_shut(rt, path, was_shut)),
+        Served::BrokenOff(failure) => Err(broken_off(rt, path, failure)),
     }
 }
 
-/// Serves the driver behind standard input and output, of so many threads and resource managers, over the log at a path; as the
-/// manager of a name, where one is given, and with the names of the resource managers, where there are some; by requests, or by moves.
-/// While another process has the log, this waits for a second.
-pub fn serve<'b, 'a>(
-    rt: &HostRuntime,
-    by_moves: bool,
-    name: Option<&'a str>,
-    rm_names: &'b [&'a str],
-    log: &'a str,
-    at_least: u64,
-    threads: u32,
-    rms: u32,
-) -> Result<(), Failure> {
-    let service = service_of(name, rm_names, log, at_least, threads, rms);
+/// Serves the driver behind standard input and output as it is asked to.
+pub fn serve(rt: &HostRuntime, service: &Service<'_, '_>) -> Result<(), Failure> {
     let alloc = rt.alloc();
     let mut input = BufReader::new(alloc, rt.reader()).map_err(|error| Failure::Input.caused_by(
         &error,
@@ -238,29 +289,7 @@ pub fn serve<'b, 'a>(
     let mut out = BufWriter::new(alloc, io::writer(rt)).map_err(|error| Failure::Run(
         RunFault::Output,
     ).caused_by(&error))?;
-    for _ in 0..MOST_TRIES {
-        let served = if by_moves {
-            conduct_from(rt, &service, Unknown, &mut input, &mut out)?
-        } else {
-            serve_from(rt, &service, Unknown, &mut input, &mut out)?
-        };
-        match served {
-            Served::NotYet => pause(rt),
-            Served::Closed(closed) => {
-                let flushed = out.flush();
-                let left = leave(rt, log, closed);
-                flushed.map_err(|_| Failure::Run(RunFault::Output))?;
-                return left;
-            }
-            Served::Shut(was_shut) => {
-                let _unwritten = out.flush();
-                return Err(leave_shut(rt, log, was_shut));
-            }
-            Served::BrokenOff(failure) => {
-                let _unwritten = out.flush();
-                return Err(broken_off(rt, log, failure));
-            }
-        }
-    }
-    Err(in_use(alloc, log))
+    let served = serve_at(rt, service, &mut input, &mut out)?;
+    let flushed = out.flush();
+    end_of_service(rt, service.log, served, flushed)
 }

@@ -1,6 +1,5 @@
-use Rattle.std.proofs.Common.{◌≡◌, subst, sym, Ok, Err, Result, IfErr, inl, inr}
+use Rattle.std.proofs.Common.{◌≡◌, subst, sym, Ok, Err, Result, IfErr, inl}
 use Rattle.std.proofs.lemmas.Result.{err_from_is_err_and}
-use Rattle.xa_log.proofs.Parts.{if_ok}
 use Rattle.xa_commands.proofs.service.serve_named.Goals as goal
 
 if_err : {A E : Type 0} (r : Result A E) (P Q : E → Type 0) → ((e : E) → P e → Q e) → IfErr r P → IfErr r Q
@@ -11,18 +10,6 @@ err_is : {A E : Type 0} (r : Result A E) (e : E) (P : E → Type 0) → r ≡ Er
 err_is r e P is h = subst (λ r. IfErr r P) (sym is) h
 
 pub returns-in_err-introduce-clause-broken : goal.returns-in_err-introduce-clause-broken
-returns-in_err-introduce-clause-broken g c =
+returns-in_err-introduce-clause-broken g c = λ asked.
     let p = err_from_is_err_and c.from_residual.result c.from_residual.ensures.1 in
     err_is c.from_residual.result p.0 _ p.1 (inl c.in_err-introduce.ensures.begun)
-
-pub returns-clause-ended : goal.returns-clause-ended
-returns-clause-ended g c =
-    if_ok c.serve_in_files.result _ _
-    (λ served ended. (g.W.Write.contents c.introduce.new.out, c.in_ok-introduce.ensures.told, ended))
-    c.serve_in_files.ensures.ended
-
-pub returns-clause-broken : goal.returns-clause-broken
-returns-clause-broken g c =
-    if_err c.serve_in_files.result _ _
-    (λ failure failed. inr (g.W.Write.contents c.introduce.new.out, c.in_ok-introduce.ensures.told, failed))
-    c.serve_in_files.ensures.broken
