@@ -9,7 +9,7 @@ mod command;
 mod runs;
 mod stories;
 
-use crate::command::{Command, command_of, parser};
+use crate::command::{Command, command_of, parser, service_of};
 use crate::runs::{run, run_as_json};
 use crate::stories::{check, draw, explain};
 use clap::error::ErrorKind;
@@ -108,21 +108,8 @@ fn perform<T: Threads + Wait + Clock + Sync>(
             let source = Source::of(file, &text, FileKind::Jobs);
             run_threads(rt, threads, source, log, &mut out)
         }
-        Command::Serve {
-            service,
-            at_least,
-            by_moves,
-        } => {
-            serve(
-                rt,
-                by_moves,
-                service.name,
-                service.rm_names.unwrap_or(&[]),
-                service.log,
-                at_least,
-                service.threads,
-                service.rms,
-            )
+        Command::Serve { service } => {
+            serve(rt, &service_of(service, service.rm_names.unwrap_or(&[])))
         }
         Command::Log {
             path,
