@@ -2,7 +2,8 @@
 use Rattle.std.proofs.Common.{◌≡◌, ℕ, ◌+◌, ◌-◌, ◌<◌, ◌≤◌, inl, inr, zero, List, [], ◌∷◌, ◌++◌, length, map, take, drop, get_or, suc, ap, refl, subst, sym, ◌∙◌, arith}
 use Rattle.std.specs.Borrow.{Bor}
 use Rattle.std.specs.Option.{option_map}
-use Rattle.std.specs.Prelude.{codes, ◌⊎◌, Option, Some, None, IfSome, slice_get}
+use Rattle.std.specs.List.{AllByRecursion}
+use Rattle.std.specs.Prelude.{codes, ◌⊎◌, Option, Some, None, IfSome, IsSomeAnd, slice_get}
 use Rattle.std.proofs.lemmas.List.{map-append, take-map, take_all, take_more}
 use Rattle.std.proofs.lemmas.List.Elements.{All-from_recursion}
 use Rattle.xa_log.specs.declared.decision.Decision.{Decision}
@@ -10,8 +11,11 @@ use Rattle.xa_names.specs.Lines.{line_renamed}
 use Rattle.xa_base.specs.declared.branch.Branch.{Branch}
 use Rattle.xa_base.specs.declared.branch.Gtrid.{Gtrid}
 use Rattle.xa_restore.specs.LogLines.{AreLogLinesOf, AreRowsOf, IsRow, Rise, RiseBehind, StandsBehind, decision_row_line, incarnation_line, last_behind, stated}
+use Rattle.xa_restore.specs.LogFaults.{IsFirstWrong, IsLogFault, IsNoIncarnation, IsRowFault, IsWrongRow, LacksEnd}
 use Rattle.xa_restore.specs.declared.faults.LineFault.{LineFault}
 use Rattle.xa_restore.specs.declared.faults.LineFault.TheVariants as Faults
+use Rattle.xa_restore.specs.declared.faults.RestoreFault.{RestoreFault}
+use Rattle.xa_restore.specs.declared.faults.RestoreFault.TheVariants.{Line, Memory}
 use Rattle.xa_restore.proofs.DecisionLemmas.{as_many, at_place}
 use Rattle.xa_restore.proofs.HeadingLemmas.{texts}
 
@@ -182,3 +186,106 @@ pub rows_more : (ds earlier more : List Decision) (i : ℕ) (line : List ℕ) (n
 rows_more ds earlier more i line n d next got same pushed =
     ap (map stated) pushed ∙ map-append stated earlier (d ∷ []) ∙ ap (λ ss. ss ++ stated d ∷ []) got ∙ ap (λ s. take i (map stated ds) ++ s ∷ []) same
     ∙ sym next.more
+
+-- ** the first line that is wrong
+
+text_at : (lines : List (Bor (List ℕ))) (i : ℕ) (line : Bor (List ℕ)) → i < length lines
+    → slice_get (texts lines) i ≡ Some (get_or lines i line).now
+text_at [] i line short = absurd (omega arith)
+text_at (l ∷ lines) zero line short = refl
+text_at (l ∷ lines) (suc i) line short = text_at lines i line (omega arith)
+
+pub first_wrong : (name : List ℕ) (n : ℕ) (lines : List (Bor (List ℕ))) (before : List Decision) (i : ℕ) (line : Bor (List ℕ)) (fault : LineFault)
+    → map (λ line. line_renamed name line.now) (take i lines) ≡ map decision_row_line before
+    → AllByRecursion (λ d. d.gtrid.incarnation ≤ n) before → Rise before → i < length lines
+    → IsWrongRow name n fault before (get_or lines i line).now → IsRowFault name n (texts lines) (Line (i + 2) fault)
+first_wrong name n lines before i line fault right started rise short wrong =
+    let place : i ≡ (i + 2) - 2 = omega arith in
+    let RightTo : ℕ → Type 0 = λ at. map (line_renamed name) (take at (texts lines)) ≡ map decision_row_line before in
+    let WrongAt : ℕ → Type 0 = λ at. IsSomeAnd (slice_get (texts lines) at) (IsWrongRow name n fault before) in
+    let texts_right = ap (map (line_renamed name)) (take-map (λ (l : Bor (List ℕ)). l.now) i lines) ∙ map_texts (line_renamed name) (take i lines) ∙ right in (
+      omega arith,
+      record {
+        before = before;
+        right = subst RightTo place texts_right;
+        started = started;
+        rise = rise;
+        wrong = subst WrongAt place (subst (λ found. IsSomeAnd found (IsWrongRow name n fault before)) (sym (text_at lines i line short)) wrong);
+      },
+    )
+
+-- and how it is wrong, if it is a decision's
+pub wrong_row : (name : List ℕ) (n : ℕ) (before : List Decision) (line : List ℕ) (d : Decision) (found : Option LineFault) (fault : LineFault)
+    (last : Option Gtrid) → line_renamed name line ≡ decision_row_line d → found ≡ Some fault
+    → IfSome found (λ f. (f ≡ Faults.Later) ⊎ (f ≡ Faults.Order)) → (found ≡ Some Faults.Later → n < d.gtrid.incarnation)
+    → (found ≡ Some Faults.Order → ¬ StandsBehind last d.gtrid) → last ≡ last_behind None before → IsWrongRow name n fault before line
+wrong_row name n before line d found fault last is found_is kind later order last_is =
+    let Wrong : LineFault → Type 0 = λ f. IsWrongRow name n f before line in
+    let either = rw found_is at kind in
+    elim either [
+      | inl e ↦ subst Wrong (sym e) (d, is, later (found_is ∙ ap Some e))
+      | inr e ↦ subst Wrong (sym e) (d, is, subst (λ l. ¬ StandsBehind l d.gtrid) last_is (order (found_is ∙ ap Some e)))
+    ]
+
+-- a place among the first of some lines is the same place among all of them
+at_front : (P : List ℕ → Type 0) (k : ℕ) (rows : List (List ℕ)) (i : ℕ) → IsSomeAnd (slice_get (take k rows) i) P
+    → IsSomeAnd (slice_get rows i) P × (take i (take k rows) ≡ take i rows)
+at_front P zero [] i some = absurd some
+at_front P zero (row ∷ rows) i some = absurd some
+at_front P (suc k) [] i some = absurd some
+at_front P (suc k) (row ∷ rows) zero some = (some, refl)
+at_front P (suc k) (row ∷ rows) (suc i) some = let there = at_front P k rows i some in (there.0, ap (λ rest. row ∷ rest) there.1)
+
+wrong_in_all : (name : List ℕ) (n k : ℕ) (rows : List (List ℕ)) (i : ℕ) (fault : LineFault) → IsFirstWrong name n (take k rows) i fault
+    → IsFirstWrong name n rows i fault
+wrong_in_all name n k rows i fault is =
+    let there = at_front (IsWrongRow name n fault is.before) k rows i is.wrong in
+    record {
+      before = is.before;
+      right = ap (map (line_renamed name)) (sym there.1) ∙ is.right;
+      started = is.started;
+      rise = is.rise;
+      wrong = there.0;
+    }
+
+never_wrong : (found : Option (List ℕ)) → IsSomeAnd found (λ line. ⊥) → ⊥
+never_wrong None some = some
+never_wrong (Some line) some = some
+
+-- the fault of a log's rows is one of the log
+rows_fault : (name : List ℕ) (n k : ℕ) (all : List (List ℕ)) (fault : RestoreFault) → slice_get all 0 ≡ Some (incarnation_line n)
+    → IsRowFault name n (take k (drop 1 all)) fault → IsLogFault name all fault
+rows_fault name n k all Memory first is = tt
+rows_fault name n k all (Line number Faults.Name) first is = absurd (never_wrong _ is.1.wrong)
+rows_fault name n k all (Line number Faults.Rm) first is = absurd (never_wrong _ is.1.wrong)
+rows_fault name n k all (Line number Faults.Incarnation) first is = absurd (never_wrong _ is.1.wrong)
+rows_fault name n k all (Line number Faults.Decision) first is = (n, first, (is.0, wrong_in_all name n k (drop 1 all) (number - 2) Faults.Decision is.1))
+rows_fault name n k all (Line number Faults.Order) first is = (n, first, (is.0, wrong_in_all name n k (drop 1 all) (number - 2) Faults.Order is.1))
+rows_fault name n k all (Line number Faults.Later) first is = (n, first, (is.0, wrong_in_all name n k (drop 1 all) (number - 2) Faults.Later is.1))
+rows_fault name n k all (Line number Faults.End) first is = absurd (never_wrong _ is.1.wrong)
+
+rows_texts : (k : ℕ) (lines : List (Bor (List ℕ))) → texts (take k (drop 1 lines)) ≡ take k (drop 1 (texts lines))
+rows_texts k [] = sym (take-map (λ (l : Bor (List ℕ)). l.now) k [])
+rows_texts k (line ∷ lines) = sym (take-map (λ (l : Bor (List ℕ)). l.now) k lines)
+
+pub log_fault : (name : List ℕ) (n k : ℕ) (lines : List (Bor (List ℕ))) (first : Bor (List ℕ)) (fault : RestoreFault) → 0 < length lines
+    → (get_or lines 0 first).now ≡ incarnation_line n → IsRowFault name n (texts (take k (drop 1 lines))) fault → IsLogFault name (texts lines) fault
+log_fault name n k lines first fault some is wrong =
+    rows_fault name n k (texts lines) fault (text_at lines 0 first some ∙ ap Some is)
+    (subst (λ rows. IsRowFault name n rows fault) (rows_texts k lines) wrong)
+
+pub no_incarnation : (name : List ℕ) (lines : List (Bor (List ℕ))) (first : Bor (List ℕ)) → 0 < length lines
+    → IsNoIncarnation (get_or lines 0 first).now → IsLogFault name (texts lines) (Line 1 Faults.Incarnation)
+no_incarnation name lines first some is = (refl, subst (λ found. IsSomeAnd found IsNoIncarnation) (sym (text_at lines 0 first some)) is)
+
+-- where `end` is the last line, there are two lines at least, and that is the last of them
+pub end_is : (lines : List (Bor (List ℕ))) (first : List ℕ) (rows : List (List ℕ)) → texts lines ≡ first ∷ rows ++ codes "end" ∷ []
+    → (1 < length lines) × ((e : Bor (List ℕ)) → (get_or lines (length lines - 1) e).now ≡ codes "end")
+end_is [] first rows is = absurd (cc)
+end_is (line ∷ lines) first rows is =
+    let others : texts lines ≡ rows ++ codes "end" ∷ [] = cc in
+    let there = ends_in lines rows (codes "end") others in
+    let some : 0 < length lines = there.0 in
+    let place : suc (length lines - 1) ≡ length (line ∷ lines) - 1 = omega arith in
+    let LastIs : ℕ → Type 0 = λ i. (e : Bor (List ℕ)) → (get_or (line ∷ lines) i e).now ≡ codes "end" in
+    (omega arith, subst LastIs place there.1)

@@ -1,4 +1,5 @@
 pub mod Faults
 pub mod Headings
+pub mod LogFaults
 pub mod LogLines
 pub mod Restored

@@ -5,6 +5,7 @@ ghost use Rattle.std.specs.List.{AllByRecursion};
 ghost use Rattle.xa_log.specs.Contract.{FitsRow};
 ghost use Rattle.xa_log.specs.declared.decision.Decision.{Decision};
 ghost use Rattle.xa_names.specs.Lines.{line_renamed};
+ghost use Rattle.xa_restore.specs.LogFaults.{IsLogFault, IsRowFault};
 ghost use Rattle.xa_restore.specs.LogLines.{AreLogLinesOf, AreOnce, AreRowsOf, OwnsBranches, Rise, StandsBehind, decision_row_line, incarnation_line, last_behind, stated};
 
 use crate::decision_line::read_decision;
@@ -101,6 +102,8 @@ fn read_decisions(
     ensures taken { (ds : List Decision) → AreRowsOf incarnation ds →
         map (λ line. line_renamed name.now line.now) lines.now ≡ map decision_row_line ds →
         IfErr result (λ fault. fault ≡ RestoreFault.Memory) }
+    ensures fault { IfErr result
+        (IsRowFault name.now incarnation (map (λ line. line.now) lines.now)) }
 {
     let mut decisions: Vec<Decision> = Vec::with_capacity(alloc, lines.len())?;
     for (at, line) in lines.iter().enumerate() {
@@ -141,6 +144,7 @@ pub fn read_log(alloc: Global, name: &ManagerName, lines: &[&str]) -> Result<Log
     ensures taken { (n : ℕ) (ds : List Decision) → n ≤ MOST_STARTS → AreRowsOf n ds →
         AreLogLinesOf name.now (map (λ line. line.now) lines.now) n ds →
         IfErr result (λ fault. fault ≡ RestoreFault.Memory) }
+    ensures fault { IfErr result (IsLogFault name.now (map (λ line. line.now) lines.now)) }
 {
     let [first, rows @ .., last] = lines else {
         return Err(RestoreFault::Line(lines.len() + 1, LineFault::End));
