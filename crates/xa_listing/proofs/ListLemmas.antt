@@ -1,10 +1,10 @@
 -- The text of the rows of a log is that of its content.
-use Rattle.std.proofs.Common.{◌≡◌, ◌∙◌, T, ℕ, Bool, true, false, ◌&&◌, List, [], ◌∷◌, ◌++◌, length, map, drop, Option, Some, None, Result, Ok, Err, IfOk, IfErr, IsSomeAnd, OnOk, OnErr, refl, sym, ap, subst, arith}
+use Rattle.std.proofs.Common.{◌≡◌, ◌∙◌, T, ℕ, Bool, true, false, ◌&&◌, List, [], ◌∷◌, ◌++◌, length, map, drop, take, Option, Some, None, Result, Ok, Err, IfOk, IfErr, IsSomeAnd, OnOk, OnErr, refl, sym, ap, subst, arith}
 use Rattle.std.specs.FinMap.{entries, entries_sorted, get-entries, is_sorted, keys}
 use Rattle.std.specs.FinMap.Entries.{below_all}
 use Rattle.std.specs.Io.KnownBytes.{Appends}
 use Rattle.std.specs.List.{AllByRecursion, flat_map}
-use Rattle.std.proofs.Math.Seq.{drop-append_seam}
+use Rattle.std.proofs.Math.Seq.{drop-append_seam, take-append_seam}
 use Rattle.std.proofs.lemmas.Result.{on_ok_weaker}
 use Rattle.xa_base.proofs.BranchOrder.{exact_gtrids, gtrids_total}
 use Rattle.xa_base.proofs.BranchKeys.{gtrid_eq-refl}
@@ -17,8 +17,9 @@ use Rattle.xa_base.proofs.Orders.{less_differs, all_among}
 use Rattle.xa_files.specs.Outputs.{AppendsBeginning}
 use Rattle.xa_files.specs.declared.fault.RunFault.{RunFault}
 use Rattle.xa_files.specs.declared.fault.RunFault.TheVariants.{Output}
-use Rattle.xa_listing.specs.Lines.{decision_lines, heuristic_lines, is_of_transaction, own_count, rows_text}
-use Rattle.xa_listing.specs.Texts.{BeginsLog, PrintsLog, count_line, decision_line, log_text}
+use Rattle.xa_listing.specs.Asks.{decision_asks, ends_asked, hint, log_asks, or_nothing, rows_asks}
+use Rattle.xa_listing.specs.Lines.{heuristic_lines, is_of_transaction, own_count, row_lines, rows_text}
+use Rattle.xa_listing.specs.Texts.{count_line, log_text}
 use Rattle.xa_log.specs.Content.{AreOwn, Content, all_listed}
 use Rattle.xa_log.specs.KeySet.{KeySet, contains-items, items}
 use Rattle.xa_log.specs.declared.log_fault.LogFault.{LogFault}
@@ -57,16 +58,19 @@ others_after g (row ∷ rows) below own =
     (all_map _ _ (λ (b : Branch) (is : b.gtrid ≡ row.0). ap (λ k. gtrid_eq k g) is ∙ less_differs g row.0 (less _ p.0)) (items row.1) own.0)
     (others_after g rows p.1 own.1)
 
-decisions_text : (rows : List Row) → T (is_sorted gtrid_cmp rows) → AllByRecursion IsOwn rows
-    → decision_lines (map (λ row. row.0) rows) (all_listed rows) ≡ flat_map decision_line rows
-decisions_text [] up own = refl
-decisions_text (row ∷ rows) up own =
+rows_texts : (text : Gtrid → List Branch → List ℕ) (rows : List Row) → T (is_sorted gtrid_cmp rows) → AllByRecursion IsOwn rows
+    → row_lines text (map (λ row. row.0) rows) (all_listed rows) ≡ flat_map (λ row. text row.0 (items row.1)) rows
+rows_texts text [] up own = refl
+rows_texts text (row ∷ rows) up own =
     let p = parts _ _ up in
-    let count : own_count row.0 (items row.1 ++ all_listed rows) ≡ length (items row.1) =
+    let all = items row.1 ++ all_listed rows in
+    let gs = map (λ (r : Row). r.0) rows in
+    let count : own_count row.0 all ≡ length (items row.1) =
     first_count row.0 (items row.1) (all_listed rows) (own_first row own.0) (others_after row.0 rows p.0 own.1) in
-    ap (λ n. count_line row.0 n ++ decision_lines (map (λ r. r.0) rows) (drop n (items row.1 ++ all_listed rows))) count
-    ∙ ap (λ bs. decision_line row ++ decision_lines (map (λ r. r.0) rows) bs) (drop-append_seam (items row.1) (all_listed rows))
-    ∙ ap (λ text. decision_line row ++ text) (decisions_text rows p.1 own.1)
+    ap (λ n. text row.0 (take n all) ++ row_lines text gs (drop n all)) count
+    ∙ ap (λ bs. text row.0 bs ++ row_lines text gs (drop (length (items row.1)) all)) (take-append_seam (items row.1) (all_listed rows))
+    ∙ ap (λ bs. text row.0 (items row.1) ++ row_lines text gs bs) (drop-append_seam (items row.1) (all_listed rows))
+    ∙ ap (λ rest. text row.0 (items row.1) ++ rest) (rows_texts text rows p.1 own.1)
 
 -- ** the rows of a log are so
 
@@ -82,31 +86,46 @@ pub text_of_rows : (c : Content) (decisions : List Gtrid) (participants : List B
 text_of_rows c decisions participants heuristics own decided waited ended =
     ap (λ gs. rows_text gs participants heuristics) decided ∙ ap (λ bs. rows_text (keys c.decisions) bs heuristics) waited
     ∙ ap (λ hs. rows_text (keys c.decisions) (all_listed (entries c.decisions)) hs) ended
-    ∙ ap (λ text. text ++ heuristic_lines (entries c.heuristics)) (decisions_text (entries c.decisions) (entries_sorted c.decisions) (own_rows c own))
+    ∙ ap (λ text. text ++ heuristic_lines (entries c.heuristics)) (rows_texts (λ g branches. count_line g (length branches)) (entries c.decisions) (entries_sorted c.decisions) (own_rows c own))
 
--- and so of an answer of the log
-pub told : (content : Option Content) (answer : Result LogRows LogFault) (rows : LogRows) (text : List ℕ) → answer ≡ Ok rows
-    → ((c : Content) → content ≡ Some c → AreOwn c)
-    → IfOk answer (λ (r : LogRows). IsSomeAnd content (λ c. r.decisions.items ≡ keys c.decisions))
-    → IfOk answer (λ (r : LogRows). IsSomeAnd content (λ c. r.participants.items ≡ all_listed (entries c.decisions)))
-    → IfOk answer (λ (r : LogRows). IsSomeAnd content (λ c. r.heuristics.items ≡ entries c.heuristics))
-    → text ≡ rows_text rows.decisions.items rows.participants.items rows.heuristics.items
-    → IsSomeAnd content (λ c. text ≡ log_text c)
-told (Some c) (Ok answer) rows text is own decided waited ended spelled =
-    let same : answer ≡ rows = cc in
-    spelled ∙ ap (λ (r : LogRows). rows_text r.decisions.items r.participants.items r.heuristics.items) (sym same)
-    ∙ text_of_rows c answer.decisions.items answer.participants.items answer.heuristics.items (own c refl) decided waited ended
-told None (Ok answer) rows text is own decided waited ended spelled = absurd decided
-told content (Err fault) rows text is own decided waited ended spelled = absurd (cc)
+-- and so is what they ask of an operator
+pub asks_of_rows : (manager : List ℕ) (c : Content) (decisions : List Gtrid) (participants : List Branch) (heuristics : List (Branch × How)) → AreOwn c
+    → decisions ≡ keys c.decisions → participants ≡ all_listed (entries c.decisions) → heuristics ≡ entries c.heuristics
+    → rows_asks manager decisions participants heuristics ≡ log_asks manager c
+asks_of_rows manager c decisions participants heuristics own decided waited ended =
+    ap (λ gs. rows_asks manager gs participants heuristics) decided ∙ ap (λ bs. rows_asks manager (keys c.decisions) bs heuristics) waited
+    ∙ ap (λ hs. rows_asks manager (keys c.decisions) (all_listed (entries c.decisions)) hs) ended
+    ∙ ap (λ text. or_nothing (text ++ ends_asked (keys c.decisions) (entries c.heuristics) ++ hint (all_listed (entries c.decisions))))
+    (rows_texts (decision_asks manager) (entries c.decisions) (entries_sorted c.decisions) (own_rows c own))
 
-pub prints : (content : Option Content) (old new : Option (List ℕ)) (text : List ℕ) (written : Result (Unit {0}) RunFault)
-    → IsSomeAnd content (λ c. text ≡ log_text c) → OnOk written (Appends old new text) → OnOk written (PrintsLog content old new)
-prints (Some c) old new text written is whole = on_ok_weaker written (λ appends. subst (Appends old new) is appends) whole
-prints None old new text written is whole = absurd is
+module _ (of_log : Content → List ℕ) where
+  -- and so of an answer of the log
+  pub told : (of_rows : List Gtrid → List Branch → List (Branch × How) → List ℕ)
+      → ((c : Content) (decisions : List Gtrid) (participants : List Branch) (heuristics : List (Branch × How)) → AreOwn c → decisions ≡ keys c.decisions
+      → participants ≡ all_listed (entries c.decisions) → heuristics ≡ entries c.heuristics → of_rows decisions participants heuristics ≡ of_log c)
+      → (content : Option Content) (answer : Result LogRows LogFault) (rows : LogRows) (text : List ℕ) → answer ≡ Ok rows
+      → ((c : Content) → content ≡ Some c → AreOwn c)
+      → IfOk answer (λ (r : LogRows). IsSomeAnd content (λ c. r.decisions.items ≡ keys c.decisions))
+      → IfOk answer (λ (r : LogRows). IsSomeAnd content (λ c. r.participants.items ≡ all_listed (entries c.decisions)))
+      → IfOk answer (λ (r : LogRows). IsSomeAnd content (λ c. r.heuristics.items ≡ entries c.heuristics))
+      → text ≡ of_rows rows.decisions.items rows.participants.items rows.heuristics.items
+      → IsSomeAnd content (λ c. text ≡ of_log c)
+  told of_rows same_text (Some c) (Ok answer) rows text is own decided waited ended spelled =
+      let same : answer ≡ rows = cc in
+      spelled ∙ ap (λ (r : LogRows). of_rows r.decisions.items r.participants.items r.heuristics.items) (sym same)
+      ∙ same_text c answer.decisions.items answer.participants.items answer.heuristics.items (own c refl) decided waited ended
+  told of_rows same_text None (Ok answer) rows text is own decided waited ended spelled = absurd decided
+  told of_rows same_text content (Err fault) rows text is own decided waited ended spelled = absurd (cc)
 
-pub begins : (content : Option Content) (old new : Option (List ℕ)) (text : List ℕ) (written : Result (Unit {0}) RunFault)
-    → IsSomeAnd content (λ c. text ≡ log_text c) → OnErr written (AppendsBeginning old new text)
-    → IfErr written (λ e. e ≡ Output → BeginsLog content old new)
-begins (Some c) old new text (Ok done) is begun = tt
-begins (Some c) old new text (Err e) is begun = λ _. subst (AppendsBeginning old new) is begun
-begins None old new text written is begun = absurd is
+  pub prints : (content : Option Content) (old new : Option (List ℕ)) (text : List ℕ) (written : Result (Unit {0}) RunFault)
+      → IsSomeAnd content (λ c. text ≡ of_log c) → OnOk written (Appends old new text)
+      → OnOk written (IsSomeAnd content (λ c. Appends old new (of_log c)))
+  prints (Some c) old new text written is whole = on_ok_weaker written (λ appends. subst (Appends old new) is appends) whole
+  prints None old new text written is whole = absurd is
+
+  pub begins : (content : Option Content) (old new : Option (List ℕ)) (text : List ℕ) (written : Result (Unit {0}) RunFault)
+      → IsSomeAnd content (λ c. text ≡ of_log c) → OnErr written (AppendsBeginning old new text)
+      → IfErr written (λ e. e ≡ Output → IsSomeAnd content (λ c. AppendsBeginning old new (of_log c)))
+  begins (Some c) old new text (Ok done) is begun = tt
+  begins (Some c) old new text (Err e) is begun = λ _. subst (AppendsBeginning old new) is begun
+  begins None old new text written is begun = absurd is

@@ -1,3 +1,4 @@
+pub mod Asks
 pub mod Ends
 pub mod Faults
 pub mod Lines

@@ -1,5 +1,5 @@
 -- The text of rows as a log lists them: the decisions beside the participants of all of them.
-use Rattle.std.specs.Prelude.{ℕ, Bool, List, [], ◌∷◌, ◌++◌, drop}
+use Rattle.std.specs.Prelude.{ℕ, Bool, List, [], ◌∷◌, ◌++◌, drop, length, take}
 use Rattle.std.specs.List.{flat_map, prefix_len}
 use Rattle.xa_base.specs.Branch.{gtrid_eq}
 use Rattle.xa_base.specs.declared.branch.Branch.{Branch}
@@ -15,12 +15,16 @@ is_of_transaction g b = gtrid_eq b.gtrid g
 abbrev pub own_count : Gtrid → List Branch → ℕ
 own_count g branches = prefix_len (is_of_transaction g) branches
 
--- a line for each decision, which takes as many of the participants as are its own
+-- a text for each decision, which takes as many of the participants as are its own
+abbrev pub row_lines : (Gtrid → List Branch → List ℕ) → List Gtrid → List Branch → List ℕ
+row_lines text [] participants = []
+row_lines text (g ∷ gs) participants =
+    text g (take (own_count g participants) participants)
+    ++ row_lines text gs (drop (own_count g participants) participants)
+
+-- a line for each, with how many they are
 abbrev pub decision_lines : List Gtrid → List Branch → List ℕ
-decision_lines [] participants = []
-decision_lines (g ∷ gs) participants =
-    count_line g (own_count g participants)
-    ++ decision_lines gs (drop (own_count g participants) participants)
+decision_lines = row_lines (λ g branches. count_line g (length branches))
 
 abbrev pub heuristic_lines : List (Branch × How) → List ℕ
 heuristic_lines = flat_map heuristic_line

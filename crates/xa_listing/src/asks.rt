@@ -1,10 +1,14 @@
 //! What the rows of a log ask of an operator.
 
-ghost use Rattle.std.specs.Prelude.{◌≡◌, IfErr, IfOk};
+ghost use Rattle.std.specs.Prelude.{◌≡◌, ◌++◌, IfErr, IfOk, OnOk};
+ghost use Rattle.std.specs.List.{flat_map};
 ghost use Rattle.std.specs.String.{string_bytes};
 ghost use Rattle.xa_files.specs.declared.fault.RunFault.TheVariants.{Memory};
+ghost use Rattle.xa_listing.specs.Asks.{commit_lines, decision_asks, ends_asked, hint, place_line, rows_asks, statement_line, waits_line, waits_text};
 ghost use Rattle.xa_listing.specs.Ends.{against_commit, own_end_line, own_end_text, lists_decision, without_row};
+ghost use Rattle.xa_listing.specs.Lines.{row_lines};
 
+use crate::lines::own_count;
 use crate::statements::{mariadb_commit, postgresql_commit};
 use std::alloc::Global;
 use xa_base::{Branch, Gtrid, How};
@@ -20,33 +24,62 @@ const ENDED_BY: &str =
     database still lists the branch: in pg_prepared_xacts, or by XA RECOVER. Nothing waits for a \
     row that xatm run or xatm threads left: its branches ended with that program.\n";
 
+/// How a transaction that is decided to commit waits for so many branches.
+fn waits_text(alloc: Global, count: usize) -> Result<String, RunFault>
+    ensures text { IfOk result (λ text. string_bytes text ≡ waits_text count) }
+    ensures fault { IfErr result (λ e. e ≡ Memory) }
+{
+    match count {
+        0 => Ok(format!(in alloc; "names no branch.")?),
+        1 => Ok(format!(in alloc; "waits for 1 branch:")?),
+        _ => Ok(format!(in alloc; "waits for {count} branches:")?),
+    }
+}
+
 /// What is told of a transaction that is decided to commit.
-fn decision_text(alloc: Global, g: Gtrid, count: usize) -> Result<String, RunFault>
+fn waits_line(alloc: Global, g: Gtrid, count: usize) -> Result<String, RunFault>
+    ensures text { IfOk result (λ text. string_bytes text ≡ waits_line g count) }
     ensures fault { IfErr result (λ e. e ≡ Memory) }
 {
     let name = g.text(alloc)?;
-    Ok(match count {
-        0 => format!(in alloc; "{name} is decided to commit, and its row names no branch.\n")?,
-        1 => format!(in alloc; "{name} is decided to commit, and its row waits for 1 branch:\n")?,
-        _ => format!(in alloc;
-            "{name} is decided to commit, and its row waits for {count} branches:\n"
-        )?,
-    })
+    let waits = waits_text(alloc, count)?;
+    Ok(format!(in alloc; "{name} is decided to commit, and its row {waits}\n")?)
 }
 
-/// Where a branch is that a row waits for, and the statements that commit it.
-fn branch_text(alloc: Global, manager: &[u8], branch: &Branch) -> Result<String, RunFault>
+/// Where a branch is that a row waits for.
+fn place_line(alloc: Global, branch: &Branch) -> Result<String, RunFault>
+    ensures text { IfOk result (λ text. string_bytes text ≡ place_line branch.now) }
     ensures fault { IfErr result (λ e. e ≡ Memory) }
 {
     let rm = branch.rm;
+    let name = branch.xid().text(alloc)?;
+    let front = format!(in alloc; "    {name} at resource manager ")?;
+    Ok(format!(in alloc; "{front}{rm}\n")?)
+}
+
+/// A statement of a database.
+fn statement_line(alloc: Global, database: &str, statement: &str) -> Result<String, RunFault>
+    ensures text { IfOk result (λ text.
+        string_bytes text ≡ statement_line database.now statement.now) }
+    ensures fault { IfErr result (λ e. e ≡ Memory) }
+{
+    let front = format!(in alloc; "        {database}: ")?;
+    Ok(format!(in alloc; "{front}{statement}\n")?)
+}
+
+/// Where a branch is that a row waits for, and the statements that commit it.
+fn commit_lines(alloc: Global, manager: &[u8], branch: &Branch) -> Result<String, RunFault>
+    ensures text { IfOk result (λ text.
+        string_bytes text ≡ commit_lines manager.now branch.now) }
+    ensures fault { IfErr result (λ e. e ≡ Memory) }
+{
     let xid = branch.xid();
-    let name = xid.text(alloc)?;
     let postgresql = postgresql_commit(alloc, manager, &xid)?;
     let mariadb = mariadb_commit(alloc, manager, &xid)?;
-    Ok(format!(in alloc;
-        "    {name} at resource manager {rm}\n        \
-        PostgreSQL: {postgresql}\n        MariaDB: {mariadb}\n"
-    )?)
+    let mut text = place_line(alloc, branch)?;
+    text.push_str(statement_line(alloc, "PostgreSQL", postgresql.as_str())?.as_str())?;
+    text.push_str(statement_line(alloc, "MariaDB", mariadb.as_str())?.as_str())?;
+    Ok(text)
 }
 
 /// What a heuristic end is to a decision to commit.
@@ -114,43 +147,94 @@ fn heuristic_text(
     Ok(format!(in alloc; "{name} was ended by resource manager {rm} itself: {what}\n")?)
 }
 
-/// Adds what there is to do about the transactions.
-fn push_decisions(
+/// Adds where these branches are, and the statements that commit them.
+fn push_branches(
     text: &mut String,
     alloc: Global,
     manager: &[u8],
-    rows: &LogRows,
+    branches: &[Branch],
 ) -> Result<(), RunFault>
+    ensures text { OnOk result (string_bytes text.new ≡
+        string_bytes text.old ++ flat_map (commit_lines manager.now) branches.now) }
     ensures fault { IfErr result (λ e. e ≡ Memory) }
 {
-    for g in rows.decisions.iter() {
-        let count = rows.participants.iter().filter(|b| b.gtrid == *g).count();
-        let line = decision_text(alloc, *g, count)?;
-        text.push_str(line.as_str())?;
-        for branch in rows.participants.iter() {
-            if branch.gtrid == *g {
-                let line = branch_text(alloc, manager, branch)?;
-                text.push_str(line.as_str())?;
-            }
-        }
+    for branch in branches {
+        let lines = commit_lines(alloc, manager, branch)?;
+        text.push_str(lines.as_str())?;
     }
     Ok(())
 }
 
+/// Adds what there is to do about the transactions. The participants are listed transaction by
+/// transaction, in the same order.
+fn push_decisions(
+    text: &mut String,
+    alloc: Global,
+    manager: &[u8],
+    decisions: &[Gtrid],
+    participants: &[Branch],
+) -> Result<(), RunFault>
+    ensures text { OnOk result (string_bytes text.new ≡ string_bytes text.old
+        ++ row_lines (decision_asks manager.now) decisions.now participants.now) }
+    ensures fault { IfErr result (λ e. e ≡ Memory) }
+{
+    let mut rest = participants;
+    for g in decisions {
+        let (own, later) = rest.split_at(own_count(*g, rest));
+        let line = waits_line(alloc, *g, own.len())?;
+        text.push_str(line.as_str())?;
+        push_branches(text, alloc, manager, own)?;
+        rest = later;
+    }
+    Ok(())
+}
+
+/// Adds what there is to do about the branches that their resource managers have ended.
+fn push_ends(
+    text: &mut String,
+    alloc: Global,
+    decisions: &[Gtrid],
+    heuristics: &[(Branch, How)],
+) -> Result<(), RunFault>
+    ensures text { OnOk result (string_bytes text.new ≡
+        string_bytes text.old ++ ends_asked decisions.now heuristics.now) }
+    ensures fault { IfErr result (λ e. e ≡ Memory) }
+{
+    for row in heuristics {
+        let line = heuristic_text(alloc, row, decisions)?;
+        text.push_str(line.as_str())?;
+    }
+    Ok(())
+}
+
+/// What ends the branches that are waited for, if there are some.
+fn hint(participants: &[Branch]) -> &'static str
+    ensures { result.now ≡ hint participants.now }
+{
+    if participants.is_empty() {
+        ""
+    } else {
+        ENDED_BY
+    }
+}
+
 /// What the rows of a log ask of an operator. The statements name branches as the manager of this name does.
 pub fn asks_text(manager: &[u8], rows: &LogRows) -> Result<String, RunFault>
+    ensures text { IfOk result (λ text. string_bytes text ≡ rows_asks manager.now
+        rows.now.decisions.items rows.now.participants.items rows.now.heuristics.items) }
     ensures fault { IfErr result (λ e. e ≡ Memory) }
 {
     let alloc = *rows.decisions.allocator();
     let mut text = String::new(alloc);
-    push_decisions(&mut text, alloc, manager, rows)?;
-    for row in rows.heuristics.iter() {
-        let line = heuristic_text(alloc, row, &rows.decisions)?;
-        text.push_str(line.as_str())?;
-    }
-    if !rows.participants.is_empty() {
-        text.push_str(ENDED_BY)?;
-    }
+    push_decisions(
+        &mut text,
+        alloc,
+        manager,
+        &rows.decisions,
+        &rows.participants,
+    )?;
+    push_ends(&mut text, alloc, &rows.decisions, &rows.heuristics)?;
+    text.push_str(hint(&rows.participants))?;
     if text.is_empty() {
         text.push_str(NOTHING)?;
     }

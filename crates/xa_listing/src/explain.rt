@@ -3,6 +3,7 @@
 ghost use Rattle.std.specs.Prelude.{◌≡◌, ◌≢◌, ◌⊎◌, Err, IfErr, OnOk};
 ghost use Rattle.std.specs.Io.KnownBytes.{Keeps};
 ghost use Rattle.xa_files.specs.declared.fault.RunFault.TheVariants.{Log, Memory, Output};
+ghost use Rattle.xa_listing.specs.Asks.{BeginsAsks, PrintsAsks};
 ghost use Rattle.xa_listing.specs.Faults.{CountsFault, IsListFault, TellsFault};
 ghost use Rattle.xa_log.specs.Content.{unchanged};
 ghost use Rattle.xa_log.specs.Contract.{Honestly, LeavesNoMore};
@@ -26,6 +27,12 @@ pub fn explain_log<L: DecisionLog, W: Write>(
     manager: &[u8],
     out: &mut W,
 ) -> Result<(), RunFault>
+    ensures prints { Honestly (L.moment log.old) (L.moment log.new)
+        (OnOk result (PrintsAsks manager.now (L.moment log.old).content (W.contents out.old)
+        (W.contents out.new))) }
+    ensures begun { Honestly (L.moment log.old) (L.moment log.new)
+        (IfErr result (λ e. e ≡ Output → BeginsAsks manager.now (L.moment log.old).content
+        (W.contents out.old) (W.contents out.new))) }
     ensures unwritten { IfErr result (λ e. e ≢ Output →
         Keeps (W.contents out.old) (W.contents out.new)) }
     ensures fault { IfErr result IsListFault }

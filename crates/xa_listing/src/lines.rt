@@ -12,7 +12,7 @@ use xa_files::{RunFault, fate_line};
 use xa_log::LogRows;
 
 /// How many of the branches, from the first on, are of the transaction.
-fn own_count(g: Gtrid, branches: &[Branch]) -> usize
+pub(crate) fn own_count(g: Gtrid, branches: &[Branch]) -> usize
     ensures count { result ≡ own_count g branches.now }
     ensures within { result ≤ length branches.now }
 {

@@ -1,13 +1,15 @@
 use Rattle.std.proofs.Common.{◌≡◌, Ok, ◌∙◌, rules}
-use Rattle.xa_listing.proofs.ListLemmas.{begins, prints, told}
+use Rattle.xa_listing.proofs.ListLemmas.{begins, prints, text_of_rows, told}
+use Rattle.xa_listing.specs.Lines.{rows_text}
+use Rattle.xa_listing.specs.Texts.{log_text}
 use Rattle.xa_listing.proofs.list.list_log.Goals as goal
 
 pub returns-clause-prints : goal.returns-clause-prints
 returns-clause-prints g c = λ order honest.
     let log = (g.L.DecisionLog.moment c.args.log.now).content in
     let was : c.rows.result ≡ Ok c.in_ok-rows.rows = search rules in
-    prints log (g.W.Write.contents c.args.out.now) (g.W.Write.contents c.write_text.new.out) c.as_bytes.result.now c.write_text.result
-    (told log c.rows.result c.in_ok-rows.rows c.as_bytes.result.now was (λ content is. g.met.L.DecisionLog.own c.args.log.now content order is)
+    prints log_text log (g.W.Write.contents c.args.out.now) (g.W.Write.contents c.write_text.new.out) c.as_bytes.result.now c.write_text.result
+    (told log_text rows_text text_of_rows log c.rows.result c.in_ok-rows.rows c.as_bytes.result.now was (λ content is. g.met.L.DecisionLog.own c.args.log.now content order is)
     (c.rows.ensures.decisions order honest) (c.rows.ensures.participants order honest) (c.rows.ensures.heuristics order honest)
     (c.as_bytes.ensures.value ∙ c.in_ok-text.ensures.text))
     c.write_text.ensures.whole
@@ -16,8 +18,8 @@ pub returns-clause-begun : goal.returns-clause-begun
 returns-clause-begun g c = λ order honest.
     let log = (g.L.DecisionLog.moment c.args.log.now).content in
     let was : c.rows.result ≡ Ok c.in_ok-rows.rows = search rules in
-    begins log (g.W.Write.contents c.args.out.now) (g.W.Write.contents c.write_text.new.out) c.as_bytes.result.now c.write_text.result
-    (told log c.rows.result c.in_ok-rows.rows c.as_bytes.result.now was (λ content is. g.met.L.DecisionLog.own c.args.log.now content order is)
+    begins log_text log (g.W.Write.contents c.args.out.now) (g.W.Write.contents c.write_text.new.out) c.as_bytes.result.now c.write_text.result
+    (told log_text rows_text text_of_rows log c.rows.result c.in_ok-rows.rows c.as_bytes.result.now was (λ content is. g.met.L.DecisionLog.own c.args.log.now content order is)
     (c.rows.ensures.decisions order honest) (c.rows.ensures.participants order honest) (c.rows.ensures.heuristics order honest)
     (c.as_bytes.ensures.value ∙ c.in_ok-text.ensures.text))
     c.write_text.ensures.begun
