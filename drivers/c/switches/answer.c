@@ -4,24 +4,17 @@
 #include <errno.h>
 #include <poll.h>
 #include <sys/socket.h>
-#include <time.h>
 
-static long now(void)
-{
-    struct timespec it;
+#include "../src/clock.h"
 
-    clock_gettime(CLOCK_MONOTONIC, &it);
-    return it.tv_sec * 1000 + it.tv_nsec / 1000000;
-}
-
-void wait_for_answer(int socket, long milliseconds)
+void wait_for_answer(int socket, double seconds)
 {
     struct pollfd it = {.fd = socket, .events = POLLIN};
-    long end = now() + milliseconds, left = milliseconds;
+    double end = now() + seconds, left = seconds;
     int found;
 
     do
-        found = poll(&it, 1, (int)left);
+        found = poll(&it, 1, (int)(1000 * left));
     while (found < 0 && errno == EINTR && (left = end - now()) > 0);
     if (found <= 0)
         shutdown(socket, SHUT_RDWR);

@@ -2,10 +2,10 @@
 #ifndef ANSWER_H
 #define ANSWER_H
 
-/* Milliseconds for each call of XA; seconds for a connection that is made. */
-enum { LONGEST_ANSWER = 60000, LONGEST_GREETING = 10 };
+/* Seconds for each call of XA, and for a connection that is made. */
+enum { LONGEST_ANSWER = 60, LONGEST_GREETING = 10 };
 
-/* Waits until a socket has something to read, for so many milliseconds at most. Then it is shut:
- * whoever reads from it finds the connection lost. */
-void wait_for_answer(int socket, long milliseconds);
+/* Waits until a socket has something to read, for so many seconds at most. Then it is shut: whoever
+ * reads from it finds the connection lost. */
+void wait_for_answer(int socket, double seconds);
 #endif

@@ -133,7 +133,7 @@ static void answers_that_never_come(void)
     IS(write(ends[1], "x", 1), 1);
     wait_for_answer(ends[0], LONGEST_ANSWER);
     IS(read(ends[0], &byte, 1), 1);
-    wait_for_answer(ends[0], 50);
+    wait_for_answer(ends[0], 0.05);
     IS(read(ends[0], &byte, 1), 0);
     close(ends[0]);
     close(ends[1]);
