@@ -111,14 +111,16 @@ static bool is_any_read(int flags)
 
 /* ** writing */
 
-/* The next line: how many bytes. A move that decides waits while another is on its way, and goes
- * with those that wait, too: so the log is written once for all of them. */
-static size_t write_line(void)
+/* The next line: how many bytes, and whether earlier ones are yet to be replied to. A move that
+ * decides waits while another is on its way, and goes with those that wait, too: so the log is
+ * written once for all of them. */
+static size_t write_line(bool *are_others)
 {
     bool may_decide = deciding == 0;
     struct move *last = NULL;
     size_t length = 0;
 
+    *are_others = sent != NULL;
     for (struct move **link = &posted, *move; (move = *link) != NULL && length + MOVE < LINE;) {
         if (move->decides && !may_decide) {
             link = &move->next;
@@ -153,17 +155,18 @@ static bool is_line_sent(const char *from, size_t length)
     return true;
 }
 
-/* Writes what was posted, unless another thread does. What is unread is read before: the
- * coordinator might wait for a reader, and this writer for the coordinator. */
+/* Writes what was posted, unless another thread does. What is unread of earlier lines is read
+ * before: the coordinator might wait for a reader, and this writer for the coordinator. */
 static void write_all(void)
 {
+    bool are_others;
     size_t length;
 
     if (is_written)
         return;
     is_written = true;
-    while (!coordinator.is_gone && (length = write_line()) > 0) {
-        if (sent->next != NULL && !is_read)
+    while (!coordinator.is_gone && (length = write_line(&are_others)) > 0) {
+        if (are_others && !is_read)
             is_any_read(MSG_DONTWAIT);
         pthread_mutex_unlock(&coordinator.lock);
         bool is_sent = is_line_sent(out, length), is_late = !is_sent && errno == EAGAIN;
@@ -210,7 +213,8 @@ static void wait_until_here(struct move *move)
     double until = now() + settings.patience;
 
     pthread_mutex_lock(&coordinator.lock);
-    write_all();
+    if (!move->is_here)
+        write_all();
     while (!move->is_here)
         wait_for(move, until);
     if (!is_read && !is_reader_woken(sent))
