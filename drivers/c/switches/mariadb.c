@@ -61,6 +61,7 @@ static bool is_connected(struct connection *c, const struct words *words)
     if (c->link == NULL)
         return false;
     mysql_options(c->link, MYSQL_OPT_CONNECT_TIMEOUT, &seconds);
+    mysql_options(c->link, MYSQL_OPT_NONBLOCK, NULL);
     if (mysql_real_connect(c->link, or_null(words->host), words->user, words->password, or_null(words->db), (unsigned)atoi(words->port),
             or_null(words->socket), 0)
             != NULL
@@ -137,7 +138,7 @@ static int mariadb_start(XID *xid, int rmid, long flags)
     return refused != XA_OK ? refused : begin(connection_of(rmid), xid, flags);
 }
 
-/* It goes with the next statement. */
+/* It is sent with the next statement. */
 static int mariadb_end(XID *xid, int rmid, long flags)
 {
     int refused = may_end(held_of(rmid), xid, flags);

@@ -4,13 +4,14 @@
 #include "../include/gf_mariadb.h"
 #include "held.h"
 
-/* XA END is sent with the statement behind it. */
 struct connection {
     struct held held;
     MYSQL *link;
     char label[65];
     enum step { NOTHING, STARTS, PREPARES, COMMITS, ROLLS_BACK, COMMITS_PREPARED, ROLLS_BACK_PREPARED } step;
     const XID *about;
+    bool is_behind; /* another statement was sent ahead of it, as XA END, and is answered first */
+    unsigned error; /* that it was answered by, 0 if none */
     MYSQL_RES *listed; /* what a scan goes on with */
 };
 

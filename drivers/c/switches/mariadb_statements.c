@@ -22,9 +22,8 @@ enum { OF_CLIENT = 2000, PAST_CLIENT = 3000, IN_SHUTDOWN = 1053, WAS_INTERRUPTED
 
 static bool is_lost(const struct connection *c)
 {
-    unsigned error = mysql_errno(c->link);
-
-    return (error >= OF_CLIENT && error < PAST_CLIENT) || error == IN_SHUTDOWN || error == WAS_INTERRUPTED || error == WAS_KILLED;
+    return (c->error >= OF_CLIENT && c->error < PAST_CLIENT) || c->error == IN_SHUTDOWN || c->error == WAS_INTERRUPTED
+        || c->error == WAS_KILLED;
 }
 
 /* The identifier as statements have it: X'0a',X'01',7 */
@@ -37,33 +36,58 @@ static char *in_sql(const XID *xid, char text[XID_TEXT])
     return text;
 }
 
-/* `XA <verb> <xid><tail>`; of a branch whose work isn't ended at the server yet, behind that. */
+/* Sends a statement, and reads nothing. */
+static bool is_query_sent(MYSQL *link, const char *statement)
+{
+    return mysql_send_query(link, statement, strlen(statement)) == 0;
+}
+
+/* `XA <verb> <xid><tail>`. What has to come ahead of it is sent at once, too: the server reads on
+ * once it is done with that, and both answers are read later. */
 static bool is_sent(struct connection *c, enum step step, const char *verb, const XID *xid, const char *tail)
 {
-    char statement[STATEMENT + XID_TEXT], text[XID_TEXT];
-    int length;
+    char ahead[STATEMENT] = "", statement[STATEMENT], text[XID_TEXT];
 
     in_sql(xid, text);
     if (step == STARTS && c->held.is_dynamic)
-        length = snprintf(statement, sizeof statement, "BEGIN NOT ATOMIC SET TRANSACTION READ WRITE; XA START %s; END", text);
+        snprintf(ahead, sizeof ahead, "SET TRANSACTION READ WRITE");
     else if (is_own(&c->held, xid) && c->held.state == IDLE)
-        length = snprintf(statement, sizeof statement, "BEGIN NOT ATOMIC XA END %s; XA %s %s%s; END", text, verb, text, tail);
-    else
-        length = snprintf(statement, sizeof statement, "XA %s %s%s", verb, text, tail);
+        snprintf(ahead, sizeof ahead, "XA END %s", text);
+    snprintf(statement, sizeof statement, "XA %s %s%s", verb, text, tail);
     c->step = step;
     c->about = xid;
-    return mysql_send_query(c->link, statement, (unsigned long)length) == 0;
+    c->is_behind = ahead[0] != '\0';
+    return (!c->is_behind || is_query_sent(c->link, ahead)) && is_query_sent(c->link, statement);
 }
 
+/* An answer that came with the one before it is in no socket any more, so libmariadb is asked
+ * first. */
 static bool is_read(MYSQL *link)
 {
-    wait_for_answer(mysql_get_socket(link), LONGEST_ANSWER);
-    return mysql_read_query_result(link) == 0;
+    my_bool is_wrong;
+    int wait = mysql_read_query_result_start(&is_wrong, link);
+
+    while (wait != 0) {
+        wait_for_answer(mysql_get_socket(link), LONGEST_ANSWER);
+        wait = mysql_read_query_result_cont(&is_wrong, link, wait);
+    }
+    return !is_wrong;
+}
+
+/* Whether the statement of a call went well. Else the error is that of what came ahead of it, if
+ * that has failed already. */
+static bool is_answered(struct connection *c)
+{
+    c->error = c->is_behind && !is_read(c->link) ? mysql_errno(c->link) : 0;
+    bool is_right = is_read(c->link);
+    if (!is_right && c->error == 0)
+        c->error = mysql_errno(c->link);
+    return is_right;
 }
 
 bool is_done(MYSQL *link, const char *statement)
 {
-    return mysql_send_query(link, statement, strlen(statement)) == 0 && is_read(link);
+    return is_query_sent(link, statement) && is_read(link);
 }
 
 static bool is_run(struct connection *c, const char *verb, const XID *xid)
@@ -87,7 +111,7 @@ static int roll_back(struct connection *c, int code)
 
 static int vote_of(const struct connection *c)
 {
-    switch (mysql_errno(c->link)) {
+    switch (c->error) {
     case IN_TIMEOUT:
         return XA_RBTIMEOUT;
     case IN_DEADLOCK:
@@ -153,16 +177,14 @@ char *value_of(MYSQL *link, const char *statement)
 
 static int finish_start(struct connection *c, bool is_right)
 {
-    unsigned error = mysql_errno(c->link);
-
     c->held.state = is_right ? ACTIVE : NONE;
-    return is_right ? XA_OK : error == IS_IN_USE ? XAER_DUPID : error == IS_OUTSIDE ? XAER_OUTSIDE : XAER_RMERR;
+    return is_right ? XA_OK : c->error == IS_IN_USE ? XAER_DUPID : c->error == IS_OUTSIDE ? XAER_OUTSIDE : XAER_RMERR;
 }
 
 /* Of a branch that is the server's. */
 static int finish_prepared(struct connection *c, bool is_right)
 {
-    if (!is_right && (mysql_errno(c->link) != NO_SUCH_BRANCH || is_listed(c, c->about)))
+    if (!is_right && (c->error != NO_SUCH_BRANCH || is_listed(c, c->about)))
         return c->step == COMMITS_PREPARED ? XA_RETRY : XAER_RMFAIL;
     if (is_own(&c->held, c->about))
         c->held.state = NONE;
@@ -171,7 +193,7 @@ static int finish_prepared(struct connection *c, bool is_right)
 
 int finish(struct connection *c)
 {
-    bool is_right = is_read(c->link);
+    bool is_right = is_answered(c);
 
     if (!is_right && is_lost(c))
         return over(&c->held, XAER_RMFAIL);
