@@ -245,7 +245,20 @@ static void registration(void)
     IS(tx_rollback(), TX_OK);
 }
 
+/* That it has committed goes on the line of the next one's join, unless the keeper moves in
+ * between. */
+static void lines_of_transfers(void)
+{
+    IS(tx_open(), TX_OK);
+    for (int i = 0; i < 20; i++) {
+        BEGIN(5);
+        IS(tx_commit(), TX_OK);
+    }
+    IS(count_told("line: tell 1 0 0;join 5 0 1\n") + count_told("line: tell 5 0 0;join 1 0 1\n") > 10, true);
+}
+
 const struct story of_states[] = {{"states: each call in each state", state_table}, {"states: the next of a chain doesn't begin", no_begin},
     {"states: values", values}, {"states: a time-out", time_out}, {"states: calls of two", calls_of_two},
     {"states: calls of a reader", calls_of_a_reader}, {"states: calls of one", calls_of_one},
-    {"states: calls that are asynchronous", calls_of_async}, {"states: registration", registration}, {NULL, NULL}};
+    {"states: calls that are asynchronous", calls_of_async}, {"states: registration", registration},
+    {"states: lines of transfers", lines_of_transfers}, {NULL, NULL}};
