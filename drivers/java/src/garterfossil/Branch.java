@@ -146,9 +146,9 @@ final class Branch {
         bound(true);
         shut(Manager.WORK_PATIENCE);
         int vote;
-        if (resource instanceof PreparesAtEnd) {
+        if (resource instanceof PreparesAtEnd both) {
             isEnded = isPrepareMade = true;
-            vote = Calls.answer("xa_prepare", () -> ((PreparesAtEnd) resource).endAndPrepare(xid));
+            vote = Calls.answer("xa_prepare", () -> both.endAndPrepare(xid));
         } else {
             vote = end(XAResource.TMSUCCESS);
             if (vote != Code.OK) {
@@ -258,7 +258,7 @@ final class Branch {
 
     /** Whether the connection, which another pool has, was ended. */
     private boolean isCut() {
-        boolean isSo = lease == null && !isOver && resource instanceof OwnedXaResource && ((OwnedXaResource) resource).cut();
+        boolean isSo = lease == null && !isOver && resource instanceof OwnedXaResource owned && owned.cut();
         if (isSo) {
             rm.noteStray();
         }

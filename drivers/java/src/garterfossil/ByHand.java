@@ -32,7 +32,7 @@ final class ByHand implements AutoCloseable {
         Resource at = at(listings, xid, xid.isOf(kept.manager, xid.rm()));
         String call = Doubt.callFor(log, kept, xid);
         Coordinator hold = new Coordinator(starter, kept.served(log, program, 1), patience);
-        long incarnation = Long.parseLong(hold.greeting.split(" ")[1]);
+        long incarnation = hold.incarnation();
         if (xid.incarnation() >= incarnation || incarnation != kept.incarnation + 1) {
             hold.quit();
             throw new Fault.Unavailable(xid.incarnation() >= incarnation

@@ -141,7 +141,7 @@ final class Hands {
         }
         // An xa_commit in one phase may have been made whatever comes.
         sure = told.verb.equals("commit-at-once") ? Outcome.UNKNOWN : sure;
-        manager.helpers.each(called, isApart, session.isBusy(), branch -> branch.make(told.verb));
+        manager.helpers.each(called, isApart, session.open(), branch -> branch.make(told.verb));
         note(told.verb, called);
     }
 

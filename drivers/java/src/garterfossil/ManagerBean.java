@@ -64,7 +64,7 @@ final class ManagerBean implements ManagerMXBean {
     @Override
     public String getWhyNot() {
         Session up = manager.up();
-        return up == null ? "there is no session" : up.fatal() != null ? up.fatal() : up.coordinator.isGone() ? up.coordinator.lost().getMessage() : null;
+        return up == null ? "there is no session" : up.whyNot();
     }
 
     @Override

@@ -14,7 +14,8 @@ final class Told {
         "unknown", Outcome.UNKNOWN);
     private static final Map<String, Outcome> STAGES = Map.of("prepare", Outcome.PREPARING, "commit", Outcome.COMMITTING,
         "commit-at-once", Outcome.COMMITTING, "rollback", Outcome.ROLLING_BACK, "undo", Outcome.ROLLING_BACK);
-    private static final Pattern NEXT = Pattern.compile(" next( |$)");
+    private static final String NEXT = " next ";
+    private static final Pattern GTRID = Pattern.compile("[0-9a-f]{32}");
 
     /** The whole line. */
     final String reply;
@@ -34,10 +35,11 @@ final class Told {
     final String next;
 
     private Told(String reply) {
-        String[] parts = NEXT.split(reply, 2), words = parts[0].split(" ", -1);
         this.reply = reply;
+        int end = (reply + " ").indexOf(NEXT);
+        String[] words = (end < 0 ? reply : reply.substring(0, end)).split(" ", -1);
         verb = words[0];
-        next = parts.length > 1 ? parts[1] : null;
+        next = end < 0 ? null : reply.substring(Math.min(reply.length(), end + NEXT.length()));
         List<Integer> list = rms;
         for (int at = 1; at < words.length; at++) {
             if (words[at].equals("owed") || words[at].equals("mixed")) {
@@ -46,7 +48,7 @@ final class Told {
                 list.add(Integer.parseInt(words[at]));
             }
         }
-        if (next != null && !next.matches("[0-9a-f]{32}") || mixed.size() % 2 != 0) {
+        if (next != null && !GTRID.matcher(next).matches() || mixed.size() % 2 != 0) {
             throw new IllegalArgumentException(reply);
         }
     }

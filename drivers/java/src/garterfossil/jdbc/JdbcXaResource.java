@@ -28,10 +28,10 @@ class JdbcXaResource implements OwnedXaResource {
         void made() throws XAException;
     }
 
+    final Connection connection;
     private final Resource owner;
     private final Dialect dialect;
     private final XAResource inner;
-    private final Connection connection;
     private volatile int longest;
     // What ends the connection, where it is another pool's.
     private volatile Runnable cutting;
@@ -83,17 +83,14 @@ class JdbcXaResource implements OwnedXaResource {
         }
     }
 
-    private void does(Does does) throws XAException {
+    final void does(Does does) throws XAException {
         bounded(() -> {
             does.made();
             return null;
         });
     }
 
-    /**
-     * Sets how long the connection waits for an answer: what that was before. Some drivers know no
-     * bound.
-     */
+    /** Sets how long an answer is waited for: what that was before. Some drivers know no bound. */
     private int setLongest(int millis) {
         try {
             int before = connection.getNetworkTimeout();
@@ -105,35 +102,7 @@ class JdbcXaResource implements OwnedXaResource {
         }
     }
 
-    @Override
-    public int prepare(Xid xid) throws XAException {
-        return bounded(() -> {
-            seeWhole(xid);
-            return inner.prepare(xid);
-        });
-    }
-
-    @Override
-    public void commit(Xid xid, boolean isOnePhase) throws XAException {
-        does(() -> {
-            if (isOnePhase) {
-                seeWhole(xid);
-            }
-            commitInner(xid, isOnePhase);
-        });
-    }
-
-    private void commitInner(Xid xid, boolean isOnePhase) throws XAException {
-        try {
-            inner.commit(xid, isOnePhase);
-        } catch (XAException error) {
-            // By XA the branch is rolled back then. MariaDB says so of whatever went wrong in its
-            // commit.
-            boolean isNoAnswer = error.errorCode == XAException.XAER_RMERR && dialect == Dialect.MARIADB;
-            throw isNoAnswer ? failed(XAException.XAER_RMFAIL, new SQLException(error)) : error;
-        }
-    }
-
+    /** Sees that the database hasn't given up the transaction of the connection. */
     final void seeWhole(Xid xid) throws XAException {
         boolean isGivenUp;
         try {
@@ -164,6 +133,30 @@ class JdbcXaResource implements OwnedXaResource {
     }
 
     @Override
+    public int prepare(Xid xid) throws XAException {
+        return bounded(() -> {
+            seeWhole(xid);
+            return inner.prepare(xid);
+        });
+    }
+
+    @Override
+    public void commit(Xid xid, boolean isOnePhase) throws XAException {
+        does(() -> {
+            if (isOnePhase) {
+                seeWhole(xid);
+            }
+            try {
+                inner.commit(xid, isOnePhase);
+            } catch (XAException error) {
+                // By XA the branch is rolled back then. MariaDB says so of whatever went wrong.
+                boolean isNoAnswer = error.errorCode == XAException.XAER_RMERR && dialect == Dialect.MARIADB;
+                throw isNoAnswer ? failed(XAException.XAER_RMFAIL, new SQLException(error)) : error;
+            }
+        });
+    }
+
+    @Override
     public void rollback(Xid xid) throws XAException {
         does(() -> inner.rollback(xid));
     }
@@ -180,7 +173,7 @@ class JdbcXaResource implements OwnedXaResource {
 
     @Override
     public boolean isSameRM(XAResource other) throws XAException {
-        return other instanceof JdbcXaResource ? owner == ((JdbcXaResource) other).owner : inner.isSameRM(other);
+        return other instanceof JdbcXaResource it ? owner == it.owner : inner.isSameRM(other);
     }
 
     @Override

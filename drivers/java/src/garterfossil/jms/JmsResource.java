@@ -1,5 +1,6 @@
 package garterfossil.jms;
 
+import garterfossil.Apart;
 import garterfossil.Fault;
 import garterfossil.Known;
 import garterfossil.Link;
@@ -61,7 +62,7 @@ public final class JmsResource extends PooledResource<JmsResource> {
      * is a QueueConnectionFactory and a TopicConnectionFactory too.
      */
     public ConnectionFactory connectionFactory(Manager of) {
-        return PooledConnectionFactory.of(of, this, outside);
+        return new PooledConnectionFactory(of, this, outside).front();
     }
 
     @Override
@@ -140,7 +141,7 @@ public final class JmsResource extends PooledResource<JmsResource> {
                 connection.close();
                 throw error;
             }
-            pause();
+            Apart.pause(50);
         }
     }
 
@@ -148,15 +149,6 @@ public final class JmsResource extends PooledResource<JmsResource> {
         Known it = known();
         if (it != null) {
             it.see(BrokerIdentity.of(connection, it.identity()), BrokerIdentity.placeOf(factory));
-        }
-    }
-
-    private static void pause() throws Fault.Lost {
-        try {
-            Thread.sleep(50);
-        } catch (InterruptedException error) {
-            Thread.currentThread().interrupt();
-            throw new Fault.Lost("interrupted", error);
         }
     }
 
