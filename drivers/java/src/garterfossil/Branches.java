@@ -32,7 +32,7 @@ final class Branches {
     }
 
     private List<Branch> begun() {
-        return all.stream().filter(Branch::isBegun).collect(Collectors.toList());
+        return all.stream().filter(Branch::isBegun).toList();
     }
 
     Session session() {
@@ -50,12 +50,7 @@ final class Branches {
     }
 
     Optional<Branch> at(ResourceManager rm) {
-        for (Branch branch : all) {
-            if (branch.rm == rm) {
-                return Optional.of(branch);
-            }
-        }
-        return Optional.empty();
+        return all.stream().filter(branch -> branch.rm == rm).findFirst();
     }
 
     Optional<Branch> of(XAResource xaResource) {

@@ -141,8 +141,7 @@ class Coordinator {
             readUntil(reply);
         } catch (IOException error) {
             Fault.Gone gone = gone(error.getMessage());
-            boolean isOlder = gone.getMessage().contains("--moves");
-            throw isOlder ? new Fault.Gone("it is " + OLDER + ", which it has to conduct (--moves)") : gone;
+            throw gone.getMessage().contains("--moves") ? new Fault.Gone("it is " + OLDER + ", which it has to conduct (--moves)") : gone;
         }
         return reply.text;
     }

@@ -11,6 +11,7 @@ import java.util.StringJoiner;
 import java.util.concurrent.Future;
 import java.util.concurrent.TimeUnit;
 import java.util.concurrent.locks.ReentrantLock;
+import java.util.stream.Collectors;
 import javax.transaction.xa.XAResource;
 
 /**
@@ -18,23 +19,13 @@ import javax.transaction.xa.XAResource;
  * rolled back.
  */
 public final class GlobalTransaction {
-    /** A branch as the program has it. */
-    public static final class Enlisted {
-        private final Branch branch;
-
-        private Enlisted(Branch branch) {
-            this.branch = branch;
-        }
-
-        /** The connection that the branch works on. */
-        public Link link() {
-            return branch.link();
-        }
-
-        /** What the program's work on the connection goes through. */
-        public Gate gate() {
-            return branch.gate;
-        }
+    /**
+     * A branch as the program has it.
+     *
+     * @param link the connection that it works on
+     * @param gate what the program's work on that goes through
+     */
+    public record Enlisted(Link link, Gate gate) {
     }
 
     /**
@@ -81,7 +72,7 @@ public final class GlobalTransaction {
     /** Its name, and how it stands. */
     String told() {
         return this + ": " + outcome + ", for " + (System.nanoTime() - begun) / 1_000_000_000 + " s, at " + branches.all().stream()
-            .map(branch -> branch.rm.toString()).collect(java.util.stream.Collectors.joining(", "));
+            .map(branch -> branch.rm.toString()).collect(Collectors.joining(", "));
     }
 
     /** How it stands. */
@@ -232,7 +223,8 @@ public final class GlobalTransaction {
      * The branch at a resource, over a connection of the pool. It begins as it is first asked for.
      */
     public Enlisted enlist(Resource resource) throws Fault {
-        return new Enlisted(branchAt(resource, null));
+        Branch branch = branchAt(resource, null);
+        return new Enlisted(branch.link(), branch.gate);
     }
 
     /** The branch of a connection that the program brought, at the resource that it belongs to. */
@@ -288,11 +280,10 @@ public final class GlobalTransaction {
 
     private void requireActive() throws Fault {
         requireOpen();
-        if (outcome == Outcome.MARKED_ROLLBACK) {
-            throw new Fault.Unavailable(this + " can only be rolled back: " + fault);
-        }
         if (branches.isSessionOver()) {
             mark("the coordinator ended", null);
+        }
+        if (outcome == Outcome.MARKED_ROLLBACK) {
             throw new Fault.Unavailable(this + " can only be rolled back: " + fault);
         }
     }
@@ -346,7 +337,7 @@ public final class GlobalTransaction {
     }
 
     private void commitLocked() throws Fault {
-        if (fault == null && branches.isSessionOver()) {
+        if (branches.isSessionOver()) {
             mark("the coordinator ended", null);
         }
         for (Branch branch : branches.all()) {
@@ -482,24 +473,20 @@ public final class GlobalTransaction {
         String why = "the coordinator ended: roll " + this + " back";
         mark("the coordinator ended", null);
         branches.bar(why);
+        boolean isMine = false;
         try {
-            boolean isMine = false;
             while (!isMine && !isGivenUp && System.nanoTime() < until) {
                 isMine = lock.tryLock(20, TimeUnit.MILLISECONDS);
             }
             if (isMine) {
-                giveUpHere(why);
+                branches.abandon(why);
             }
         } catch (InterruptedException error) {
             Thread.currentThread().interrupt();
-        }
-    }
-
-    private void giveUpHere(String why) {
-        try {
-            branches.abandon(why);
         } finally {
-            lock.unlock();
+            if (isMine) {
+                lock.unlock();
+            }
         }
     }
 

@@ -67,7 +67,7 @@ final class Hands {
 
     /** The coordinator has ended; or it refused what can't be refused, and so is ended. */
     private Fault.Gone gone(Fault fault) {
-        return fault instanceof Fault.Gone ? (Fault.Gone) fault : session.coordinator.failed(fault);
+        return fault instanceof Fault.Gone gone ? gone : session.coordinator.failed(fault);
     }
 
     private Told conduct(Told first, boolean isApart) throws Fault {
@@ -75,7 +75,7 @@ final class Hands {
         // The first calls are at all branches: else the coordinator doesn't know of one.
         seeExpected(told, told.rms.size() == branches.size());
         while (seen(told).outcome() == null) {
-            List<Branch> called = told.rms.stream().map(this::at).collect(Collectors.toList());
+            List<Branch> called = told.rms.stream().map(this::at).toList();
             make(told, called, isApart);
             String answers = called.stream().map(branch -> " " + branch.answer()).collect(Collectors.joining());
             if (ENDS.contains(told.verb) && called.stream().allMatch(it -> !it.isLost() && it.code() == Code.OK)) {
@@ -100,7 +100,7 @@ final class Hands {
     }
 
     private List<BranchXid> xidsOf(List<Integer> rms) {
-        return rms.stream().map(rm -> at(rm).xid).collect(Collectors.toList());
+        return rms.stream().map(rm -> at(rm).xid).toList();
     }
 
     private static void seeExpected(Told told, boolean isExpected) throws Fault.Refused {

@@ -69,18 +69,15 @@ final class KeptLog {
      * from its next start on.
      */
     private void add(List<String> names, Path log) throws Fault.Unavailable {
-        boolean areAllKnown = names.containsAll(resources);
-        for (String name : names) {
-            if (!resources.contains(name) && !areAllKnown) {
-                // It may be one of them, by another name.
-                throw new Fault.Unavailable("the log " + log + " is that of the resources " + resources + ", and " + name + " isn't one of them. To"
-                    + " add one, give the manager the others, too; if one of them is called " + name + " now, stop the program, and say xatm log"
-                    + " --rename-rm OLD " + name + " " + log);
-            }
-            if (!resources.contains(name)) {
-                resources.add(name);
-            }
+        List<String> added = names.stream().filter(name -> !resources.contains(name)).toList();
+        if (!added.isEmpty() && !names.containsAll(resources)) {
+            // It may be one of them, by another name.
+            String name = added.get(0);
+            throw new Fault.Unavailable("the log " + log + " is that of the resources " + resources + ", and " + name + " isn't one of them. To"
+                + " add one, give the manager the others, too; if one of them is called " + name + " now, stop the program, and say xatm log"
+                + " --rename-rm OLD " + name + " " + log);
         }
+        resources.addAll(added);
     }
 
     /**
@@ -117,14 +114,11 @@ final class KeptLog {
      * What may become of a log on a kind of file system; empty for those of which nothing is known.
      */
     static String dangerOf(String kind) {
-        switch (kind) {
-            case "nfs": case "nfs4": case "cifs": case "smb3": case "fuse.sshfs": case "fuse.glusterfs":
-                return "nothing sees there whether a program of another machine has it too";
-            case "overlay": case "tmpfs": case "ramfs":
-                return "it is lost with the container or the machine, and what is prepared then waits for somebody";
-            default:
-                return "";
-        }
+        return switch (kind) {
+            case "nfs", "nfs4", "cifs", "smb3", "fuse.sshfs", "fuse.glusterfs" -> "nothing sees there whether a program of another machine has it too";
+            case "overlay", "tmpfs", "ramfs" -> "it is lost with the container or the machine, and what is prepared then waits for somebody";
+            default -> "";
+        };
     }
 
     private static KeptLog drawn(Path log, String given, List<Resource> resources) throws Fault.Unavailable {

@@ -364,7 +364,7 @@ public final class Manager implements AutoCloseable {
         }
         Mirror found = new Mirror(made.mirror, made.log, KeptLog.isThere(made.log) ? untilFree(this::keptLog) : names, names.resources, made.patience);
         found.look(made.name, number -> rms.stream().filter(rm -> rm.number == number).map(rm -> Listing.of(rm.resource))
-            .filter(it -> it.fault == null).map(it -> it.all).findFirst().orElse(null));
+            .filter(it -> it.fault() == null).map(Listing::all).findFirst().orElse(null));
         return found;
     }
 
