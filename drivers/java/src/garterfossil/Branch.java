@@ -17,7 +17,7 @@ final class Branch {
     final ResourceManager rm;
     final Gate gate = new Gate();
     private final ResourceManager.Lease lease;
-    private final XAResource resource;
+    final XAResource resource;
     // How long its transaction may still go on.
     private final Supplier<Duration> left;
     private boolean isBegun, isFailed, isEnded, isPrepareMade, isOver, isInHaste;
@@ -32,10 +32,6 @@ final class Branch {
         this.lease = lease;
         this.resource = resource;
         this.left = left;
-    }
-
-    XAResource resource() {
-        return resource;
     }
 
     Link link() {

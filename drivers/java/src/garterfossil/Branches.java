@@ -16,9 +16,9 @@ final class Branches {
     private final GlobalTransaction transaction;
     private final Manager manager;
     // Another thread may look at them as the session or the time is over.
-    private final List<Branch> all = new CopyOnWriteArrayList<>();
+    final List<Branch> all = new CopyOnWriteArrayList<>();
     private final List<Integer> unjoined = new ArrayList<>();
-    private volatile Session session;
+    volatile Session session;
     private Session.Slot slot;
     private volatile String gtrid;
 
@@ -27,16 +27,8 @@ final class Branches {
         this.manager = manager;
     }
 
-    List<Branch> all() {
-        return all;
-    }
-
     private List<Branch> begun() {
         return all.stream().filter(Branch::isBegun).toList();
-    }
-
-    Session session() {
-        return session;
     }
 
     /** The transaction's 32 digits, or null where nothing takes part in it yet. */
@@ -54,7 +46,7 @@ final class Branches {
     }
 
     Optional<Branch> of(XAResource xaResource) {
-        return all.stream().filter(branch -> branch.resource() == xaResource).findFirst();
+        return all.stream().filter(branch -> branch.resource == xaResource).findFirst();
     }
 
     // ** their beginning
@@ -87,7 +79,7 @@ final class Branches {
         }
         session = up;
         slot = taken;
-        session.add(transaction);
+        session.live.add(transaction);
     }
 
     private void join(boolean isNow) throws Fault.Gone {
@@ -161,7 +153,7 @@ final class Branches {
      */
     private void release(Iterator<Branch> left, Session.Slot over) {
         if (!left.hasNext()) {
-            session.remove(transaction);
+            session.live.remove(transaction);
             session.giveBack(over);
             return;
         }

@@ -71,7 +71,7 @@ public final class GlobalTransaction {
 
     /** Its name, and how it stands. */
     String told() {
-        return this + ": " + outcome + ", for " + (System.nanoTime() - begun) / 1_000_000_000 + " s, at " + branches.all().stream()
+        return this + ": " + outcome + ", for " + (System.nanoTime() - begun) / 1_000_000_000 + " s, at " + branches.all.stream()
             .map(branch -> branch.rm.toString()).collect(Collectors.joining(", "));
     }
 
@@ -244,7 +244,7 @@ public final class GlobalTransaction {
             if (brought == null && found.isLost()) {
                 throw new Fault.Unavailable("the connection of " + this + " to " + rm + " was lost: roll it back");
             }
-            if (brought == null ? found.link() == null : found.resource() != brought) {
+            if (brought == null ? found.link() == null : found.resource != brought) {
                 throw new Fault.Unavailable(this + " has a connection to " + rm + " already, and takes part there by one alone");
             }
             return found;
@@ -254,11 +254,11 @@ public final class GlobalTransaction {
     }
 
     private Branch begun(ResourceManager rm, XAResource brought) throws Fault {
-        int count = branches.all().size();
+        int count = branches.all.size();
         try {
             return branches.begin(rm, brought);
         } catch (Fault | RuntimeException | Error error) {
-            if (branches.all().size() > count) {
+            if (branches.all.size() > count) {
                 mark("no branch at " + rm + ": " + error.getMessage(), error);
             }
             throw error;
@@ -340,7 +340,7 @@ public final class GlobalTransaction {
         if (branches.isSessionOver()) {
             mark("the coordinator ended", null);
         }
-        for (Branch branch : branches.all()) {
+        for (Branch branch : branches.all) {
             if (branch.isLost()) {
                 mark("the connection to " + branch.rm + " was lost", null);
             }
@@ -419,9 +419,9 @@ public final class GlobalTransaction {
 
     /** An error of the driver itself: the next session ends what is open. */
     private void giveUp(Throwable error) {
-        if (branches.session() != null) {
+        if (branches.session != null) {
             manager.fates.forget(branches.gtrid());
-            branches.session().coordinator.failed(error);
+            branches.session.coordinator.failed(error);
         }
     }
 
@@ -444,7 +444,7 @@ public final class GlobalTransaction {
         try {
             if (branches.gtrid() != null && !branches.isSessionOver()) {
                 if (isApart) {
-                    branches.all().forEach(Branch::makeHaste);
+                    branches.all.forEach(Branch::makeHaste);
                 }
                 Hands hands = branches.hands();
                 Told told = hands.rollBack(isApart);

@@ -156,7 +156,7 @@ final class Hands {
         } else if (verb.equals("commit-at-once") && !called.get(0).isLost()) {
             sure = isYes ? Outcome.COMMITTED : Outcome.ROLLED_BACK;
         } else if (verb.equals("rollback")) {
-            called.stream().filter(it -> !it.isLost()).forEach(it -> session.noteUndone(it.xid));
+            called.stream().filter(it -> !it.isLost()).forEach(it -> session.undone.add(it.xid));
         }
     }
 

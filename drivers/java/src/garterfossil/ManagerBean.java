@@ -90,7 +90,7 @@ final class ManagerBean implements ManagerMXBean {
         Session up = manager.up();
         Map<String, Map<String, Integer>> found = new LinkedHashMap<>();
         if (up != null) {
-            up.recoveries().forEach(recovery -> found.put(recovery.rm.toString(), of(recovery)));
+            up.recoveries.forEach(recovery -> found.put(recovery.rm.toString(), of(recovery)));
         }
         return found;
     }

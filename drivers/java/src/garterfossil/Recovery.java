@@ -296,7 +296,7 @@ final class Recovery {
             gone++;
         }
         if (asked.equals("xa_rollback")) {
-            session.noteUndone(of);
+            session.undone.add(of);
         }
         if (answer != Code.RETRY) {
             session.noteEnded(of);

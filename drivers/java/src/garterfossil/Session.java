@@ -120,7 +120,7 @@ final class Session {
     final long incarnation;
     final Counts counts;
     private final List<ResourceManager> rms;
-    private final List<Recovery> recoveries;
+    final List<Recovery> recoveries;
     // Of so many that at least half have their last reply: whoever begins then waits for none.
     private final Queue<Slot> free = new ConcurrentLinkedQueue<>();
     private final Semaphore places;
@@ -128,10 +128,10 @@ final class Session {
     private final Identities identities;
     private final Committed committed;
     private final Mirror mirror;
-    private final Set<GlobalTransaction> live = ConcurrentHashMap.newKeySet();
+    final Set<GlobalTransaction> live = ConcurrentHashMap.newKeySet();
     // Prepared branches that this session rolled back: a resource may forget that in a crash of its
     // own.
-    private final Recent<BranchXid> undone = new Recent<>(UNDONE);
+    final Recent<BranchXid> undone = new Recent<>(UNDONE);
     // Whether a transaction with a row was over since the coordinator was asked last what is due:
     // then rows leave that may.
     private volatile boolean hasRows;
@@ -179,14 +179,6 @@ final class Session {
     }
 
     // ** transactions
-
-    void add(GlobalTransaction transaction) {
-        live.add(transaction);
-    }
-
-    void remove(GlobalTransaction transaction) {
-        live.remove(transaction);
-    }
 
     /** Whether a transaction has a branch that isn't over, as far as it isn't owed. */
     boolean has(String gtrid) {
@@ -247,11 +239,6 @@ final class Session {
         if (mirror != null) {
             mirror.ended(xid);
         }
-    }
-
-    /** A prepared branch was rolled back. */
-    void noteUndone(BranchXid xid) {
-        undone.add(xid);
     }
 
     // ** what must not be
@@ -363,10 +350,6 @@ final class Session {
 
     List<String> openTransactions() {
         return live.stream().map(GlobalTransaction::told).toList();
-    }
-
-    List<Recovery> recoveries() {
-        return recoveries;
     }
 
     int owing() {

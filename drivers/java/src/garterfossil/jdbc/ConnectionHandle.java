@@ -41,7 +41,7 @@ final class ConnectionHandle {
         this.gate = gate;
         this.transaction = transaction;
         this.whenClosed = whenClosed;
-        connection = link.connection();
+        connection = link.connection;
         front = Front.of(Connection.class, (it, method, words) -> ofConnection(method, words));
     }
 

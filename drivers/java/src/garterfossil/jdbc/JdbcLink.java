@@ -26,7 +26,7 @@ final class JdbcLink implements Link {
 
     private final JdbcResource owner;
     private final XAConnection xa;
-    private final Connection connection;
+    final Connection connection;
     private final Deque<Undo> undos = new ArrayDeque<>();
     // Those that are open on it, each with the handle that made it; under the monitor of this object.
     private final Map<Statement, Object> statements = new IdentityHashMap<>();
@@ -48,10 +48,6 @@ final class JdbcLink implements Link {
             close();
             throw error;
         }
-    }
-
-    Connection connection() {
-        return connection;
     }
 
     /** A setting was changed: this takes it back. */

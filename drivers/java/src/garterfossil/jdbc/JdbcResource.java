@@ -122,7 +122,7 @@ public final class JdbcResource extends PooledResource<JdbcResource> {
         Set<Long> all = new HashSet<>(kept);
         all.addAll(owned.open());
         try {
-            dialect.endOthers(link.connection(), label(), link.number(), all);
+            dialect.endOthers(link.connection, label(), link.number(), all);
         } catch (SQLException | RuntimeException error) {
             throw new Fault.Lost("connections to " + name() + " can't be ended", error);
         } finally {

@@ -21,7 +21,7 @@ import javax.transaction.xa.XAResource;
 /** A connection to a broker, with one session. */
 final class JmsLink implements Link {
     private final XAConnection connection;
-    private final XASession session;
+    final XASession session;
     private final long number;
     private final Runnable whenClosed;
     private final List<Gate.Work> opened = new ArrayList<>();
@@ -61,10 +61,6 @@ final class JmsLink implements Link {
     static <E extends Exception> E caused(E error, Throwable cause) {
         error.initCause(cause);
         return error;
-    }
-
-    XASession session() {
-        return session;
     }
 
     /** An error was met on it: it isn't used again. */

@@ -48,7 +48,7 @@ final class SessionHandle {
     }
 
     static Session of(Manager manager, JmsLink link, Gate gate, GlobalTransaction transaction) {
-        return (Session) like(link.session(), new SessionHandle(manager, link, gate, transaction)::ofSession);
+        return (Session) like(link.session, new SessionHandle(manager, link, gate, transaction)::ofSession);
     }
 
     /** Something with those of JMS's interfaces that a session, or what one makes, has. */
@@ -94,7 +94,7 @@ final class SessionHandle {
         if (isClosed) {
             throw new IllegalStateException("the session is closed");
         }
-        Object made = through(link.session(), method, words, NOTHING);
+        Object made = through(link.session, method, words, NOTHING);
         return made instanceof MessageConsumer consumer ? child(made, consumer::close)
             : made instanceof MessageProducer producer ? child(made, producer::close)
             : made instanceof QueueBrowser browser ? child(made, browser::close) : made;
