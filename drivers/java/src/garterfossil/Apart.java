@@ -5,12 +5,14 @@ import java.util.concurrent.Callable;
 import java.util.concurrent.CompletableFuture;
 import java.util.concurrent.ExecutionException;
 import java.util.concurrent.ExecutorService;
+import java.util.concurrent.Semaphore;
 import java.util.concurrent.SynchronousQueue;
 import java.util.concurrent.ThreadFactory;
 import java.util.concurrent.ThreadPoolExecutor;
 import java.util.concurrent.TimeUnit;
 import java.util.concurrent.TimeoutException;
 import java.util.function.Consumer;
+import java.util.function.Supplier;
 
 /**
  * Threads for what may wait for a resource that is silent: each such thing has one of its own, and
@@ -90,6 +92,18 @@ public final class Apart {
             if (isInterrupted) {
                 Thread.currentThread().interrupt();
             }
+        }
+    }
+
+    /** Takes one of so many places, and waits so long for it. */
+    static void take(Semaphore places, Duration patience, String what, Supplier<String> fault) throws Fault.Unavailable {
+        try {
+            if (!places.tryAcquire() && !places.tryAcquire(patience.toNanos(), TimeUnit.NANOSECONDS)) {
+                throw new Fault.Unavailable(fault.get());
+            }
+        } catch (InterruptedException error) {
+            Thread.currentThread().interrupt();
+            throw new Fault.Unavailable("interrupted while " + what + " was waited for");
         }
     }
 

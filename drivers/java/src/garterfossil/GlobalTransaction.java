@@ -356,7 +356,7 @@ public final class GlobalTransaction {
         Hands hands = branches.hands();
         Told told;
         try {
-            told = hands.commit();
+            told = hands.end("commit", false);
         } catch (Fault.Gone gone) {
             seeFate(hands, gone);
             return;
@@ -447,7 +447,7 @@ public final class GlobalTransaction {
                     branches.all.forEach(Branch::makeHaste);
                 }
                 Hands hands = branches.hands();
-                Told told = hands.rollBack(isApart);
+                Told told = hands.end("rollback", isApart);
                 outcome = Outcome.ROLLED_BACK;
                 seePlain(told, hands);
             }

@@ -32,24 +32,20 @@ final class Hands {
         this.manager = manager;
     }
 
-    /** The work is over: how the transaction ended. */
-    Told commit() throws Fault.Gone {
+    /**
+     * The work is over, and is to be committed ("commit") or rolled back ("rollback"): how the
+     * transaction ended. With {@code isApart} no branch waits for another: one's resource may be
+     * silent.
+     */
+    Told end(String move, boolean isApart) throws Fault.Gone {
         try {
             Told joined = slot.joined();
-            return conduct(branches.size() > 1 ? joined : slot.end("commit"), false);
+            return conduct(move.equals("commit") && branches.size() > 1 ? joined : slot.end(move), isApart);
+        } catch (Fault.Gone gone) {
+            throw gone;
         } catch (Fault fault) {
-            throw gone(fault);
-        }
-    }
-
-    /**
-     * Rolls back. With {@code isApart} no branch waits for another: one's resource may be silent.
-     */
-    Told rollBack(boolean isApart) throws Fault.Gone {
-        try {
-            return conduct(slot.end("rollback"), isApart);
-        } catch (Fault fault) {
-            throw gone(fault);
+            // It refused what can't be refused, and so is ended.
+            throw session.coordinator.failed(fault);
         }
     }
 
@@ -63,11 +59,6 @@ final class Hands {
 
     int rows() {
         return rows;
-    }
-
-    /** The coordinator has ended; or it refused what can't be refused, and so is ended. */
-    private Fault.Gone gone(Fault fault) {
-        return fault instanceof Fault.Gone gone ? gone : session.coordinator.failed(fault);
     }
 
     private Told conduct(Told first, boolean isApart) throws Fault {

@@ -237,13 +237,11 @@ final class Recovery {
 
     /** How many branches can't be ended yet. */
     private int left(String[] words) throws Fault.Gone {
-        if (words.length == 1) {
-            return 0;
-        }
-        if (words.length != 3 || !words[2].matches("[0-9]{1,9}")) {
+        boolean isRight = words.length == 1 || words.length == 3 && words[2].matches("[0-9]{1,9}");
+        if (!isRight) {
             throw refused(words);
         }
-        return Integer.parseInt(words[2]);
+        return words.length == 1 ? 0 : Integer.parseInt(words[2]);
     }
 
     private String[] asked(String move, String... words) throws Fault.Gone {

@@ -70,15 +70,8 @@ final class ResourceManager {
 
     /** A connection, of the pool or a new one. Waits for a place. */
     Lease borrow(Duration patience) throws Fault {
-        try {
-            if (!places.tryAcquire() && !places.tryAcquire(patience.toNanos(), TimeUnit.NANOSECONDS)) {
-                throw new Fault.Unavailable("all " + resource.maxConnections() + " connections to " + this + " are in use for "
-                    + patience.toSeconds() + " s, by " + holders + ". Let the pool have more, or end transactions sooner");
-            }
-        } catch (InterruptedException error) {
-            Thread.currentThread().interrupt();
-            throw new Fault.Unavailable("interrupted while a connection to " + this + " was waited for");
-        }
+        Apart.take(places, patience, "a connection to " + this, () -> "all " + resource.maxConnections() + " connections to " + this + " are in use for "
+            + patience.toSeconds() + " s, by " + holders + ". Let the pool have more, or end transactions sooner");
         try {
             int lentIn;
             synchronized (this) {

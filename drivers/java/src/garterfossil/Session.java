@@ -188,16 +188,9 @@ final class Session {
     /** A thread of the coordinator, for one transaction. */
     Slot take(Duration patience) throws Fault {
         seeWhole();
-        try {
-            if (places.tryAcquire() || places.tryAcquire(patience.toMillis(), TimeUnit.MILLISECONDS)) {
-                return free.remove();
-            }
-        } catch (InterruptedException error) {
-            Thread.currentThread().interrupt();
-            throw new Fault.Unavailable("interrupted, while all " + threads + " transactions that may run at once do so");
-        }
-        throw new Fault.Unavailable("all " + threads + " transactions that may run at once do so, for " + patience.toSeconds()
-            + " s. Give the manager more threads; a REQUIRES_NEW in a transaction needs a second one while the first waits");
+        Apart.take(places, patience, "a thread of the coordinator", () -> "all " + threads + " transactions that may run at once do so, for "
+            + patience.toSeconds() + " s. Give the manager more threads; a REQUIRES_NEW in a transaction needs a second one while the first waits");
+        return free.remove();
     }
 
     /**

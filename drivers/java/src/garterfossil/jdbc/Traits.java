@@ -4,6 +4,7 @@ import java.sql.Connection;
 import java.sql.SQLException;
 import java.util.ArrayList;
 import java.util.List;
+import java.util.Objects;
 import java.util.Optional;
 import java.util.UUID;
 
@@ -92,22 +93,22 @@ final class Traits {
 
     /** The names that a query finds, of which some are told; none if it finds none. */
     private static Optional<String> named(Connection connection, String query) {
-        try {
-            List<String> names = Dialect.rows(connection, query);
-            String more = names.size() > MOST_NAMED ? " and " + (names.size() - MOST_NAMED) + " more" : "";
-            return names.isEmpty() ? Optional.empty() : Optional.of(String.join(", ", names.subList(0, Math.min(MOST_NAMED, names.size()))) + more);
-        } catch (SQLException error) {
-            return Optional.empty();
-        }
+        List<String> names = rows(connection, query);
+        String more = names.size() > MOST_NAMED ? " and " + (names.size() - MOST_NAMED) + " more" : "";
+        return names.isEmpty() ? Optional.empty() : Optional.of(String.join(", ", names.subList(0, Math.min(MOST_NAMED, names.size()))) + more);
     }
 
-    /** The first that a query finds. None if the user may not ask. */
+    /** The first that a query finds. */
     private static Optional<String> first(Connection connection, String query) {
+        return rows(connection, query).stream().findFirst();
+    }
+
+    /** None if the user may not ask. */
+    private static List<String> rows(Connection connection, String query) {
         try {
-            List<String> found = Dialect.rows(connection, query);
-            return found.isEmpty() ? Optional.empty() : Optional.ofNullable(found.get(0));
+            return Dialect.rows(connection, query).stream().filter(Objects::nonNull).toList();
         } catch (SQLException error) {
-            return Optional.empty();
+            return List.of();
         }
     }
 }

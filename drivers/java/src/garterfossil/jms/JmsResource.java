@@ -82,38 +82,36 @@ public final class JmsResource extends PooledResource<JmsResource> {
         }
     }
 
-    private int take() {
-        synchronized (used) {
-            int number = used.nextClearBit(0);
-            used.set(number);
-            return number;
-        }
+    private synchronized int take() {
+        int number = used.nextClearBit(0);
+        used.set(number);
+        return number;
     }
 
-    private void giveBack(int number) {
-        synchronized (used) {
-            used.clear(number);
-            left.set(number);
-        }
+    private synchronized void giveBack(int number) {
+        used.clear(number);
+        left.set(number);
     }
 
     @Override
-    public void startAnew() {
-        synchronized (used) {
-            areSeen = false;
-        }
+    public synchronized void startAnew() {
+        areSeen = false;
     }
 
     /** The identifiers of which connections may be there that nobody has. */
-    private BitSet unseen() {
-        synchronized (used) {
-            BitSet found = (BitSet) left.clone();
-            if (!areSeen) {
-                found.set(0, maxConnections() + 1);
-            }
-            left.clear();
-            return found;
+    private synchronized BitSet unseen() {
+        BitSet found = (BitSet) left.clone();
+        if (!areSeen) {
+            found.set(0, maxConnections() + 1);
         }
+        left.clear();
+        return found;
+    }
+
+    /** They were looked at, except for these. */
+    private synchronized void looked(BitSet unseen) {
+        left.or(unseen);
+        areSeen |= unseen.isEmpty();
     }
 
     /**
@@ -168,15 +166,10 @@ public final class JmsResource extends PooledResource<JmsResource> {
                 }
                 unseen.clear(number);
             }
-            synchronized (used) {
-                areSeen = true;
-            }
         } catch (JMSException | RuntimeException error) {
             throw new Fault.Lost("no connection to " + name(), error);
         } finally {
-            synchronized (used) {
-                left.or(unseen);
-            }
+            looked(unseen);
         }
     }
 }
