@@ -23,6 +23,7 @@ import javax.sql.DataSource;
 final class Mirror {
     /** So long a log may take that is made: each of its incarnations is a write that is synced. */
     private static final Duration TO_MAKE = Duration.ofDays(1);
+    private static final String FAILED = "a decision was told to the mirror, and that failed";
 
     /** A decision that a thread tells, and waits for: why it can't be told, or an empty text. */
     private record Decision(String gtrid, List<BranchXid> xids, CompletableFuture<String> told) {
@@ -193,17 +194,18 @@ final class Mirror {
                 addAll(some);
             }
         }
-        String error = mine.told.join();
+        // Not even told, if the thread that had taken it met an error of the Java machine.
+        String error = mine.told.getNow(FAILED);
         if (!error.isEmpty()) {
             throw new Fault.Lost(error, null);
         }
     }
 
     private void addAll(List<Decision> some) {
-        Map<String, List<BranchXid>> all = new LinkedHashMap<>();
-        some.forEach(one -> all.put(one.gtrid, one.xids));
-        String error = "a decision was told to the mirror, and that failed";
+        String error = FAILED;
         try {
+            Map<String, List<BranchXid>> all = new LinkedHashMap<>();
+            some.forEach(one -> all.put(one.gtrid, one.xids));
             error = adding.once(at -> adding.insert(at, all, incarnation)) ? ""
                 : "the mirror is in a later session of this manager: another machine has taken over";
         } catch (Fault raised) {
