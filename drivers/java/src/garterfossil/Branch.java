@@ -103,7 +103,7 @@ final class Branch {
             }
             code = made(verb);
             // What is put off may be on the connection still.
-            isOver = !isPrepared(verb) && code != Code.RETRY;
+            isOver = code != Code.RETRY && !(verb.equals("prepare") && code == Code.OK);
             boolean isNo = Code.isRollback(code) || code == XAException.XAER_RMERR;
             fault = isNo ? new Fault.RolledBack(rm + " voted " + Code.name(code), null) : null;
         } catch (Fault.Lost error) {
@@ -111,17 +111,16 @@ final class Branch {
         }
     }
 
-    private boolean isPrepared(String verb) {
-        return verb.equals("prepare") && code == Code.OK;
-    }
-
     private int made(String verb) throws Fault.Lost {
-        switch (verb) {
-            case "prepare": return prepare();
-            case "commit-at-once": return commitAtOnce();
-            case "undo": return undo();
-            default: bound(false); return Calls.end("xa_" + verb, resource, xid);
-        }
+        return switch (verb) {
+            case "prepare" -> prepare();
+            case "commit-at-once" -> commitAtOnce();
+            case "undo" -> undo();
+            default -> {
+                bound(false);
+                yield Calls.end("xa_" + verb, resource, xid);
+            }
+        };
     }
 
     /** How the call was answered, as the coordinator is told. */

@@ -6,7 +6,10 @@ import java.lang.reflect.Method;
 import java.lang.reflect.Proxy;
 import java.util.List;
 
-/** Objects that a program has in place of those of a driver: each call of theirs comes to the manager first. */
+/**
+ * Objects that a program has in place of those of a driver: each call of theirs comes to the
+ * manager first.
+ */
 public final class Front {
     private Front() {
     }

@@ -22,7 +22,7 @@ final class Helpers {
     private static final int PROCESSORS = Runtime.getRuntime().availableProcessors();
     private static final double HIGH = 0.75;
 
-    // Whether the machine's processors are busy. If the system doesn't say so, they are taken to be.
+    // Whether the machine's processors are busy; they are taken to be if the system doesn't say.
     private volatile boolean isHigh = true;
     private final int most;
     private final ThreadPoolExecutor threads;

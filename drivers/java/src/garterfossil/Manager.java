@@ -267,7 +267,7 @@ public final class Manager implements AutoCloseable {
         this.made = made;
         helpers = new Helpers(made.helpers < 0 ? made.threads : made.helpers);
         clock.setRemoveOnCancelPolicy(true);
-        // It is due before the time-out of what begins: so the clock's thread needn't wake for that.
+        // It is due before the time-out of what begins, for which the clock's thread needn't wake.
         clock.scheduleWithFixedDelay(helpers::look, 1, 1, TimeUnit.SECONDS);
     }
 

@@ -157,7 +157,7 @@ final class ConnectionHandle {
         });
     }
 
-    /** Whether a thing has an interface, or what does. Work on what lies under it goes past the gate. */
+    /** Whether a thing has an interface, or what does: work on what lies under it passes the gate by. */
     private Object face(Object it, Object target, Method method, Object[] words) throws Throwable {
         Class<?> wanted = (Class<?>) words[0];
         if (method.getName().equals("isWrapperFor")) {

@@ -236,7 +236,7 @@ enum Dialect {
         return null;
     }
 
-    /** How the database is set so that it may not keep what it voted for, to be read by somebody. */
+    /** How the database is set so that it may not keep what it voted for, as texts to be read. */
     List<String> weaknesses(Connection connection) {
         return List.of();
     }
@@ -259,7 +259,7 @@ enum Dialect {
         return false;
     }
 
-    /** Ends the connections of this label, but those that are kept, and waits until they are gone. */
+    /** Ends the connections of this label except those that are kept. Waits until they are gone. */
     void endOthers(Connection connection, String label, long own, Set<Long> kept) throws SQLException, Fault.Lost {
         long until = System.nanoTime() + 20_000_000_000L;
         while (true) {

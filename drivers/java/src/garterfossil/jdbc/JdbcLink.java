@@ -28,7 +28,7 @@ final class JdbcLink implements Link {
     private final XAConnection xa;
     final Connection connection;
     private final Deque<Undo> undos = new ArrayDeque<>();
-    // Those that are open on it, each with the handle that made it; under the monitor of this object.
+    // Those that are open on it, each with the handle that made it. Under the monitor of this.
     private final Map<Statement, Object> statements = new IdentityHashMap<>();
     private final JdbcXaResource resource;
     private final long number;

@@ -29,7 +29,7 @@ import javax.jms.TransactionInProgressException;
  */
 final class SessionHandle {
     private static final Gate.Work NOTHING = () -> { };
-    /** What sessions, and what they make, may be: by JMS 1.1, and by the older ones of queues and topics. */
+    /** The interfaces of sessions and of what they make: JMS 1.1's, and older ones of queues and topics. */
     private static final List<Class<?>> FACES = List.of(Session.class, QueueSession.class, TopicSession.class, MessageConsumer.class,
         QueueReceiver.class, TopicSubscriber.class, MessageProducer.class, QueueSender.class, TopicPublisher.class, QueueBrowser.class);
 
