@@ -89,6 +89,8 @@ class Coordinator:
         self._unwritten: List[Reply] = []
         self._under_way: Deque[List[Reply]] = collections.deque()
         self._asked = 0
+        # Whether one of the first is to be written as soon as no reply is waited for.
+        self._is_due = False
         # Whether a thread reads; and what wakes those that wait, by what they wait for. Both under the lock `_reading`.
         self._is_read = False
         self._asleep: List[Tuple[Reply, threading.Lock]] = []
@@ -149,20 +151,23 @@ class Coordinator:
         """The reply to a move of a thread, or of a recovery. Raises NotNow or CoordinatorGone."""
         return self.wait(self.post(move, thread, is_asked=True))
 
-    def post(self, move: str, thread: Optional[int] = None, is_asked: bool = False) -> Reply:
-        """Puts a move on its way: at once, unless a reply is waited for."""
+    def post(self, move: str, thread: Optional[int] = None, is_asked: bool = False, is_later: bool = False) -> Reply:
+        """Puts a move on its way: at once, unless a reply is waited for; or on the line of the next one, if it is for later."""
         reply = Reply(move, thread, is_asked)
         with self._posting:
             if self._fault is not None:
                 raise self._gone(self._fault)
             self._unwritten.append(reply)
-            if not self._asked:
-                self._write()
+            if not is_later:
+                self._write_soon()
         return reply
 
     def wait(self, reply: Reply) -> str:
         """The reply to a move that was posted. Raises NotNow or CoordinatorGone."""
         if reply.words is None:
+            with self._posting:
+                if reply in self._unwritten:
+                    self._write_soon()
             self._read_until(reply)
         words = reply.words or ""
         if words == "error not now" and reply.move.startswith("start "):
@@ -191,9 +196,16 @@ class Coordinator:
 
     # ** lines
 
+    def _write_soon(self) -> None:
+        """Writes what is unwritten, now or once no reply is waited for. Called with the lock `_posting`."""
+        self._is_due = True
+        if not self._asked:
+            self._write()
+
     def _write(self) -> None:
         """Writes what is unwritten, by as few lines as may be: a thread moves once on a line. A line is written whole, or the session is
         over. Called with the lock `_posting`."""
+        self._is_due = False
         replies, self._unwritten = self._unwritten, []
         lines: List[List[Reply]] = []
         length = 0
@@ -273,7 +285,7 @@ class Coordinator:
             for line in self._read_lines():
                 self._take(line)
             with self._posting:
-                if self._unwritten and not self._asked:
+                if self._is_due and not self._asked:
                     self._write()
         finally:
             self._reading.acquire()

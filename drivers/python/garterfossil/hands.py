@@ -24,6 +24,7 @@ from .xid import Xid
 
 if TYPE_CHECKING:
     from .session import Session
+    from .threads import Thread
 
 log = logging.getLogger("garterfossil")
 
@@ -179,7 +180,7 @@ def make_all(verb: str, parts: Sequence[Part]) -> List[Optional[Code]]:
 class Hands:
     """Those of one transaction: they join its branches, and bring it to its end."""
 
-    def __init__(self, session: Session, thread: int, gtrid: str):
+    def __init__(self, session: Session, thread: Thread, gtrid: str):
         self.parts: Dict[int, Part] = {}
         #: What is told if the coordinator ends now; None if the next session knows it.
         self.fate: Optional[Outcome] = Outcome.ROLLED_BACK
@@ -209,9 +210,9 @@ class Hands:
             self._joined.update(new)
             self._move("join", *map(str, new))
 
-    def _move(self, verb: str, *words: str, is_asked: bool = False) -> None:
-        move = " ".join([verb, str(self._thread), *words])
-        self._reply = self._session.coordinator.post(move, self._thread, is_asked)
+    def _move(self, verb: str, *words: str, is_asked: bool = False, is_later: bool = False) -> None:
+        number = self._thread.number
+        self._reply = self._session.coordinator.post(" ".join([verb, str(number), *words]), number, is_asked, is_later)
 
     def _do(self, first: Callable[[], None]) -> Told:
         """Does what the coordinator tells until it tells the outcome. Whatever comes in between,
@@ -220,6 +221,7 @@ class Hands:
             self._say_joined()
             first()
             told = self._finish()
+            assert self._reply is not None
             self._session.note_told(self._gtrid, self._thread, self._reply, told, self.parts)
         except CoordinatorGone as gone:
             if self.fate is not Outcome.COMMITTED:
@@ -249,10 +251,10 @@ class Hands:
                 self.fate = told.outcome
                 return told
             answers = self._make(verb, parts)
-            # Nothing else can be told after these, and so nobody waits for it.
+            # Nothing else can be told after these. So nobody waits for it, and it goes with what is said next.
             is_over = verb in ("commit", "commit-at-once") and all(code is Code.OK for code in answers)
             said = ["lost" if code is None else str(int(code)) for code in answers]
-            self._move("tell", *said, is_asked=not is_over)
+            self._move("tell", *said, is_asked=not is_over, is_later=is_over)
             if is_over:
                 return Told(Outcome.COMMITTED)
 

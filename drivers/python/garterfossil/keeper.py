@@ -33,8 +33,8 @@ class Keeper:
         # By database, the thread that recovers it, and since when.
         self._working: Dict[int, Tuple[threading.Thread, float]] = {}
         self._is_over = False
-        # When a transaction last left a row in the log, and whether a thread waits until the session is idle after it.
-        self._row = 0.0
+        # When a transaction was last committed, and whether a thread waits until the session is idle after it.
+        self._committed = 0.0
         self._is_idle_awaited = False
         # Ends the pauses.
         self._stop = threading.Event()
@@ -73,18 +73,19 @@ class Keeper:
                 del self._working[rm.number]
             return rm.is_recovery_due
 
-    def note_row(self) -> None:
-        """A transaction has left a row in the log, and its branches are told. Others that follow soon let it leave the log; else an idle
-        session does."""
-        with self._lock:
-            self._row = time.monotonic()
-            if not self._is_idle_awaited and not self._is_over:
-                self._is_idle_awaited = _started("idle", self._ask_when_idle) is not None
+    def note_commit(self) -> None:
+        """A transaction is committed. That its branches are is told with what follows soon, by which its row leaves the log; else an idle
+        session tells it."""
+        self._committed = time.monotonic()
+        if not self._is_idle_awaited:
+            with self._lock:
+                if not self._is_idle_awaited and not self._is_over:
+                    self._is_idle_awaited = _started("idle", self._ask_when_idle) is not None
 
     def _ask_when_idle(self) -> None:
         while True:
             with self._lock:
-                left = self._row + IDLE - time.monotonic()
+                left = self._committed + IDLE - time.monotonic()
                 self._is_idle_awaited = left > 0
             if left <= 0:
                 break

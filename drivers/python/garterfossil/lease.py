@@ -17,6 +17,7 @@ if TYPE_CHECKING:
     from .block import Block
     from .manager import TransactionManager
     from .session import Session
+    from .threads import Thread
     from .transaction import Transaction
 
 log = logging.getLogger("garterfossil")
@@ -25,7 +26,7 @@ log = logging.getLogger("garterfossil")
 class Lease:
     """What a block has from its beginning to its end. Whoever is first ends it: the block, as it is left, or else the reaper."""
 
-    def __init__(self, manager: TransactionManager, session: Session, thread: int, transaction: Transaction):
+    def __init__(self, manager: TransactionManager, session: Session, thread: Thread, transaction: Transaction):
         self.transaction = transaction
         self._manager = manager
         self._session = session

@@ -25,6 +25,7 @@ from .logs import free_log, is_new_log, see_place
 from .metrics import in_json, in_prometheus, of_counts, shown
 from .outcomes import Outcome, Outcomes
 from .session import Session, Settings
+from .threads import Thread
 from .transaction import Transaction
 
 if TYPE_CHECKING:
@@ -341,7 +342,7 @@ class TransactionManager:
         if entry is not None and entry.is_mine and not is_independent:
             raise NestedTransaction("this thread or task has a transaction already: independent=True is for one that commits by itself")
 
-    def begin(self, is_given_up: Callable[[], bool] = lambda: False) -> Tuple[Session, int, str]:
+    def begin(self, is_given_up: Callable[[], bool] = lambda: False) -> Tuple[Session, Thread, str]:
         """A transaction that has begun, in the session that is up, or else in the next one: with its thread and its name. No thread is
         waited for any more once it is given up."""
         until = time.monotonic() + self._settings.patience

@@ -4,7 +4,6 @@ from __future__ import annotations
 
 import functools
 import logging
-import re
 import threading
 import time
 from dataclasses import dataclass
@@ -25,13 +24,10 @@ from .mirror import Mirror
 from .outcomes import Outcome, Outcomes
 from .recovery import attempt, see_not_later
 from .resource_manager import GLANCE, ResourceManager
-from .threads import Threads
+from .threads import Thread, Threads
 from .xid import Xid
 
 log = logging.getLogger("garterfossil")
-
-#: How a reply ends that tells a thread's next transaction.
-NEXT = re.compile(r" next ([0-9a-f]{32})\Z")
 
 
 @dataclass(frozen=True)
@@ -65,7 +61,7 @@ class Settings:
 
     def words(self, names: Names) -> Sequence[str]:
         """The words that start the coordinator."""
-        return self.command or serve_command(self.program, self.log, names, self.threads, len(self.databases))
+        return self.command or serve_command(self.program, self.log, names, 2 * self.threads, len(self.databases))
 
 
 class Session:
@@ -75,9 +71,6 @@ class Session:
         self.patience = settings.patience
         self.databases = settings.databases
         self.outcomes = outcomes
-        # The first of the coordinator's threads is its own.
-        threads = min(settings.threads, MOST_THREADS - 1)
-        self.threads = Threads(threads)
         # The branches whose ends are owed to databases.
         self._owed: Set[Xid] = set()
         self._lock = threading.Lock()
@@ -99,10 +92,10 @@ class Session:
         ]
         kept = self._look(settings, kept, is_new, is_first)
         self.coordinator = Coordinator.start(settings.words(self.names), settings.patience, settings.log)
-        # By thread: its lines, the reply that tells its next transaction, and the one that is open.
-        self._lines = [[Line(rm) for rm in self._rms] for _ in range(threads + 1)]
-        self._next: List[Optional[Reply]] = [None] * (threads + 1)
-        self._live: List[Optional[str]] = [None] * (threads + 1)
+        # The first of the coordinator's threads is its own. Of the others each of these has two, as far as there are so many.
+        count = min(settings.threads, MOST_THREADS - 1)
+        numbers = [range(number, min(2 * count + 1, MOST_THREADS), count) for number in range(1, count + 1)]
+        self.threads = Threads([Thread(some, [Line(rm) for rm in self._rms]) for some in numbers])
         self.keeper = Keeper(self)
         self._begin(kept, is_first)
 
@@ -175,43 +168,28 @@ class Session:
             if isinstance(error, CoordinatorGone) or isinstance(error, SetupError) and (is_first or self.coordinator.is_gone):
                 raise error
 
-    def lines_to(self, rm: ResourceManager) -> List[Line]:
-        """The lines of all threads to a resource manager."""
-        return [lines[rm.number] for lines in self._lines]
-
     # ** transactions
 
-    def begin(self, until: float, is_given_up: Callable[[], bool]) -> Tuple[int, str]:
-        """A transaction begins: on which of the coordinator's threads, and its name. A thread is waited for until this moment, or until
+    def begin(self, until: float, is_given_up: Callable[[], bool]) -> Tuple[Thread, str]:
+        """A transaction begins: its thread, and its name. A thread is waited for until this moment, or until
         nobody wants it any more. Raises Overdue; NotNow while the log is new and a database wasn't looked at; or CoordinatorGone."""
         self.see_to_recoveries()
         thread = self.threads.take(until, is_given_up)
         try:
-            for line in self._lines[thread]:
-                line.see_there()
-            self.coordinator.see_up()
-            reply = self._next[thread] or self.coordinator.post(f"start {thread}", thread, is_asked=True)
-            words = self.coordinator.wait(reply)
-            found = NEXT.search(words)
-            if found is None:
-                raise self.coordinator.not_understood(words, reply.move)
-            self._next[thread], self._live[thread] = None, found.group(1)
-            return thread, found.group(1)
+            return thread, thread.begin(self.coordinator)
         except BaseException:
             self.let_go(thread)
             raise
 
-    def part(self, thread: int, gtrid: str, number: int) -> Tuple[Line, Xid]:
+    def part(self, thread: Thread, gtrid: str, number: int) -> Tuple[Line, Xid]:
         """The line of a thread to a database, and the branch that a transaction has there."""
-        return self._lines[thread][number], Xid.of(self.names.manager, gtrid, thread, number)
+        return thread.lines[number], Xid.of(self.names.manager, gtrid, thread.number, number)
 
-    def let_go(self, thread: int) -> None:
+    def let_go(self, thread: Thread) -> None:
         """The transaction of a thread is over, or none was begun: another one may have it."""
         try:
-            for line in self._lines[thread]:
-                line.let_go(self.coordinator.is_gone)
+            thread.let_go(self.coordinator.is_gone)
         finally:
-            self._live[thread] = None
             self.threads.give_back(thread)
             # What it has left is ended, also if no other one begins.
             self.see_to_recoveries(0)
@@ -224,7 +202,7 @@ class Session:
 
     def live(self) -> Set[str]:
         """The transactions that are open."""
-        return {gtrid for gtrid in self._live if gtrid is not None}
+        return {thread.gtrid for thread in self.threads.all_of_them if thread.gtrid is not None}
 
     def note_decision(self, gtrid: str, xids: Sequence[Xid]) -> None:
         """It is decided that a transaction commits, and no database has heard of it. Raises CoordinatorGone if the mirror can't be told."""
@@ -238,19 +216,19 @@ class Session:
             self.coordinator.kill()
             raise
 
-    def note_told(self, gtrid: str, thread: int, reply: Optional[Reply], told: Told, parts: Mapping[int, Part]) -> None:
+    def note_told(self, gtrid: str, thread: Thread, reply: Reply, told: Told, parts: Mapping[int, Part]) -> None:
         """A transaction ended so; the reply tells the thread's next one."""
-        self._next[thread] = reply
-        with self._lock:
-            self._owed.update(parts[rm].xid for rm in told.owed)
+        thread.end(reply)
         owing = [self._rms[rm] for rm in told.owed]
-        for rm in owing:
-            rm.is_recovery_due = True
+        if owing:
+            with self._lock:
+                self._owed.update(parts[rm].xid for rm in told.owed)
+            for rm in owing:
+                rm.is_recovery_due = True
         if told.outcome is Outcome.COMMITTED:
             if self.mirror is not None and not owing:
                 self.mirror.over(gtrid)
-            if len(parts) > 1:
-                self.keeper.note_row()
+            self.keeper.note_commit()
         # Mostly a connection alone was lost, and the branch is ended at once.
         for patience in (0, GLANCE):
             for rm in owing:
@@ -303,8 +281,8 @@ class Session:
                 if self.mirror is not None:
                     self.mirror.finish()
                 self.coordinator.quit()
-                for lines in self._lines:
-                    for line in lines:
+                for thread in self.threads.all_of_them:
+                    for line in thread.lines:
                         line.close()
         except Overdue as error:
             self.coordinator.quit()

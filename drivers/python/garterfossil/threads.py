@@ -1,52 +1,97 @@
-"""The coordinator's threads of control, lent out."""
+"""The threads of control of a session, lent out."""
 
 from __future__ import annotations
 
+import collections
 import contextlib
+import re
 import threading
 import time
-from typing import Callable, Iterator, List
+from typing import Callable, Deque, Dict, Iterator, List, Optional, Sequence
 
+from .coordinator import Coordinator, Reply
 from .errors import Overdue
+from .line import Line
 
 #: Whoever waits looks after so many seconds whether he is still waited for.
 GLANCE = 0.2
+#: How a reply ends that tells a number's next transaction.
+NEXT = re.compile(r" next ([0-9a-f]{32})\Z")
+
+
+class Thread:
+    """A thread of control: it has one transaction at a time, and lines to the databases. Which thread of Python has it doesn't matter.
+
+    To the coordinator it is several threads, which it takes by turns: so what it has done with the last one needn't be told before the
+    next one goes on, and the name of its next transaction is known mostly before it is asked for."""
+
+    def __init__(self, numbers: Sequence[int], lines: List[Line]):
+        self.lines = lines
+        #: The transaction that is open.
+        self.gtrid: Optional[str] = None
+        # By which numbers the coordinator knows it, the next one first; and the replies that tell the next transactions of these.
+        self._numbers: Deque[int] = collections.deque(numbers)
+        self._next: Dict[int, Reply] = {}
+
+    @property
+    def number(self) -> int:
+        """The number with which it moves."""
+        return self._numbers[0]
+
+    def begin(self, coordinator: Coordinator) -> str:
+        """A transaction begins: its name. Raises NotNow or CoordinatorGone."""
+        for line in self.lines:
+            line.see_there()
+        coordinator.see_up()
+        number = self.number
+        reply = self._next.pop(number, None) or coordinator.post(f"start {number}", number, is_asked=True)
+        words = coordinator.wait(reply)
+        found = NEXT.search(words)
+        if found is None:
+            raise coordinator.not_understood(words, reply.move)
+        self.gtrid = found.group(1)
+        return self.gtrid
+
+    def end(self, reply: Reply) -> None:
+        """Its transaction has ended; this reply tells the number's next one."""
+        self._next[self.number] = reply
+        self._numbers.rotate()
+
+    def let_go(self, is_last: bool) -> None:
+        """Nobody has it any more: in a session that is over for the last time."""
+        self.gtrid = None
+        for line in self.lines:
+            line.let_go(is_last)
 
 
 class Threads:
-    """The coordinator's threads, from 1 on: each is lent to one transaction at a time, or all of
-    them to who ends the session. Which thread of Python has one doesn't matter."""
+    """The threads of a session: each is lent to one transaction at a time, or all of them to who ends the session."""
 
-    def __init__(self, count: int):
-        self._count = count
-        self._free: List[int] = list(range(count, 0, -1))
+    def __init__(self, all_of_them: Sequence[Thread]):
+        self.all_of_them = all_of_them
+        self._free = list(reversed(all_of_them))
         self._change = threading.Condition()
         self._whole_is_wanted = False
-        # How many wait for a thread.
-        self._takers = 0
+        #: How many wait for one.
+        self.waiting = 0
 
-    def take(self, until: float, is_given_up: Callable[[], bool] = lambda: False) -> int:
+    def take(self, until: float, is_given_up: Callable[[], bool] = lambda: False) -> Thread:
         """A thread that is free. Waits for one until this moment of the monotonic clock, or until
         nobody wants it any more, and then raises Overdue."""
         with self._change:
-            self._takers += 1
+            self.waiting += 1
             try:
                 while not self._change.wait_for(self._has_one, min(GLANCE, until - time.monotonic())):
                     if is_given_up() or time.monotonic() >= until:
                         raise Overdue("all threads of the coordinator are in use")
             finally:
-                self._takers -= 1
+                self.waiting -= 1
             return self._free.pop()
 
     def _has_one(self) -> bool:
         return bool(self._free) and not self._whole_is_wanted
 
-    @property
-    def waiting(self) -> int:
-        """How many wait for one."""
-        return self._takers
-
-    def give_back(self, thread: int) -> None:
+    def give_back(self, thread: Thread) -> None:
         """The thread is free again."""
         with self._change:
             self._free.append(thread)
@@ -60,7 +105,7 @@ class Threads:
             self._wait(lambda: not self._whole_is_wanted, until)
             self._whole_is_wanted = True
             try:
-                self._wait(lambda: len(self._free) == self._count, until)
+                self._wait(lambda: len(self._free) == len(self.all_of_them), until)
             except BaseException:
                 self._let_go()
                 raise

@@ -30,6 +30,7 @@ from .recovery import stop
 
 if TYPE_CHECKING:
     from .session import Session
+    from .threads import Thread
 
 log = logging.getLogger("garterfossil")
 
@@ -45,7 +46,7 @@ class Transaction:
     In a `with` block the transaction is committed at the end, and rolled back if an exception leaves the block."""
 
     def __init__(
-        self, session: Session, thread: int, gtrid: str, options: Options = Options(), timeout: Optional[float] = None
+        self, session: Session, thread: Thread, gtrid: str, options: Options = Options(), timeout: Optional[float] = None
     ):
         #: Its name: 32 hexadecimal digits.
         self.gtrid = gtrid

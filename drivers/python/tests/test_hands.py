@@ -6,6 +6,7 @@ import threading
 import time
 import unittest
 from concurrent.futures import ThreadPoolExecutor
+from unittest import mock
 
 from garterfossil import CoordinatorGone, HeuristicEnd, Outcome, OutcomeUnknown, RolledBack, SetupError, TransactionManager, XaError, Xid
 from garterfossil import recovery
@@ -63,14 +64,16 @@ class Calls(Case):
 
     def test_a_next_transaction_that_has_no_name_ends_the_session(self):
         with self.manager(threads=1) as xa:
-            self.move(xa)
             for wrong in ("committed", "committed next x", "committed next 1 "):
+                # The thread has two numbers: the third transaction is the next one of the first.
+                self.move(xa)
+                self.move(xa)
                 session = xa._session
                 self.says_in_place_of_a_reply(xa, "tell", wrong, is_asked=False)
                 self.move(xa)
                 self.assertTrue(session.coordinator.is_gone)
-                self.assertIn(f"it replied {wrong!r} to 'tell 1 0 0'", session.coordinator._fault)
-        self.assertEqual([len(one) for one in self.written()], [4, 4])
+                self.assertRegex(session.coordinator._fault, f"it replied {wrong!r} to 'tell [12] 0 0'")
+        self.assertEqual([len(one) for one in self.written()], [9, 9])
 
     def test_a_recovery_that_is_told_no_call_ends_the_session(self):
         for wrong in ("", "xa_commit", "xa_commit 7:0", "strange", "perhaps"):
@@ -104,19 +107,46 @@ class Calls(Case):
 
         coordinator.wait = waits
 
-    def test_behind_the_work_the_coordinator_is_waited_for_once(self):
+    def test_the_coordinator_is_waited_for_once_in_a_transfer(self):
         asked = []
         with self.manager() as xa:
             self.move(xa)
+            self.move(xa)
             post = xa._session.coordinator.post
 
-            def posts(move, thread=None, is_asked=False):
+            def posts(move, thread=None, is_asked=False, is_later=False):
                 asked.append((move.split(" ")[0], is_asked))
-                return post(move, thread, is_asked)
+                return post(move, thread, is_asked, is_later)
 
             xa._session.coordinator.post = posts
             self.move(xa)
         self.assertEqual(asked[:3], [("join", False), ("tell", True), ("tell", False)])
+
+    def test_a_transfer_takes_two_lines_since_its_thread_has_two_numbers(self):
+        with self.manager(threads=1) as xa:
+            for _ in range(5):
+                self.move(xa)
+        lines = [line for line in self.in_the_log()["lines"] if line.split(" ")[0] in ("start", "join", "tell")]
+        first = ["start 1", "join 1 0 1", "tell 1 0 0", "tell 1 0 0;start 2", "join 2 0 1", "tell 2 0 0"]
+        again = ["tell 2 0 0;join 1 0 1", "tell 1 0 0", "tell 1 0 0;join 2 0 1", "tell 2 0 0"]
+        self.assertEqual(lines, [*first, *again, *again[:2], "tell 1 0 0"])
+
+    def test_what_is_told_with_the_next_line_is_told_by_an_idle_session_and_by_its_end(self):
+        with self.manager() as xa:
+            self.move(xa)
+            self.assertEqual(self.requests("tell"), ["tell 1 0 0"])
+            wait_for(lambda: len(self.requests("tell")) == 2)
+            wait_for(lambda: self.in_the_log()["rows"] == {})
+            with xa.transaction() as t:
+                t[0].execute("take")
+        self.assertEqual(self.requests("tell")[2:], ["tell 3 0"])
+
+    def test_threads_of_which_the_coordinator_has_no_second_number(self):
+        with mock.patch("garterfossil.session.MOST_THREADS", 3), self.manager(threads=2) as xa:
+            for _ in range(3):
+                self.move(xa)
+        self.assertEqual(self.requests("start", "join"), ["start 1", *(3 * ["join 1 0 1"])])
+        self.assertEqual(self.requests("tell"), 6 * ["tell 1 0 0"])
 
     def test_a_database_that_is_away_behind_the_decision_is_waited_for_by_nobody(self):
         with self.manager(patience=30.0) as xa:
