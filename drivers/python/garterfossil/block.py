@@ -1,21 +1,30 @@
-"""The block of a transaction: it begins a transaction, and ends it however it is left."""
+"""The block of a transaction: it begins a transaction, and ends it however it is left. If nobody is there any more who would leave it,
+the transaction is ended all the same."""
 
 from __future__ import annotations
 
+import _thread
 import functools
+import logging
 import os
+import queue
 import threading
-from typing import TYPE_CHECKING, Optional
+import weakref
+from typing import TYPE_CHECKING, Callable, Dict, Optional, Union
 
-from . import current, lease
+from . import current
 from .adapters.base import Options
 from .aside import aside
 from .errors import TransactionOver, XaError
-from .lease import Lease
+from .outcomes import Outcome
+from .session import Session
+from .threads import Thread
 from .transaction import Transaction
 
 if TYPE_CHECKING:
     from .manager import TransactionManager
+
+log = logging.getLogger("garterfossil")
 
 
 class Block:
@@ -54,9 +63,9 @@ class Block:
         transaction = Transaction(session, thread, gtrid, self._options, self._timeout)
         self._lease = Lease(self._manager, session, thread, transaction)
         # From now on it is ended, whatever becomes of the block.
-        lease.REAPER.know(self, self._lease)
+        REAPER.know(self, self._lease)
         if self._is_given_up:
-            lease.REAPER.give_up(self._lease)
+            REAPER.give_up(self._lease)
 
     def __exit__(self, _: object, error: Optional[BaseException], __: object) -> None:
         try:
@@ -96,4 +105,116 @@ class Block:
         """Whatever has interrupted it, the lease is ended, if that isn't under way, and that is noted."""
         self._is_given_up = True
         if self._lease is not None and not self._lease.is_noted and os.getpid() == self._process:
-            lease.REAPER.give_up(self._lease)
+            REAPER.give_up(self._lease)
+
+
+class Lease:
+    """What a block has from its beginning to its end. Whoever is first ends it: the block, as it is left, or else the reaper."""
+
+    def __init__(self, manager: TransactionManager, session: Session, thread: Thread, transaction: Transaction):
+        self.transaction = transaction
+        self._manager = manager
+        self._session = session
+        self._thread = thread
+        # Each is taken once, by who ends it and by who notes that.
+        self._once, self._noted = threading.Lock(), threading.Lock()
+        self._is_given_up = False
+        #: By what it is known to the reaper.
+        self.key: Optional[weakref.ref[Block]] = None
+
+    def end(self, step: Callable[[], None]) -> None:
+        """Ends the transaction by a step, or else by a rollback, and gives the thread back."""
+        if not self._once.acquire(blocking=False):
+            return
+        transaction = self.transaction
+        try:
+            step()
+        finally:
+            try:
+                if transaction.outcome is Outcome.OPEN:
+                    transaction.roll_back()
+            finally:
+                REAPER.forget(self)
+                try:
+                    self._session.let_go(self._thread)
+                finally:
+                    self._manager.count_end(transaction)
+                    transaction.is_let_go = True
+                    if self._is_given_up:
+                        self.note()
+
+    @property
+    def is_noted(self) -> bool:
+        """Whether the program's function was called for its end."""
+        return self._noted.locked()
+
+    def note(self) -> None:
+        """Has the program's function called for its end, once it is over."""
+        if self.transaction.is_let_go and self._noted.acquire(blocking=False):
+            self._manager.note_end(self.transaction)
+
+    def give_up(self) -> None:
+        """Nobody leaves the block any more: it is rolled back, unless somebody ends it already."""
+        self._is_given_up = True
+        try:
+            if not self._once.locked():
+                log.warning("the block of %s was never left, and is rolled back", self.transaction.gtrid)
+            self.end(lambda: None)
+            self.note()
+        except XaError as error:
+            log.warning("%s, which was given up: %s", self.transaction.gtrid, error)
+
+
+class Reaper:
+    """Ends what nobody ends: the transactions of blocks that are gone without having been left, as after an exception of a signal handler
+    in the middle of that, or a generator that nobody goes on with."""
+
+    def __init__(self) -> None:
+        # The references to blocks that are gone, and leases that are given up. It takes each in one step, which nothing interrupts.
+        self._gone: queue.SimpleQueue[Union[weakref.ref[Block], Lease]] = queue.SimpleQueue()
+        self._leases: Dict[weakref.ref[Block], Lease] = {}
+        self._lock = threading.Lock()
+        self._is_at_work = False
+
+    def know(self, block: Block, lease: Lease) -> None:
+        """A block has a lease."""
+        with self._lock:
+            if not self._is_at_work:
+                self._is_at_work = True
+                _thread.start_new_thread(self._work, ())
+            lease.key = weakref.ref(block, self._gone.put)
+            self._leases[lease.key] = lease
+
+    def forget(self, lease: Lease) -> None:
+        """The lease is over."""
+        with self._lock:
+            if lease.key is not None:
+                self._leases.pop(lease.key, None)
+
+    def give_up(self, lease: Lease) -> None:
+        """The lease is to be ended, unless that is under way."""
+        self._gone.put(lease)
+
+    def _work(self) -> None:
+        threading.current_thread().name = "garterfossil reaper"
+        while True:
+            gone = self._gone.get()
+            lease: Optional[Lease]
+            with self._lock:
+                lease = gone if isinstance(gone, Lease) else self._leases.get(gone)
+            if lease is not None:
+                # A database that doesn't answer holds up this one alone.
+                _thread.start_new_thread(lease.give_up, ())
+            del gone, lease
+
+
+REAPER = Reaper()
+
+
+def _after_fork() -> None:
+    """Its thread is the parent's, and so are the transactions."""
+    global REAPER
+    REAPER = Reaper()
+
+
+os.register_at_fork(after_in_child=_after_fork)

@@ -13,7 +13,7 @@ from .errors import ConnectionLost, EndRefused, HeuristicEnd, TimedOut, Transact
 from .xid import Xid
 
 if TYPE_CHECKING:
-    from .line import Line
+    from .threads import Line
 
 #: What a connection of a module has that ends a transaction, begins one, or goes round what looks at statements.
 REFUSED = frozenset(

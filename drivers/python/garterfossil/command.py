@@ -9,7 +9,6 @@ import sys
 from typing import Any, Callable, Dict, Iterator, List, Mapping, Optional, Sequence, Tuple
 
 from . import __version__
-from .calls import Call
 from .codes import Code
 from .configuration import Configuration
 from .coordinator import Coordinator, serve_command
@@ -18,7 +17,7 @@ from .errors import LogInUse, SetupError, XaError
 from .failover import fail_over
 from .logs import Log, Names, logs_of_workers
 from .metrics import Metric, in_json, in_prometheus
-from .xid import Xid
+from .xid import Call, Xid
 
 #: So many branches of another manager are shown.
 MOST_SHOWN = 20

@@ -3,17 +3,17 @@
 from __future__ import annotations
 
 import collections
+import contextlib
 import logging
 import os
 import re
-import select
 import socket
 import struct
 import subprocess
 import threading
 import time
 import weakref
-from typing import Deque, List, Optional, Sequence, Tuple
+from typing import Deque, Iterator, List, Optional, Sequence, Tuple
 
 from .errors import CoordinatorGone, LogInUse, NotNow, SetupError
 from .logs import MOMENT, REFUSED, Names, is_disk_full
@@ -74,16 +74,10 @@ class Coordinator:
         self._path = path
         # No reply is waited for longer: the greeting may take longer than others, as with a log that holds much.
         self._patience = max(patience, SHORTEST)
-        self._process, self._replies = _started(command)
-        stdin, stderr = self._process.stdin, self._process.stderr
-        assert stdin is not None and stderr is not None
-        self._moves, self._errors = stdin, stderr
-        # While it is stopped it reads nothing, and a pipe that is full would hold up whoever writes.
-        os.set_blocking(stdin.fileno(), False)
-        self._writable = select.poll()
-        self._writable.register(stdin, select.POLLOUT)
+        self._process, self._socket = _started(command)
+        assert self._process.stderr is not None
+        self._errors = self._process.stderr
         self._posting = threading.Lock()
-        self._reading = threading.Lock()
         # Moves that are yet to be written, lines whose replies are yet to come, and how many of these somebody waits for: under the lock
         # `_posting`. They are kept here and in no buffer of a file, which a process that is forked off would write once more at its end.
         self._unwritten: List[Reply] = []
@@ -91,9 +85,9 @@ class Coordinator:
         self._asked = 0
         # Whether one of the first is to be written as soon as no reply is waited for.
         self._is_due = False
-        # Whether a thread reads; and what wakes those that wait, by what they wait for. Both under the lock `_reading`.
+        # What is told after each reading, and at the end; and whether a thread reads.
+        self._reading = threading.Condition()
         self._is_read = False
-        self._asleep: List[Tuple[Reply, threading.Lock]] = []
         # The beginning of a line whose end has yet to come.
         self._begun = b""
         self._ending = threading.Lock()
@@ -223,18 +217,17 @@ class Coordinator:
         if log.isEnabledFor(logging.DEBUG):
             for text in texts:
                 log.debug("> %s", text)
-        self._write_whole("".join(f"{text}\n" for text in texts).encode("ascii"))
+        with self._whole():
+            # While it is stopped it reads nothing, and what is full of moves takes none.
+            self._socket.sendall("".join(f"{text}\n" for text in texts).encode("ascii"))
 
-    def _write_whole(self, text: bytes) -> None:
-        some = memoryview(text)
+    @contextlib.contextmanager
+    def _whole(self) -> Iterator[None]:
+        """A block that writes or reads: if it fails, or is interrupted, the session is over."""
         try:
-            while some:
-                written = self._moves.write(some)
-                if written is None:
-                    if not self._writable.poll(1000 * self._patience):
-                        raise self._silent()
-                else:
-                    some = some[written:]
+            yield
+        except BlockingIOError:
+            raise self._silent() from None
         except (OSError, ValueError) as error:
             raise self._gone(str(error)) from None
         except BaseException:
@@ -244,37 +237,14 @@ class Coordinator:
     def _read_until(self, reply: Reply) -> None:
         """Waits for a reply: reads, or lets another thread read, which wakes this one."""
         with self._reading:
-            try:
-                while reply.words is None:
-                    if self._fault is not None:
-                        break
-                    if self._is_read:
-                        self._sleep_until(reply)
-                    else:
-                        self._read()
-            finally:
-                if self._asleep and not self._is_read:
-                    # Somebody has to read on.
-                    self._asleep.pop()[1].release()
+            while reply.words is None and self._fault is None:
+                if not self._is_read:
+                    self._read()
+                # Who reads ends with a reply, or with the session.
+                elif not self._reading.wait(2 * self._patience + LONGEST_END):
+                    self._silent()
         if reply.words is None:
             raise self._gone(self._fault or "")
-
-    def _sleep_until(self, reply: Reply) -> None:
-        """Sleeps until another thread wakes this one. Called with the lock `_reading`, which is free meanwhile."""
-        mine = reply, threading.Lock()
-        mine[1].acquire()
-        try:
-            self._asleep.append(mine)
-            self._reading.release()
-            try:
-                # Who reads ends with a reply, or with the session.
-                if not mine[1].acquire(timeout=2 * self._patience + LONGEST_END):
-                    self._silent()
-            finally:
-                self._reading.acquire()
-        finally:
-            if mine in self._asleep:
-                self._asleep.remove(mine)
 
     def _read(self) -> None:
         """Reads what has come: the replies to the lines that were written first. Called with the lock `_reading`, which is free while it
@@ -290,7 +260,7 @@ class Coordinator:
         finally:
             self._reading.acquire()
             self._is_read = False
-        self._wake([mine for mine in self._asleep if mine[0].words is not None])
+            self._reading.notify_all()
 
     def _take(self, line: str) -> None:
         """Takes the reply to the line that was written first."""
@@ -310,11 +280,6 @@ class Coordinator:
             raise self._killed(f"it replied {line!r} to {len(replies)} moves")
         for reply, said in zip(replies, words):
             reply.words = said
-
-    def _wake(self, some: List[Tuple[Reply, threading.Lock]]) -> None:
-        for mine in some:
-            self._asleep.remove(mine)
-            mine[1].release()
 
     def _greet(self) -> str:
         """The greeting. Nothing comes after it, since nothing was asked for."""
@@ -341,21 +306,16 @@ class Coordinator:
             raise self.not_understood(words, "due")
 
     def _wait_for(self, seconds: float) -> None:
-        """From now on a reply is waited for for so many seconds."""
+        """From now on it is waited for for so many seconds."""
         whole = int(seconds)
-        self._replies.setsockopt(socket.SOL_SOCKET, socket.SO_RCVTIMEO, struct.pack("ll", whole, int(1000000 * (seconds - whole))))
+        for way in (socket.SO_RCVTIMEO, socket.SO_SNDTIMEO):
+            self._socket.setsockopt(socket.SOL_SOCKET, way, struct.pack("ll", whole, int(1000000 * (seconds - whole))))
 
     def _read_lines(self) -> List[str]:
         """The lines of which the ends have come, at once; waits for something to come."""
-        try:
-            some = self._replies.recv(65536)
-        except BlockingIOError:
-            raise self._silent() from None
-        except (OSError, ValueError) as error:
-            raise self._gone(str(error)) from None
-        except BaseException:
-            self.kill()
-            raise
+        some = b""
+        with self._whole(), contextlib.suppress(ConnectionResetError):
+            some = self._socket.recv(65536)
         if not some:
             raise self._gone("its output ended")
         whole, end, self._begun = (self._begun + some).rpartition(b"\n")
@@ -385,17 +345,16 @@ class Coordinator:
             if self._fault is not None:
                 return
             self._fault = reason
-        try:
-            self._moves.close()
-        except OSError:
-            pass
+        # It reads no more, and who reads here goes on to the end.
+        with contextlib.suppress(OSError):
+            self._socket.shutdown(socket.SHUT_WR)
         said = self._errors.read().decode("utf-8", "replace").strip() if self._sees_its_end() else "its process can't be ended"
         self._fault = f"{reason}; {said}" if said else reason
         self._errors.close()
         # Whoever still reads finds its end first.
-        self._replies.close()
+        self._socket.close()
         with self._reading:
-            self._wake(list(self._asleep))
+            self._reading.notify_all()
 
     def _sees_its_end(self) -> bool:
         """Waits for the end of the process, and brings it about. It isn't to be had while its disk hangs."""
@@ -410,23 +369,21 @@ class Coordinator:
     def let_go(self) -> None:
         """In a process that was forked off: the pipes are the parent's, and a child that kept them would keep the coordinator up, and the
         log in use, after the end of the parent."""
-        self._moves.close()
-        self._replies.close()
+        self._socket.close()
         self._errors.close()
 
 
 def _started(command: Sequence[str]) -> Tuple[subprocess.Popen[bytes], socket.socket]:
-    """The process of a command, and what it replies on: of a socket the system itself sees that no reply is waited for too long, by the
-    same call that reads it."""
+    """The process of a command, and what moves and replies go by: of a socket the system itself sees that nothing is waited for too
+    long, by the same call that writes or reads."""
     ours, theirs = socket.socketpair()
-    try:
-        pipe, out = subprocess.PIPE, theirs.fileno()
-        return subprocess.Popen(command, bufsize=0, stdin=pipe, stdout=out, stderr=pipe, start_new_session=True), ours
-    except OSError as error:
-        ours.close()
-        raise SetupError(f"the program {command[0]} can't be run, which program= may give: {error}") from error
-    finally:
-        theirs.close()
+    with theirs:
+        way = theirs.fileno()
+        try:
+            return subprocess.Popen(command, stdin=way, stdout=way, stderr=subprocess.PIPE, start_new_session=True), ours
+        except OSError as error:
+            ours.close()
+            raise SetupError(f"the program {command[0]} can't be run, which program= may give: {error}") from error
 
 
 #: Those that the process has.

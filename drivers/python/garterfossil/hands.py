@@ -13,18 +13,16 @@ from typing import TYPE_CHECKING, Callable, Dict, Iterable, List, Mapping, Named
 from .adapters.base import Connection, Options
 from .aside import side_by_side
 from .branch import Branch
-from .calls import Call
 from .codes import Code
 from .coordinator import Reply
 from .errors import ConnectionLost, CoordinatorGone, OutcomeUnknown, Unanswered, XaError
-from .line import Line
+from .threads import Line, Thread
 from .outcomes import TOLD, Outcome
 from .resource_manager import ResourceManager
-from .xid import Xid
+from .xid import Call, Xid
 
 if TYPE_CHECKING:
     from .session import Session
-    from .threads import Thread
 
 log = logging.getLogger("garterfossil")
 

@@ -8,10 +8,9 @@ import time
 from typing import Dict, List, Optional, Set
 
 from .adapters.base import Connection, Database, Place
-from .calls import Call
 from .errors import ConnectionLost
 from .identities import Identities
-from .xid import Xid
+from .xid import Call, Xid
 
 log = logging.getLogger("garterfossil")
 

@@ -18,13 +18,12 @@ from .errors import ConnectionLost, CoordinatorGone, Overdue, SetupError
 from .hands import Part, Told
 from .identities import Identities
 from .keeper import Keeper
-from .line import Line
 from .logs import Log, Names, is_new_log, log_at_rest, names_for
 from .mirror import Mirror
 from .outcomes import Outcome, Outcomes
 from .recovery import attempt, see_not_later
 from .resource_manager import GLANCE, ResourceManager
-from .threads import Thread, Threads
+from .threads import Line, Thread, Threads
 from .xid import Xid
 
 log = logging.getLogger("garterfossil")

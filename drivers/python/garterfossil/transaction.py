@@ -27,10 +27,10 @@ from .errors import (
 from .hands import Hands, Part, Told
 from .outcomes import Outcome
 from .recovery import stop
+from .threads import Thread
 
 if TYPE_CHECKING:
     from .session import Session
-    from .threads import Thread
 
 log = logging.getLogger("garterfossil")
 

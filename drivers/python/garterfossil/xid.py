@@ -1,9 +1,10 @@
-"""The identifiers of branches (XA's XID)."""
+"""The identifiers of branches (XA's XID), and the calls by which prepared ones are ended."""
 
 from __future__ import annotations
 
 import functools
 from dataclasses import dataclass
+from typing import NamedTuple
 
 #: The format of the coordinator's own identifiers.
 FORMAT = 7
@@ -65,3 +66,18 @@ class Xid:
     def manager(self) -> str:
         """The name of its manager."""
         return self.gtrid[:-16].decode("ascii", "replace")
+
+
+class Call(NamedTuple):
+    """A call of XA on a prepared branch: xa_commit, xa_rollback or xa_forget."""
+
+    name: str
+    xid: Xid
+
+    def __str__(self) -> str:
+        return f"{self.name} {self.xid}"
+
+    @property
+    def verb(self) -> str:
+        """What databases call it in SQL: COMMIT for xa_commit."""
+        return self.name.partition("_")[2].upper()

@@ -165,7 +165,7 @@ class Coordinators(unittest.TestCase):
             os._exit(0)
         try:
             # As if this process were killed.
-            coordinator._moves.close()
+            coordinator._socket.close()
             coordinator._process.wait(timeout=5)
         finally:
             os.close(writer)

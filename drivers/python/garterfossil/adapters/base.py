@@ -12,12 +12,11 @@ from dataclasses import dataclass
 from typing import Any, Callable, Collection, Dict, FrozenSet, Iterable, Iterator, List, Mapping, Optional, Sequence, Set, Tuple, TypeVar
 from typing import Union
 
-from ..calls import Call
 from ..codes import Code
 from ..errors import ConnectionLost, HeuristicEnd, TransactionOver, Unanswered, XaError
 from ..statements import Texts
 from ..watch import Wire
-from ..xid import FORMAT, Xid
+from ..xid import FORMAT, Call, Xid
 
 T = TypeVar("T")
 #: What the modules take for the placeholders of a statement.

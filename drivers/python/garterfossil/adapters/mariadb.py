@@ -9,11 +9,10 @@ import re
 import uuid
 from typing import Any, Callable, Collection, Iterable, List, Optional, Sequence, Tuple, Type
 
-from ..calls import Call
 from ..codes import Code
 from ..errors import ConnectionLost, SetupError, Unanswered
 from ..statements import MARIADB
-from ..xid import Xid
+from ..xid import Call, Xid
 from .base import Connection, Database, Parameters, Place, Result, varied
 
 log = logging.getLogger("garterfossil")

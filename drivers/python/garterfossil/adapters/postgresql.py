@@ -7,11 +7,10 @@ import re
 from dataclasses import dataclass
 from typing import Any, Callable, Collection, Dict, List, Optional
 
-from ..calls import Call
 from ..codes import Code
 from ..errors import ConnectionLost, SetupError, Unanswered
 from ..statements import POSTGRESQL
-from ..xid import Xid
+from ..xid import Call, Xid
 from .base import Connection, Database, Parameters, Place, Result, State, varied, xids_in
 
 #: By the state of an error (SQLSTATE) why the branch was rolled back. All of class 23 break a constraint.
