@@ -171,7 +171,7 @@ turns_step i d _ _ _ within (OneMore n first old new text before on start same) 
           (steps_same (moves_taken i on.told) (get_or old i d) (get_or on.between i d) (get_or new i d) goes same),
     )
 
-four_at_most : (place : Place) → steps_at place ≤ 4
+pub four_at_most : (place : Place) → steps_at place ≤ 4
 four_at_most Working = lit≤ tt
 four_at_most Preparing = lit≤ tt
 four_at_most AtOnce = lit≤ tt

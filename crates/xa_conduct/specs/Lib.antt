@@ -6,8 +6,10 @@ pub mod Debts
 pub mod Decided
 pub mod Meaning
 pub mod Moves
+pub mod NotStuck
 pub mod Outcomes
 pub mod Over
+pub mod OverInTime
 pub mod Pages
 pub mod Places
 pub mod Plain

@@ -1,7 +1,9 @@
 //! Laws of conducted sessions. These functions do nothing: each contract is a theorem.
 
 ghost use Rattle.xa_conduct.specs.Conducted.{ConductedSessionsAreServed};
+ghost use Rattle.xa_conduct.specs.NotStuck.{TransactionsAreNotStuck};
 ghost use Rattle.xa_conduct.specs.Outcomes.{ToldDecisionsWereMade};
+ghost use Rattle.xa_conduct.specs.OverInTime.{TransactionsAreOver};
 ghost use Rattle.xa_conduct.specs.Plain.{PlainRequestsHaveLines};
 ghost use Rattle.xa_conduct.specs.Turns.{TransactionsEnd};
 
@@ -37,4 +39,15 @@ pub fn told_decisions_were_made<L: DecisionLog + Drop>()
 /// for each of its branches and one are taken of it. What isn't taken is replied by an error.
 pub fn transactions_end()
     ensures { TransactionsEnd }
+{}
+
+/// Nor does one come to a stop before: between two lines it is over, or calls wait of which any answers of the table are taken, or a move of its
+/// program is.
+pub fn transactions_are_not_stuck()
+    ensures { TransactionsAreNotStuck }
+{}
+
+/// So if a driver goes on with moves that are taken, its transaction is over behind four for each of its branches and one.
+pub fn transactions_are_over()
+    ensures { TransactionsAreOver }
 {}

@@ -4,6 +4,7 @@ ghost use Rattle.std.specs.Prelude.{◌≡◌, true};
 ghost use Rattle.xa_conduct.specs.Meaning.{kind_at, step_by_answer, step_by_loss, step_of, step_to_end, takes};
 ghost use Rattle.xa_conduct.specs.Meaning.{step_after_at_once, step_after_commit, step_after_forget};
 ghost use Rattle.xa_conduct.specs.Meaning.{step_after_rollback, step_after_undo, step_after_vote};
+ghost use Rattle.xa_conduct.specs.NotStuck.{is_in_table};
 ghost use Rattle.xa_conduct.specs.Plain.{is_on_branch};
 
 use crate::debt::Due;
@@ -241,7 +242,8 @@ impl Place {
 
     /// Whether there is such an answer to the call that was told.
     pub fn takes(self, report: Report) -> bool
-        ensures { result ≡ takes self report }
+        ensures takes { result ≡ takes self report }
+        ensures table { result ≡ is_in_table self report }
     {
         match report {
             Report::Lost => self.is_asked(),

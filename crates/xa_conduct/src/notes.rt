@@ -5,6 +5,7 @@ ghost use Rattle.std.specs.Prelude.{◌≡◌, ◌≤◌, ◌∷◌, [], length,
 ghost use Rattle.xa_conduct.specs.Backing.{KeepResting, Rests};
 ghost use Rattle.xa_conduct.specs.Decided.{AsksNoLess};
 ghost use Rattle.xa_conduct.specs.Moves.{IsOfThread, thread_of};
+ghost use Rattle.xa_conduct.specs.NotStuck.{IsTakenSo, may_commit, may_join, may_roll_back, may_tell, reply_if};
 ghost use Rattle.xa_conduct.specs.Progress.{AllStep};
 ghost use Rattle.xa_requests.specs.declared.request.Request.{Request};
 
@@ -134,6 +135,8 @@ impl Notes {
     /// Takes a move of a thread: what is to be asked for goes into the plan.
     fn take(&mut self, asked: &Move, plan: &mut Plan) -> Result<Reply, Memory>
         ensures thread { IfOk result (IsOfThread (thread_of asked.now)) }
+        ensures taken { IfOk result (IsTakenSo (length self.old.recoveries.items)
+            self.old.transactions.items asked.now) }
         ensures steps { IfOk result (λ reply. AllStep (reply ∷ [])
             self.old.transactions.items self.new.transactions.items) }
         ensures more { IfOk result (λ _.
@@ -178,8 +181,11 @@ impl Notes {
     }
 
     /// Branches began.
+    #[tactic(auto, using(crate::proofs::NotStuckLemmas::reply_none))]
     fn join(&mut self, thread: u32, rms: &[u32], plan: &mut Plan) -> Result<Reply, Memory>
         ensures thread { IfOk result (IsOfThread (Some thread)) }
+        ensures taken { IfOk result (λ reply.
+            reply ≡ reply_if self.old.transactions.items thread (may_join rms.now (length self.old.recoveries.items))) }
         ensures steps { IfOk result (λ reply. AllStep (reply ∷ [])
             self.old.transactions.items self.new.transactions.items) }
         ensures more { IfOk result (λ _.
@@ -196,8 +202,11 @@ impl Notes {
     }
 
     /// The work is over, and is to be committed.
+    #[tactic(auto, using(crate::proofs::NotStuckLemmas::reply_none))]
     fn commit(&mut self, thread: u32, plan: &mut Plan) -> Result<Reply, Memory>
         ensures thread { IfOk result (IsOfThread (Some thread)) }
+        ensures taken { IfOk result (λ reply.
+            reply ≡ reply_if self.old.transactions.items thread may_commit) }
         ensures steps { IfOk result (λ reply. AllStep (reply ∷ [])
             self.old.transactions.items self.new.transactions.items) }
         ensures more { IfOk result (λ _.
@@ -213,8 +222,11 @@ impl Notes {
     }
 
     /// It is to be rolled back.
+    #[tactic(auto, using(crate::proofs::NotStuckLemmas::reply_none))]
     fn roll_back(&mut self, thread: u32, plan: &mut Plan) -> Result<Reply, Memory>
         ensures thread { IfOk result (IsOfThread (Some thread)) }
+        ensures taken { IfOk result (λ reply.
+            reply ≡ reply_if self.old.transactions.items thread may_roll_back) }
         ensures steps { IfOk result (λ reply. AllStep (reply ∷ [])
             self.old.transactions.items self.new.transactions.items) }
         ensures more { IfOk result (λ _.
@@ -230,8 +242,11 @@ impl Notes {
     }
 
     /// The calls that were told were answered so.
+    #[tactic(auto, using(crate::proofs::NotStuckLemmas::reply_none))]
     fn tell(&mut self, thread: u32, reports: &[Report], plan: &mut Plan) -> Result<Reply, Memory>
         ensures thread { IfOk result (IsOfThread (Some thread)) }
+        ensures taken { IfOk result (λ reply.
+            reply ≡ reply_if self.old.transactions.items thread (may_tell reports.now)) }
         ensures steps { IfOk result (λ reply. AllStep (reply ∷ [])
             self.old.transactions.items self.new.transactions.items) }
         ensures more { IfOk result (λ _.

@@ -1,6 +1,7 @@
 //! How far a branch has come.
 
 ghost use Rattle.std.specs.Prelude.{◌≡◌};
+ghost use Rattle.xa_conduct.specs.NotStuck.{may_be_undone};
 ghost use Rattle.xa_conduct.specs.Places.{is_asked};
 ghost use Rattle.xa_conduct.specs.Told.{verb_at};
 
@@ -45,6 +46,21 @@ impl Place {
             | Place::Refusing
             | Place::Forgetting => true,
             Place::Working | Place::Prepared | Place::Over | Place::Owed => false,
+        }
+    }
+
+    /// Whether its transaction may still be rolled back by its program: no call was told by which it is ended.
+    pub fn may_be_undone(self) -> bool
+        ensures { result ≡ may_be_undone self }
+    {
+        match self {
+            Place::AtOnce
+            | Place::Committing
+            | Place::RollingBack
+            | Place::Undoing
+            | Place::Refusing
+            | Place::Forgetting => false,
+            Place::Working | Place::Preparing | Place::Prepared | Place::Over | Place::Owed => true,
         }
     }
 

@@ -2,11 +2,13 @@
 //! into a plan.
 
 ghost use Rattle.std.specs.Prelude.{◌≡◌, ◌<◌, ◌≤◌, ◌-◌, Bool, true, false, IfOk, IfSome, None};
-ghost use Rattle.std.specs.Prelude.{length, if◌then◌else◌};
+ghost use Rattle.std.specs.Prelude.{ℕ, length, nat_lt, if◌then◌else◌};
 ghost use Rattle.std.specs.List.{Contains, list_all, list_any};
 ghost use Rattle.xa_conduct.specs.Backing.{KeepAllBacked, KeepsResting, Rests, branch_at};
 ghost use Rattle.xa_conduct.specs.Backing.{standing_after};
 ghost use Rattle.xa_conduct.specs.Decided.{AsksNoLess, CommitIsAsked, is_for, is_rollback_of};
+ghost use Rattle.xa_conduct.specs.NotStuck.{are_answers, are_undone, calls_of, is_undecided};
+ghost use Rattle.xa_conduct.specs.NotStuck.{may_commit, may_join, may_roll_back, may_tell};
 ghost use Rattle.xa_conduct.specs.Over.{has_calls, has_left, is_decided, is_over};
 ghost use Rattle.xa_conduct.specs.Places.{is_asked};
 ghost use Rattle.xa_conduct.specs.Progress.{IsBegun, Steps, are_working, branch_steps, is_asked_in};
@@ -134,6 +136,34 @@ fn undo_each(
     Ok(())
 }
 
+/// Whether these are numbers of resource managers, of which there are so many.
+fn are_below(rms: &[u32], count: usize) -> bool
+    ensures { result ≡ list_all (λ (rm : ℕ). nat_lt rm count) rms.now }
+{
+    rms.iter().all(|rm| (*rm as usize) < count)
+}
+
+/// Whether these are answers to the calls that these branches were told, each to the one at its place.
+fn are_answers(parts: &[Part], reports: &[Report]) -> bool
+    ensures { result ≡ are_answers (calls_of parts.now) reports.now }
+{
+    let mut at = 0usize;
+    for part in parts {
+        if !part.place.is_asked() {
+            continue;
+        }
+        if at >= reports.len() {
+            return false;
+        }
+        let report = reports[at];
+        if !part.place.takes(report) {
+            return false;
+        }
+        at += 1;
+    }
+    at == reports.len()
+}
+
 impl Transaction {
     /// None has begun.
     pub fn new(alloc: Global, thread: u32, rms: u32) -> Result<Transaction, AllocError>
@@ -183,25 +213,36 @@ impl Transaction {
 
     /// Whether all calls that were told are those of the first phase, which may yet not be made.
     pub fn may_roll_back(&self) -> bool
-        ensures { result ≡ true → self.now.standing ≡ Standings.Open }
+        ensures stands { result ≡ true → self.now.standing ≡ Standings.Open }
+        ensures exact { result ≡ may_roll_back self.now }
     {
-        !self.has_moved
-            && self.standing == Standing::Open
-            && self.parts.iter().all(|part| matches!(
-                part.place,
-                Place::Working | Place::Preparing | Place::Over
-            ))
+        !self.has_moved && self.is_undecided() && self.may_be_undone()
+    }
+
+    /// Whether each of its branches may be rolled back by its program.
+    fn may_be_undone(&self) -> bool
+        ensures { result ≡ are_undone self.now.parts.items }
+    {
+        self.parts.iter().all(|part| part.place.may_be_undone())
+    }
+
+    /// Whether it has begun, and nothing is decided.
+    fn is_undecided(&self) -> bool
+        ensures { result ≡ is_undecided self.now.standing }
+    {
+        match self.standing {
+            Standing::Open => true,
+            _ => false,
+        }
     }
 
     /// Whether branches may begin at these resource managers, of which there are so many.
     pub fn may_join(&self, rms: &[u32], count: usize) -> bool
         ensures some { result ≡ true → 0 < length rms.now }
         ensures new { result ≡ true → list_all (is_new_at self.now.parts.items) rms.now ≡ true }
+        ensures exact { result ≡ may_join rms.now count self.now }
     {
-        !rms.is_empty()
-            && self.may_roll_back()
-            && rms.iter().all(|rm| (*rm as usize) < count)
-            && self.has_none(rms)
+        !rms.is_empty() && self.may_roll_back() && are_below(rms, count) && self.has_none(rms)
     }
 
     /// Whether there is no branch at any of these resource managers.
@@ -215,6 +256,7 @@ impl Transaction {
     pub fn may_commit(&self) -> bool
         ensures stands { result ≡ true → self.now.standing ≡ Standings.Open }
         ensures works { result ≡ true → are_working self.now.parts.items ≡ true }
+        ensures exact { result ≡ may_commit self.now }
     {
         self.may_roll_back() && self.parts.len() <= 1 && self.is_working()
     }
@@ -425,17 +467,9 @@ impl Transaction {
     pub fn takes(&self, reports: &[Report]) -> bool
         ensures calls { result ≡ true → has_calls self.now ≡ true }
         ensures some { result ≡ true → 0 < length reports.now }
+        ensures exact { result ≡ may_tell reports.now self.now }
     {
-        let mut at = 0usize;
-        for part in self.parts.as_slice() {
-            if part.place.is_asked() {
-                match reports.get(at) {
-                    Some(report) if part.place.takes(*report) => at = at.saturating_add(1),
-                    _ => return false,
-                }
-            }
-        }
-        at == reports.len() && at > 0 && !self.has_moved
+        self.is_asked() && are_answers(self.parts.as_slice(), reports) && !self.has_moved
     }
 
     /// The calls that were told were answered so. It is ready to be committed only if all of them are votes for that.
