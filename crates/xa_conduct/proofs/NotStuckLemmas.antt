@@ -1,9 +1,7 @@
 -- Which moves are taken, and that one is.
-use Rattle.std.proofs.Common.{◌≡◌, ◌∙◌, ◌+◌, ◌*◌, ◌==◌, ◌&&◌, ◌||◌, ◌⊎◌, ℕ, zero, suc, not, ◌<◌, ◌≤◌, Bool, true, false, List, [], ◌∷◌, ◌++◌, Option, Some, None, ap, ap₂, arith, drop, eq-eqb, get_or, inl, inr, length, lit≤, ne_eqb, refl, subst, subst₂, sym, add-one}
-use Rattle.std.proofs.Math.ListN.{set}
+use Rattle.std.proofs.Common.{◌≡◌, ◌∙◌, ◌+◌, ◌*◌, ◌==◌, ◌&&◌, ◌||◌, ◌⊎◌, ℕ, zero, suc, not, ◌<◌, ◌≤◌, Bool, true, false, List, [], ◌∷◌, ap, ap₂, arith, drop, eq-eqb, get_or, inl, inr, length, ne_eqb, refl, subst, sym, add-one}
 use Rattle.std.proofs.Math.Seq.{drop-cons}
 use Rattle.std.proofs.lemmas.Bool.{and_from, and_parts, cases_Bool, cases_eq, false≢true, true≢false}
-use Rattle.std.proofs.lemmas.List.{get_or-set_other, length-set}
 use Rattle.std.proofs.lemmas.Bool.Decides.{nat_tests}
 use Rattle.std.proofs.lemmas.Option.{slice_get_past, slice_get_read}
 use Rattle.std.proofs.lemmas.List.Sums.{sum_by-append, sum_by-le}
@@ -15,12 +13,11 @@ use Rattle.xa_base.specs.declared.code.How.TheVariants as hows
 use Rattle.xa_conduct.proofs.ProgressLemmas.{one_at_most}
 use Rattle.xa_conduct.proofs.TurnLemmas.{four_at_most, turns_step}
 use Rattle.xa_conduct.specs.Meaning.{takes}
-use Rattle.xa_conduct.specs.NotStuck.{IsToBeMoved, IsToBeTold, MoveOnly, TransactionsAreNotStuck, all_lost, are_answers, calls_of, is_at_rest, is_in_table, is_of, is_ready, is_so_of, is_undecided, may_be_undone, may_commit, may_roll_back, may_tell, reply_if}
+use Rattle.xa_conduct.specs.NotStuck.{IsToBeMoved, IsToBeTold, TransactionsAreNotStuck, all_lost, are_answers, calls_of, is_at_rest, is_in_table, is_ready, is_so_of, is_undecided, may_be_undone, may_roll_back, reply_if}
 use Rattle.xa_conduct.specs.Over.{has_calls, is_decided, is_over}
 use Rattle.xa_conduct.specs.OverInTime.{TransactionsAreOver}
 use Rattle.xa_conduct.specs.Places.{is_asked, steps_at}
-use Rattle.xa_conduct.specs.Progress.{are_working, branch_steps, steps_of, steps_to}
-use Rattle.xa_conduct.specs.declared.notes.Reply.{Reply}
+use Rattle.xa_conduct.specs.Progress.{branch_steps, steps_of, steps_to}
 use Rattle.xa_conduct.specs.declared.notes.Reply.TheVariants as replies
 use Rattle.xa_conduct.specs.declared.part.Part.{Part}
 use Rattle.xa_conduct.specs.declared.place.Place.{Place}

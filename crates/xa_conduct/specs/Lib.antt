@@ -1,4 +1,5 @@
 pub mod Acting
+pub mod AtRest
 pub mod Backing
 pub mod Conducted
 pub mod Conducting
@@ -14,5 +15,7 @@ pub mod Pages
 pub mod Places
 pub mod Plain
 pub mod Progress
+pub mod RecoveriesEnd
+pub mod RowsLeave
 pub mod Told
 pub mod Turns

@@ -1,7 +1,7 @@
 -- That a transaction isn't stuck: which moves of its thread are taken, that an answer of the table to a call that was told is one of them, and that
 -- there is one as long as the transaction isn't over.
-use Rattle.std.specs.Prelude.{◌≡◌, ◌≤◌, ◌<◌, ◌⊎◌, ◌==◌, ◌&&◌, ℕ, Bool, true, false, not, nat_le, nat_lt, List, [], ◌∷◌, Option, Some, None, length, slice_get, get_or, if◌then◌else◌}
-use Rattle.std.specs.List.{list_all, list_any}
+use Rattle.std.specs.Prelude.{◌≡◌, ◌≤◌, ◌⊎◌, ◌&&◌, ℕ, Bool, true, false, not, nat_le, nat_lt, List, [], ◌∷◌, Option, Some, None, length, slice_get, if◌then◌else◌}
+use Rattle.std.specs.List.{list_all}
 use Rattle.xa_base.specs.declared.code.Code.{Code}
 use Rattle.xa_base.specs.declared.code.Code.TheVariants as codes
 use Rattle.xa_base.specs.declared.code.How.TheVariants as hows
@@ -14,7 +14,7 @@ use Rattle.xa_conduct.specs.declared.notes.Reply.{Reply}
 use Rattle.xa_conduct.specs.declared.notes.Reply.TheVariants as replies
 use Rattle.xa_conduct.specs.declared.part.Part.{Part}
 use Rattle.xa_conduct.specs.declared.place.Place.{Place}
-use Rattle.xa_conduct.specs.declared.place.Place.TheVariants.{Working, Preparing, AtOnce, Prepared, Committing, RollingBack, Undoing, Refusing, Forgetting, Over, Owed}
+use Rattle.xa_conduct.specs.declared.place.Place.TheVariants.{Preparing, AtOnce, Committing, RollingBack, Undoing, Refusing, Forgetting}
 use Rattle.xa_conduct.specs.declared.report.Report.{Report}
 use Rattle.xa_conduct.specs.declared.report.Report.TheVariants as reports
 use Rattle.xa_conduct.specs.declared.transaction.Standing.{Standing}
@@ -152,17 +152,6 @@ is_ready standing = false
 -- no line moves it, and what is due is decided
 abbrev pub is_at_rest : Transaction → Bool
 is_at_rest t = not t.has_moved && not (is_ready t.standing)
-
--- a reply to its move
-abbrev pub is_of : (thread : ℕ) → Reply → Bool
-is_of i (replies.Thread t) = i == t
-is_of i (replies.Started t g) = i == t
-is_of i reply = false
-
--- by moves with these replies none but theirs went on, and none but one of a taken move has come to wait for its decision
-pub record MoveOnly (told : List Reply) (ts us : List Transaction) : Type 0 where
-  pub count : length us ≡ length ts
-  pub others : (i : ℕ) (d : Transaction) → i < length ts → list_any (is_of i) told ≡ false → get_or us i d ≡ get_or ts i d
 
 -- ** it isn't stuck
 

@@ -26,3 +26,7 @@ is_over t = is_decided t.standing && not (has_calls t)
 -- the end of a branch is left to the recovery, which would need the row
 abbrev pub has_left : Transaction → Bool
 has_left t = list_any (λ (part : Part). is_left part.place) t.parts.items
+
+-- it has a row that no branch needs any more
+abbrev pub has_spare_row : Transaction → Bool
+has_spare_row t = not (has_left t) && (t.has_row && is_over t)

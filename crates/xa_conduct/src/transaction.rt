@@ -9,7 +9,7 @@ ghost use Rattle.xa_conduct.specs.Backing.{standing_after};
 ghost use Rattle.xa_conduct.specs.Decided.{AsksNoLess, CommitIsAsked, is_for, is_rollback_of};
 ghost use Rattle.xa_conduct.specs.NotStuck.{are_answers, are_undone, calls_of, is_undecided};
 ghost use Rattle.xa_conduct.specs.NotStuck.{may_commit, may_join, may_roll_back, may_tell};
-ghost use Rattle.xa_conduct.specs.Over.{has_calls, has_left, is_decided, is_over};
+ghost use Rattle.xa_conduct.specs.Over.{has_calls, has_left, has_spare_row, is_decided, is_over};
 ghost use Rattle.xa_conduct.specs.Places.{is_asked};
 ghost use Rattle.xa_conduct.specs.Progress.{IsBegun, Steps, are_working, branch_steps, is_asked_in};
 ghost use Rattle.xa_conduct.specs.Progress.{is_at, is_new_at, steps_to};
@@ -317,6 +317,7 @@ impl Transaction {
     pub fn has_spare_row(&self) -> bool
         ensures over { result ≡ true → is_over self.now ≡ true }
         ensures left { result ≡ true → has_left self.now ≡ false }
+        ensures exact { result ≡ has_spare_row self.now }
     {
         if self.has_left() {
             return false;
