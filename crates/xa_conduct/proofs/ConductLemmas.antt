@@ -44,16 +44,16 @@ module _ {L : Type 0} (moment : L → Moment) where
     rest = λ _. subst (All (Rests (was_asked was.done []))) (sym (ap (λ v. v.items) same)) (was.rest going);
   }
 
-  pub keeps_told : (old new : Conductor L) (text : List ℕ) → old.notes.is_stopped ≡ false → new.notes.transactions ≡ old.notes.transactions
-      → GoesOn moment old.server new.server → TurnsSo moment old new text
-  keeps_told old new text going same goes = λ first was. (keeps_conducting old new going same goes first was, inr (inl same))
+  pub keeps_told : (old new : Conductor L) (line text : List ℕ) → old.notes.is_stopped ≡ false → new.notes.transactions ≡ old.notes.transactions
+      → GoesOn moment old.server new.server → TurnsSo moment old new line text
+  keeps_told old new line text going same goes = λ first was. (keeps_conducting old new going same goes first was, inr (inl same))
 
   -- some moved, as a plan says that was done, and of these it is told
-  pub moves_told : (old new : Conductor L) (plan : List Request) (moved : List Transaction) (text : List ℕ) → old.notes.is_stopped ≡ false
+  pub moves_told : (old new : Conductor L) (plan : List Request) (moved : List Transaction) (line text : List ℕ) → old.notes.is_stopped ≡ false
       → KeepResting [] plan old.notes.transactions.items moved → KeepsRest moved new.notes.transactions.items
-      → ((asked : (Request → Bool) → Bool) → All (Rests asked) moved → AreReplies asked text) → GoesOnBy moment plan old.server new.server
-      → TurnsSo moment old new text
-  moves_told old new plan moved text going moves keeps tells goes = λ first was.
+      → ((asked : (Request → Bool) → Bool) → All (Rests asked) moved → AreReplies asked old.notes.transactions.items line text)
+      → GoesOnBy moment plan old.server new.server → TurnsSo moment old new line text
+  moves_told old new plan moved line text going moves keeps tells goes = λ first was.
       let asked : (Request → Bool) → Bool = was_asked (was.done ++ plan) [] in
       let rest : All (Rests asked) moved = rest_done was.done plan moved (moves was.done (was.rest going)) in
       let now : Conducts moment first new = record {
@@ -64,9 +64,9 @@ module _ {L : Type 0} (moment : L → Moment) where
       (now, inl (tells asked rest))
 
   -- nothing is told any more
-  pub stops_told : (old new : Conductor L) (text : List ℕ) → new.notes.is_stopped ≡ true → GoesOn moment old.server new.server
-      → TurnsSo moment old new text
-  stops_told old new text stopped goes = λ first was.
+  pub stops_told : (old new : Conductor L) (line text : List ℕ) → new.notes.is_stopped ≡ true → GoesOn moment old.server new.server
+      → TurnsSo moment old new line text
+  stops_told old new line text stopped goes = λ first was.
       let now : Conducts moment first new = record {
         done = was.done;
         acts = goes was.done first was.acts;

@@ -24,8 +24,9 @@ module _ {L : Type 0} (moment : L → Moment) where
   abbrev pub MovesNone : (old new : Conductor L) → Type 0
   MovesNone old new = (new.notes.transactions ≡ old.notes.transactions) ⊎ (new.notes.is_stopped ≡ true)
 
-  -- And so does what it tells, by this reply to a line: where a transaction moved, each part of the reply tells of one what rests on requests that
-  -- were done. A line of a recovery moves none.
-  abbrev pub TurnsSo : (old new : Conductor L) → List ℕ → Type 0
-  TurnsSo old new text =
-      (first : Server L) → Conducts first old → (now : Conducts first new) × (AreReplies (was_asked now.done []) text ⊎ MovesNone old new)
+  -- And so does what it tells, by this reply to a line: where a transaction moved, each part of the reply is to the move at its place in the line,
+  -- and tells of the transaction of the thread that moved what rests on requests that were done. A line of a recovery moves none.
+  abbrev pub TurnsSo : (old new : Conductor L) → (line text : List ℕ) → Type 0
+  TurnsSo old new line text =
+      (first : Server L) → Conducts first old
+      → (now : Conducts first new) × (AreReplies (was_asked now.done []) old.notes.transactions.items line text ⊎ MovesNone old new)

@@ -16,6 +16,7 @@ pub mod Places
 pub mod Plain
 pub mod Progress
 pub mod RecoveriesEnd
+pub mod Refusals
 pub mod RowsLeave
 pub mod Told
 pub mod Turns

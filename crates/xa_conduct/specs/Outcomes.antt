@@ -1,4 +1,4 @@
--- That outcomes are true, as a statement over sessions of drivers one after another. It is not proved.
+-- That outcomes are true, as a statement over sessions of drivers one after another. A crate above this one proves it, as a law (`outcomes_are_true`).
 use Rattle.std.specs.Prelude.{◌≡◌, ◌⊎◌, ℕ, true, List, ◌∷◌, Option, Some}
 use Rattle.std.specs.List.{list_any}
 use Rattle.xa_base.specs.declared.branch.Branch.{Branch}

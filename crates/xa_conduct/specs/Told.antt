@@ -1,10 +1,13 @@
 -- What the reply to a line of moves tells.
-use Rattle.std.specs.Prelude.{◌≡◌, ◌⊎◌, ℕ, Bool, true, MatchBool, All, List, [], ◌∷◌, ◌++◌, codes}
+use Rattle.std.specs.Prelude.{◌≡◌, ◌<◌, ◌⊎◌, ℕ, Bool, true, MatchBool, List, [], ◌∷◌, ◌++◌, Option, Some, None, codes, get_or, length}
 use Rattle.std.specs.List.{Contains}
 use Rattle.xa_requests.specs.declared.request.Request.{Request}
 use Rattle.xa_conduct.specs.Backing.{Rests}
+use Rattle.xa_conduct.specs.Moves.{ArePaired, parts_of, thread_in}
 use Rattle.xa_conduct.specs.Over.{has_calls}
 use Rattle.xa_conduct.specs.Places.{is_asked}
+use Rattle.xa_conduct.specs.declared.notes.Reply.{Reply}
+use Rattle.xa_conduct.specs.declared.notes.Reply.TheVariants as replies
 use Rattle.xa_conduct.specs.declared.part.Part.{Part}
 use Rattle.xa_conduct.specs.declared.place.Place.{Place}
 use Rattle.xa_conduct.specs.declared.place.Place.TheVariants.{Preparing, AtOnce, Committing, RollingBack, Undoing, Refusing, Forgetting}
@@ -60,15 +63,22 @@ pub record TellsCall (branches : List Part) (text : List ℕ) : Type 0 where
 abbrev pub TellsOf : Transaction → List ℕ → Type 0
 TellsOf t text = MatchBool (has_calls t) (TellsCall t.parts.items text) (HasFirst (word_of t.standing) text)
 
--- what is told of a transaction rests on what was asked for
-pub record TellsSo (asked : (Request → Bool) → Bool) (text : List ℕ) : Type 0 where
+-- What is told of the transaction that is noted of a thread, by its name, rests on what was asked for.
+pub record TellsSo (asked : (Request → Bool) → Bool) (noted : List Transaction) (thread : ℕ) (text : List ℕ) : Type 0 where
   pub transaction : Transaction
+  pub among : thread < length noted
+  pub name : transaction.gtrid ≡ (get_or noted thread transaction).gtrid
   pub rests : Rests asked transaction
   pub tells : TellsOf transaction text
 
--- a reply to a move does; or it says that a transaction began, or that nothing was done
-abbrev pub IsReply : ((Request → Bool) → Bool) → List ℕ → Type 0
-IsReply asked text = TellsSo asked text ⊎ (HasFirst (codes "started") text ⊎ HasFirst (codes "error") text)
+-- A reply to a move of the thread tells of that thread's transaction; or it says that its first transaction began, or that nothing was done.
+abbrev pub IsReply : ((Request → Bool) → Bool) → List Transaction → (thread : Option ℕ) → List ℕ → Type 0
+IsReply asked noted (Some thread) text = TellsSo asked noted thread text ⊎ (HasFirst (codes "started") text ⊎ HasFirst (codes "error") text)
+IsReply asked noted None text = HasFirst (codes "error") text
+
+-- to the move that this part of a line asks for
+abbrev pub IsReplyTo : ((Request → Bool) → Bool) → List Transaction → (part text : List ℕ) → Type 0
+IsReplyTo asked noted part text = IsReply asked noted (thread_in part) text
 
 -- replies, with this between any two
 abbrev pub joined : List (List ℕ) → List ℕ
@@ -76,8 +86,27 @@ joined [] = []
 joined (x ∷ []) = x
 joined (x ∷ (y ∷ ys)) = x ++ (59 ∷ joined (y ∷ ys))
 
--- each of the replies of a line does
-pub record AreReplies (asked : (Request → Bool) → Bool) (text : List ℕ) : Type 0 where
+-- The replies to a line of moves are one to each of its parts, in their order. What is told of the transaction of a thread is told of the one that
+-- was noted of it before the line.
+pub record AreReplies (asked : (Request → Bool) → Bool) (noted : List Transaction) (line text : List ℕ) : Type 0 where
   pub replies : List (List ℕ)
   pub are : text ≡ joined replies
-  pub each : All (IsReply asked) replies
+  pub each : ArePaired (IsReplyTo asked noted) (parts_of line) replies
+
+-- ** while a line is replied
+
+-- the transaction of the thread is as it was
+abbrev pub IsSameAt : (thread : ℕ) → List Transaction → List Transaction → Type 0
+IsSameAt t old new = (d : Transaction) → get_or new t d ≡ get_or old t d
+
+-- what is told by a reply
+abbrev pub IsToldBy : ((Request → Bool) → Bool) → List Transaction → Reply → List ℕ → Type 0
+IsToldBy asked noted (replies.Thread t) text = TellsSo asked noted t text ⊎ HasFirst (codes "error") text
+IsToldBy asked noted (replies.Started t g) text = HasFirst (codes "started") text
+IsToldBy asked noted reply text = HasFirst (codes "error") text
+
+-- by each of these
+pub record AreTold (asked : (Request → Bool) → Bool) (noted : List Transaction) (told : List Reply) (text : List ℕ) : Type 0 where
+  pub texts : List (List ℕ)
+  pub are : text ≡ joined texts
+  pub each : ArePaired (IsToldBy asked noted) told texts

@@ -1,6 +1,10 @@
 //! The moves of a driver: what its words ask for.
 
-ghost use Rattle.std.specs.Prelude.{◌≤◌, length, IfOk};
+ghost use Rattle.std.specs.Prelude.{◌≡◌, ◌==◌, ◌≤◌, None, length, map, IfOk};
+ghost use Rattle.std.specs.List.{slice_split};
+ghost use Rattle.xa_conduct.specs.Moves.{ArePaired, IsMoveBy, IsReadOf, parts_of, thread_behind};
+ghost use Rattle.xa_conduct.specs.Moves.{thread_moved, thread_of};
+ghost use Rattle.xa_requests.specs.Words.{words_of};
 
 use crate::report::{Report, report_in};
 use std::alloc::{AllocError, Global};
@@ -32,6 +36,22 @@ pub enum Move {
     Fate { gtrid: Gtrid },
     /// `quit`: the session ends.
     Quit,
+}
+
+impl Move {
+    /// The thread that moves; none, where it is no move of a thread.
+    pub fn thread(&self) -> Option<u32>
+        ensures { result ≡ thread_of self.now }
+    {
+        match self {
+            Move::Start { thread } => Some(*thread),
+            Move::Join { thread, .. } => Some(*thread),
+            Move::Commit { thread } => Some(*thread),
+            Move::Rollback { thread } => Some(*thread),
+            Move::Tell { thread, .. } => Some(*thread),
+            _ => None,
+        }
+    }
 }
 
 /// The numbers that these words spell, if each spells one and there is one.
@@ -104,7 +124,9 @@ fn number_of(digits: &[u8]) -> Option<u64> {
 }
 
 /// A move on a thread alone.
-fn on_thread(verb: &str, words: &[&str]) -> Option<Move> {
+fn on_thread(verb: &str, words: &[&str]) -> Option<Move>
+    ensures { IsMoveBy (thread_behind (map (λ word. word.now) words.now)) result }
+{
     let [thread] = words else {
         return None;
     };
@@ -118,7 +140,9 @@ fn on_thread(verb: &str, words: &[&str]) -> Option<Move> {
 }
 
 /// What a word that is a number, and the words behind it, ask for.
-fn with_list(alloc: Global, verb: &str, words: &[&str]) -> Result<Option<Move>, AllocError> {
+fn with_list(alloc: Global, verb: &str, words: &[&str]) -> Result<Option<Move>, AllocError>
+    ensures { IfOk result (IsMoveBy (thread_behind (map (λ word. word.now) words.now))) }
+{
     let [number, words @ ..] = words else {
         return Ok(None);
     };
@@ -148,7 +172,9 @@ fn with_list(alloc: Global, verb: &str, words: &[&str]) -> Result<Option<Move>, 
 }
 
 /// What `recover` and `end` ask for.
-fn on_rm(verb: &str, words: &[&str]) -> Option<Move> {
+fn on_rm(verb: &str, words: &[&str]) -> Option<Move>
+    ensures { thread_moved result ≡ None }
+{
     match (verb, words) {
         ("recover", [rm]) => Some(Move::Recover { rm: index_of(rm)? }),
         ("end", [rm, word]) => Some(Move::End {
@@ -159,9 +185,18 @@ fn on_rm(verb: &str, words: &[&str]) -> Option<Move> {
     }
 }
 
+/// The line, cut at each space.
+fn words_of(alloc: Global, line: &str) -> Result<Vec<&str>, AllocError>
+    ensures { IfOk result (λ words. map (λ word. word.now) words.items ≡ words_of line.now) }
+{
+    line.split(' ').collect(alloc)
+}
+
 /// What the words of a line, or of a part of it, ask for; none, where that is no move.
-pub fn read_move(alloc: Global, line: &str) -> Result<Option<Move>, AllocError> {
-    let words: Vec<&str> = line.split(' ').collect(alloc)?;
+pub fn read_move(alloc: Global, line: &str) -> Result<Option<Move>, AllocError>
+    ensures { IfOk result (IsReadOf line.now) }
+{
+    let words = words_of(alloc, line)?;
     let [verb, words @ ..] = words.as_slice() else {
         return Ok(None);
     };
@@ -185,19 +220,38 @@ pub fn read_move(alloc: Global, line: &str) -> Result<Option<Move>, AllocError> 
 /// The most moves that a line has.
 const MOST_MOVES: usize = 1024;
 
-/// What the parts of a line ask for. One that has too many parts asks for nothing.
-pub fn read_moves(alloc: Global, line: &str) -> Result<Vec<Option<Move>>, AllocError>
-    ensures { IfOk result (λ moves. length moves.items ≤ 1024) }
+/// The line, cut at each semicolon.
+fn cut_in_parts(alloc: Global, line: &str) -> Result<Vec<&str>, AllocError>
+    ensures { IfOk result (λ parts. map (λ part. part.now) parts.items
+        ≡ slice_split (λ c. c == 59) line.now) }
 {
-    let parts: Vec<&str> = line.split(';').collect(alloc)?;
+    line.split(';').collect(alloc)
+}
+
+/// What each of these parts of a line asks for.
+fn read_each(alloc: Global, parts: &[&str]) -> Result<Vec<Option<Move>>, AllocError>
+    ensures count { IfOk result (λ moves. length moves.items ≡ length parts.now) }
+    ensures read { IfOk result (λ moves.
+        ArePaired IsReadOf (map (λ part. part.now) parts.now) moves.items) }
+{
     let mut moves = Vec::with_capacity(alloc, parts.len())?;
-    if parts.len() > MOST_MOVES {
-        moves.push(None)?;
-        return Ok(moves);
-    }
-    for part in parts.as_slice() {
+    for part in parts {
         let asked = read_move(alloc, part)?;
         moves.push(asked)?;
     }
     Ok(moves)
+}
+
+/// What the parts of a line ask for. One that has too many parts asks for nothing.
+pub fn read_moves(alloc: Global, line: &str) -> Result<Vec<Option<Move>>, AllocError>
+    ensures few { IfOk result (λ moves. length moves.items ≤ 1024) }
+    ensures read { IfOk result (λ moves. ArePaired IsReadOf (parts_of line.now) moves.items) }
+{
+    let parts = cut_in_parts(alloc, line)?;
+    if parts.len() > MOST_MOVES {
+        let mut none = Vec::with_capacity(alloc, 1)?;
+        none.push(None)?;
+        return Ok(none);
+    }
+    read_each(alloc, parts.as_slice())
 }

@@ -2,9 +2,11 @@
 //! goes into a plan. A file for what follows from a line of moves, and one for recoveries.
 
 ghost use Rattle.std.specs.Prelude.{◌≡◌, ◌≤◌, ◌∷◌, [], length, All, Bool, IfOk, Some};
+ghost use Rattle.std.specs.List.{list_any};
 ghost use Rattle.xa_conduct.specs.Backing.{KeepResting, Rests};
 ghost use Rattle.xa_conduct.specs.Decided.{AsksNoLess};
-ghost use Rattle.xa_conduct.specs.Moves.{IsOfThread, thread_of};
+ghost use Rattle.xa_conduct.specs.Moves.{AreOnce, ArePaired, IsOfThread, IsReplyOf, has_moved};
+ghost use Rattle.xa_conduct.specs.Moves.{is_of, thread_of};
 ghost use Rattle.xa_conduct.specs.NotStuck.{IsTakenSo, may_commit, may_join, may_roll_back, may_tell, reply_if};
 ghost use Rattle.xa_conduct.specs.Progress.{AllStep};
 ghost use Rattle.xa_requests.specs.declared.request.Request.{Request};
@@ -33,6 +35,33 @@ pub(crate) enum Reply {
     Started(u32, Gtrid),
     NoMove,
     NotNow,
+}
+
+/// Whether it is the reply to a move of the thread that was taken.
+fn is_of(reply: Reply, thread: u32) -> bool
+    ensures { result ≡ is_of thread reply }
+{
+    match reply {
+        Reply::Thread(other) | Reply::Started(other, _) => thread == other,
+        Reply::NoMove | Reply::NotNow => false,
+    }
+}
+
+/// Whether one of these is.
+fn has_one_of(replies: &[Reply], thread: u32) -> bool
+    ensures { result ≡ list_any (is_of thread) replies.now }
+{
+    replies.iter().any(|reply| is_of(*reply, thread))
+}
+
+/// Whether the thread, if there is one, moved by one of the moves that are replied so.
+fn has_moved(replies: &[Reply], thread: Option<u32>) -> bool
+    ensures { result ≡ has_moved replies.now thread }
+{
+    match thread {
+        Some(thread) => has_one_of(replies, thread),
+        None => false,
+    }
 }
 
 /// What is noted.
@@ -107,13 +136,17 @@ impl Notes {
         self.incarnation != 1 || self.recoveries.iter().all(|recovery| recovery.is_scanned)
     }
 
-    /// Takes the moves of a line.
+    /// Takes the moves of a line. A thread moves once on it, since no move can rest on a reply that its driver has yet
+    /// to read.
     pub fn take_all(
         &mut self,
         moves: &[Option<Move>],
         plan: &mut Plan,
     ) -> Result<Vec<Reply>, Memory>
         ensures count { IfOk result (λ replies. length replies.items ≡ length moves.now) }
+        ensures threads { IfOk result (λ replies.
+            ArePaired IsReplyOf moves.now replies.items) }
+        ensures once { IfOk result (λ replies. AreOnce replies.items) }
         ensures steps { IfOk result (λ replies. AllStep replies.items
             self.old.transactions.items self.new.transactions.items) }
         ensures more { IfOk result (λ _.
@@ -124,6 +157,7 @@ impl Notes {
         let mut replies = Vec::with_capacity(self.alloc, moves.len())?;
         for asked in moves {
             let reply = match asked {
+                Some(asked) if has_moved(replies.as_slice(), asked.thread()) => Reply::NotNow,
                 Some(asked) => self.take(asked, plan)?,
                 None => Reply::NoMove,
             };

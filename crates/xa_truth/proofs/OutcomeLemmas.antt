@@ -1,24 +1,27 @@
 -- What a reply to a move tells, and what is noted, is what its session saw.
-use Rattle.std.proofs.Common.{◌≡◌, ◌∙◌, ◌⊎◌, inl, inr, ℕ, Bool, true, false, ◌||◌, List, [], ◌∷◌, Option, Some, refl, subst}
+use Rattle.std.proofs.Common.{◌≡◌, ◌∙◌, ◌⊎◌, inl, inr, ℕ, Bool, true, false, ◌||◌, List, [], ◌∷◌, Option, Some, None, ap, get_or, refl, subst, sym}
 use Rattle.std.proofs.lemmas.Bool.{and_parts, or_left, or_right}
-use Rattle.std.proofs.lemmas.List.Elements.{All-contains, All-weaker}
+use Rattle.std.proofs.lemmas.List.{get_or_default}
+use Rattle.std.proofs.lemmas.List.Elements.{All-contains}
 use Rattle.std.proofs.lemmas.List.Folds.{list_any-append}
 use Rattle.std.specs.List.{list_any}
-use Rattle.std.specs.Prelude.{All, MatchBool, codes}
+use Rattle.std.specs.Prelude.{MatchBool, codes}
 use Rattle.xa_base.specs.declared.branch.Branch.{Branch}
 use Rattle.xa_base.specs.declared.branch.Gtrid.{Gtrid}
 use Rattle.xa_base.specs.declared.call.Call.TheVariants as Calls
 use Rattle.xa_base.specs.declared.state.Standing.{Standing}
 use Rattle.xa_base.specs.declared.step.Outcome.{Outcome}
 use Rattle.xa_base.specs.declared.step.Outcome.TheVariants as outcomes
+use Rattle.xa_conduct.proofs.MoveLemmas.{paired_weaker}
 use Rattle.xa_conduct.specs.Acting.{done_by, done_of, is_done}
 use Rattle.xa_conduct.specs.Backing.{IsBacked, OutcomeRests, Rests, WasAtOnce, asks_at_once, branch_at, is_backed, is_commit, is_refused, loses, tells}
 use Rattle.xa_conduct.specs.Decided.{is_commit_of, is_rollback_of, is_same}
+use Rattle.xa_conduct.specs.Moves.{ArePaired, parts_of, thread_in}
 use Rattle.xa_conduct.specs.Outcomes.{IsDecisionOf, OutcomesAreTrue, SaysDecided, WasDecided}
 use Rattle.xa_conduct.specs.Over.{has_calls}
 use Rattle.xa_conduct.specs.Places.{is_asked}
 use Rattle.xa_conduct.specs.Plain.{is_gtrid}
-use Rattle.xa_conduct.specs.Told.{HasFirst, IsReply, TellsCall, TellsOf, joined, verb_at, word_of}
+use Rattle.xa_conduct.specs.Told.{HasFirst, IsReply, IsReplyTo, TellsCall, TellsOf, TellsSo, joined, verb_at, word_of}
 use Rattle.xa_conduct.specs.declared.place.Place.{Place}
 use Rattle.xa_conduct.specs.declared.place.Place.TheVariants.{Working, Preparing, AtOnce, Prepared, Committing, RollingBack, Undoing, Refusing, Forgetting, Over, Owed}
 use Rattle.xa_conduct.specs.declared.transaction.Standing.{Standing as NotedStanding}
@@ -47,8 +50,8 @@ use Rattle.xa_session.specs.Logging.{LeavesContent}
 use Rattle.xa_truth.proofs.HeardCommits.{SawNamed, commit_did, commit_seen, issue_did, issue_seen, loss_seen, named_gtrid, refusal_seen, rollback_did, rollback_seen, success_seen}
 use Rattle.xa_truth.proofs.SeenRequests.{lines_seen}
 use Rattle.xa_truth.proofs.WordLemmas.{is_known, is_no_commit, is_no_rollback, no_commit, no_rollback, no_unknown}
-use Rattle.xa_truth.specs.Outcomes.{IsCommittedInLog, NoteIsSo, NotesAreTrue, RepliesAreTrue, ReplyIsSo, WasNoted, WasReplied, was_done}
-use Rattle.xa_truth.specs.Replies.{TellsCommitted, TellsRolledBack, TellsUnknown}
+use Rattle.xa_truth.specs.Outcomes.{IsCommittedInLog, IsMoved, NoteIsSo, NotesAreTrue, RepliesAreTrue, ReplyIsSo, WasNoted, WasReplied, was_done}
+use Rattle.xa_truth.specs.Replies.{TellsCommitted, TellsOutcome, TellsRolledBack, TellsUnknown}
 use Rattle.xa_truth.specs.Unknown.{IsIssuedAtOnce, IsLineLost, LeavesUnknown, WasLeftUnknown}
 
 -- Something was seen of a transaction, which is this one if the numbers of its name fit their
@@ -141,43 +144,48 @@ module _ {L : Type 0} (moment : L → Moment) (name : List ℕ) (handed : L) (o 
 
   -- ** a reply
 
-  -- what it tells of a transaction was seen
-  pub record ReplySeen (text : List ℕ) : Type 0 where
+  -- what it tells of the transaction was seen, perhaps under another name if the numbers of this one don't fit their types
+  pub record ReplySeen (g : Gtrid) (text : List ℕ) : Type 0 where
     pub gtrid : Gtrid
+    pub same : is_gtrid g ≡ true → gtrid ≡ g
     pub committed : TellsCommitted text → TellsCommit gtrid told
     pub rolled_back : TellsRolledBack text → TellsRollback gtrid told
     pub unknown : TellsUnknown text → LeavesUnknown gtrid told
 
-  any_name : Gtrid
-  any_name = record { incarnation = 0; sequence = 0 }
-
-  only_commit : (v text : List ℕ) (g : Gtrid) → is_no_rollback v → is_known v → HasFirst v text → TellsCommit g told → ReplySeen text
-  only_commit v text g apart known first saw = record {
-    gtrid = g;
+  only_commit : (v text : List ℕ) (g h : Gtrid) → (is_gtrid g ≡ true → h ≡ g) → is_no_rollback v → is_known v → HasFirst v text → TellsCommit h told
+      → ReplySeen g text
+  only_commit v text g h same apart known first saw = record {
+    gtrid = h;
+    same = same;
     committed = λ w. saw;
     rolled_back = λ w. absurd (no_rollback v text apart first w);
     unknown = λ w. absurd (no_unknown v text known first w);
   }
 
-  only_rollback : (v text : List ℕ) (g : Gtrid) → is_no_commit v → is_known v → HasFirst v text → TellsRollback g told → ReplySeen text
-  only_rollback v text g apart known first saw = record {
-    gtrid = g;
+  only_rollback : (v text : List ℕ) (g h : Gtrid) → (is_gtrid g ≡ true → h ≡ g) → is_no_commit v → is_known v → HasFirst v text → TellsRollback h told
+      → ReplySeen g text
+  only_rollback v text g h same apart known first saw = record {
+    gtrid = h;
+    same = same;
     committed = λ w. absurd (no_commit v text apart first w);
     rolled_back = λ w. saw;
     unknown = λ w. absurd (no_unknown v text known first w);
   }
 
-  only_unknown : (v text : List ℕ) (g : Gtrid) → is_no_commit v → is_no_rollback v → HasFirst v text → LeavesUnknown g told → ReplySeen text
-  only_unknown v text g apart none first saw = record {
-    gtrid = g;
+  only_unknown : (v text : List ℕ) (g h : Gtrid) → (is_gtrid g ≡ true → h ≡ g) → is_no_commit v → is_no_rollback v → HasFirst v text
+      → LeavesUnknown h told → ReplySeen g text
+  only_unknown v text g h same apart none first saw = record {
+    gtrid = h;
+    same = same;
     committed = λ w. absurd (no_commit v text apart first w);
     rolled_back = λ w. absurd (no_rollback v text none first w);
     unknown = λ w. saw;
   }
 
-  nothing_told : (v text : List ℕ) → is_no_commit v → is_no_rollback v → is_known v → HasFirst v text → ReplySeen text
-  nothing_told v text apart none known first = record {
-    gtrid = any_name;
+  nothing_told : (v text : List ℕ) (g : Gtrid) → is_no_commit v → is_no_rollback v → is_known v → HasFirst v text → ReplySeen g text
+  nothing_told v text g apart none known first = record {
+    gtrid = g;
+    same = λ fit. refl;
     committed = λ w. absurd (no_commit v text apart first w);
     rolled_back = λ w. absurd (no_rollback v text none first w);
     unknown = λ w. absurd (no_unknown v text known first w);
@@ -185,18 +193,22 @@ module _ {L : Type 0} (moment : L → Moment) (name : List ℕ) (handed : L) (o 
 
   -- by the call that is to be made
   call_seen : (g : Gtrid) (b : Branch) (place : Place) (text : List ℕ) → b.gtrid ≡ g → is_asked place ≡ true → is_backed asked b place ≡ true
-      → HasFirst (verb_at place) text → ReplySeen text
-  call_seen g b Preparing text same is backed first = nothing_told (codes "prepare") text (refl, refl) (refl, (refl, refl)) refl first
-  call_seen g b AtOnce text same is backed first = nothing_told (codes "commit-at-once") text (refl, refl) (refl, (refl, refl)) refl first
+      → HasFirst (verb_at place) text → ReplySeen g text
+  call_seen g b Preparing text same is backed first = nothing_told (codes "prepare") text g (refl, refl) (refl, (refl, refl)) refl first
+  call_seen g b AtOnce text same is backed first = nothing_told (codes "commit-at-once") text g (refl, refl) (refl, (refl, refl)) refl first
   call_seen g b Committing text same is backed first =
-      only_commit (codes "commit") text b.gtrid (refl, (refl, refl)) refl first (inl (saw_decided b.gtrid (and_parts (asked (is_commit_of b.gtrid)) _ backed).0))
+      only_commit (codes "commit") text g b.gtrid (λ fit. same) (refl, (refl, refl)) refl first
+      (inl (saw_decided b.gtrid (and_parts (asked (is_commit_of b.gtrid)) _ backed).0))
   call_seen g b RollingBack text same is backed first =
-      only_rollback (codes "rollback") text b.gtrid (refl, refl) refl first (inl (saw_undone b.gtrid (and_parts (asked (is_rollback_of b.gtrid)) _ backed).0))
+      only_rollback (codes "rollback") text g b.gtrid (λ fit. same) (refl, refl) refl first
+      (inl (saw_undone b.gtrid (and_parts (asked (is_rollback_of b.gtrid)) _ backed).0))
   call_seen g b Undoing text same is backed first =
-      only_rollback (codes "undo") text b.gtrid (refl, refl) refl first (inl (saw_undone b.gtrid (and_parts (asked (is_rollback_of b.gtrid)) _ backed).0))
+      only_rollback (codes "undo") text g b.gtrid (λ fit. same) (refl, refl) refl first
+      (inl (saw_undone b.gtrid (and_parts (asked (is_rollback_of b.gtrid)) _ backed).0))
   call_seen g b Refusing text same is backed first =
-      only_rollback (codes "undo") text b.gtrid (refl, refl) refl first (inl (saw_undone b.gtrid (and_parts (asked (is_rollback_of b.gtrid)) _ backed).0))
-  call_seen g b Forgetting text same is backed first = nothing_told (codes "forget") text (refl, refl) (refl, (refl, refl)) refl first
+      only_rollback (codes "undo") text g b.gtrid (λ fit. same) (refl, refl) refl first
+      (inl (saw_undone b.gtrid (and_parts (asked (is_rollback_of b.gtrid)) _ backed).0))
+  call_seen g b Forgetting text same is backed first = nothing_told (codes "forget") text g (refl, refl) (refl, (refl, refl)) refl first
   call_seen g b Working text same is backed first = absurd (cc)
   call_seen g b Prepared text same is backed first = absurd (cc)
   call_seen g b Over text same is backed first = absurd (cc)
@@ -204,78 +216,148 @@ module _ {L : Type 0} (moment : L → Moment) (name : List ℕ) (handed : L) (o 
 
   -- by how it stands
   standing_seen : (g : Gtrid) (t : ℕ) (standing : NotedStanding) (text : List ℕ) → OutcomeRests asked g t standing → HasFirst (word_of standing) text
-      → ReplySeen text
+      → ReplySeen g text
   standing_seen g t standings.Committed text rests first =
-      let saw = saw_commit g t rests in only_commit (codes "committed") text saw.gtrid (refl, (refl, refl)) refl first saw.saw
+      let saw = saw_commit g t rests in only_commit (codes "committed") text g saw.gtrid saw.same (refl, (refl, refl)) refl first saw.saw
   standing_seen g t (standings.RolledBack why) text rests first =
-      let saw = saw_rollback g t rests in only_rollback (codes "rolled-back") text saw.gtrid (refl, refl) refl first saw.saw
+      let saw = saw_rollback g t rests in only_rollback (codes "rolled-back") text g saw.gtrid saw.same (refl, refl) refl first saw.saw
   standing_seen g t standings.Unknown text rests first =
-      let saw = saw_unknown g t rests in only_unknown (codes "unknown") text saw.gtrid (refl, refl) (refl, (refl, refl)) first saw.saw
-  standing_seen g t standings.Idle text rests first = nothing_told (codes "joined") text (refl, refl) (refl, (refl, refl)) refl first
-  standing_seen g t standings.Open text rests first = nothing_told (codes "joined") text (refl, refl) (refl, (refl, refl)) refl first
-  standing_seen g t standings.Ready text rests first = nothing_told (codes "joined") text (refl, refl) (refl, (refl, refl)) refl first
+      let saw = saw_unknown g t rests in only_unknown (codes "unknown") text g saw.gtrid saw.same (refl, refl) (refl, (refl, refl)) first saw.saw
+  standing_seen g t standings.Idle text rests first = nothing_told (codes "joined") text g (refl, refl) (refl, (refl, refl)) refl first
+  standing_seen g t standings.Open text rests first = nothing_told (codes "joined") text g (refl, refl) (refl, (refl, refl)) refl first
+  standing_seen g t standings.Ready text rests first = nothing_told (codes "joined") text g (refl, refl) (refl, (refl, refl)) refl first
 
-  told_seen : (t : Transaction) (text : List ℕ) → Rests asked t → TellsOf t text → ReplySeen text
+  told_seen : (t : Transaction) (text : List ℕ) → Rests asked t → TellsOf t text → ReplySeen t.gtrid text
   told_seen t text rests told_of = by (has_calls t) told_of
     where
-      by : (calls : Bool) → MatchBool calls (TellsCall t.parts.items text) (HasFirst (word_of t.standing) text) → ReplySeen text
+      by : (calls : Bool) → MatchBool calls (TellsCall t.parts.items text) (HasFirst (word_of t.standing) text) → ReplySeen t.gtrid text
       by true call =
           call_seen t.gtrid (branch_at t.gtrid t.thread call.part.rm) call.part.place text refl call.asked
           (All-contains (IsBacked asked t.gtrid t.thread) t.parts.items call.part rests.parts call.among) call.first
       by false first = standing_seen t.gtrid t.thread t.standing text rests.outcome first
 
-  reply_seen : (text : List ℕ) → IsReply asked text → ReplySeen text
-  reply_seen text (inl tells_so) = told_seen tells_so.transaction text tells_so.rests tells_so.tells
-  reply_seen text (inr (inl started)) = nothing_told (codes "started") text (refl, refl) (refl, (refl, refl)) refl started
-  reply_seen text (inr (inr error)) = nothing_told (codes "error") text (refl, refl) (refl, (refl, refl)) refl error
+  -- and of the transaction of the thread that moved
+  pub record PartSeen (noted : List Transaction) (part text : List ℕ) : Type 0 where
+    pub gtrid : Gtrid
+    pub moved : TellsOutcome text → IsMoved noted part gtrid
+    pub committed : TellsCommitted text → TellsCommit gtrid told
+    pub rolled_back : TellsRolledBack text → TellsRollback gtrid told
+    pub unknown : TellsUnknown text → LeavesUnknown gtrid told
+
+  no_outcome : (noted : List Transaction) (part v text : List ℕ) → is_no_commit v → is_no_rollback v → is_known v → HasFirst v text
+      → PartSeen noted part text
+  no_outcome noted part v text apart none known first = record {
+    gtrid = any_name;
+    moved = λ w.
+        elim w [
+          | inl commit ↦ absurd (no_commit v text apart first commit)
+          | inr other ↦
+              elim other [
+                | inl rollback ↦ absurd (no_rollback v text none first rollback)
+                | inr unknown ↦ absurd (no_unknown v text known first unknown)
+              ]
+        ];
+    committed = λ w. absurd (no_commit v text apart first w);
+    rolled_back = λ w. absurd (no_rollback v text none first w);
+    unknown = λ w. absurd (no_unknown v text known first w);
+  }
+    where
+      any_name : Gtrid
+      any_name = record { incarnation = 0; sequence = 0 }
+
+  -- the name is the one that was noted
+  name_noted : (noted : List Transaction) (t : ℕ) (text : List ℕ) (tells_so : TellsSo asked noted t text) (g : Gtrid)
+      → (is_gtrid tells_so.transaction.gtrid ≡ true → g ≡ tells_so.transaction.gtrid) → (d : Transaction)
+      → is_gtrid (get_or noted t d).gtrid ≡ true → g ≡ (get_or noted t d).gtrid
+  name_noted noted t text tells_so g same d fit =
+      let e : tells_so.transaction.gtrid ≡ (get_or noted t d).gtrid =
+      tells_so.name ∙ ap (λ (x : Transaction). x.gtrid) (get_or_default noted t tells_so.transaction d tells_so.among) in
+      same (subst (λ (h : Gtrid). is_gtrid h ≡ true) (sym e) fit) ∙ e
+
+  reply_in : (noted : List Transaction) (part : List ℕ) (thread : Option ℕ) (text : List ℕ) → thread_in part ≡ thread → IsReply asked noted thread text
+      → PartSeen noted part text
+  reply_in noted part (Some t) text at (inl tells_so) =
+      let saw = told_seen tells_so.transaction text tells_so.rests tells_so.tells in
+      record {
+        gtrid = saw.gtrid;
+        moved = λ w. record { thread = t; moves = at; among = tells_so.among; name = name_noted noted t text tells_so saw.gtrid saw.same };
+        committed = saw.committed;
+        rolled_back = saw.rolled_back;
+        unknown = saw.unknown;
+      }
+  reply_in noted part (Some t) text at (inr (inl started)) =
+      no_outcome noted part (codes "started") text (refl, refl) (refl, (refl, refl)) refl started
+  reply_in noted part (Some t) text at (inr (inr error)) = no_outcome noted part (codes "error") text (refl, refl) (refl, (refl, refl)) refl error
+  reply_in noted part None text at error = no_outcome noted part (codes "error") text (refl, refl) (refl, (refl, refl)) refl error
+
+  reply_seen : (noted : List Transaction) (part text : List ℕ) → IsReplyTo asked noted part text → PartSeen noted part text
+  reply_seen noted part text reply = reply_in noted part (thread_in part) text refl reply
 
 -- ** in one of the sessions
 
 module _ {L : Type 0} (moment : L → Moment) (name : List ℕ) where
-  record WasSeen (last : Option (Server L)) (f : Branch → Standing) (served : AreServed moment name last f) (text : List ℕ) : Type 0 where
+  record WasSeen (noted : List Transaction) (last : Option (Server L)) (f : Branch → Standing) (served : AreServed moment name last f) (part text : List ℕ)
+      : Type 0 where
     gtrid : Gtrid
+    moved : TellsOutcome text → IsMoved noted part gtrid
     committed : TellsCommitted text → WasToldCommitServed moment name gtrid last f served
     rolled_back : TellsRolledBack text → WasToldRollbackServed moment name gtrid last f served
     unknown : TellsUnknown text → WasLeftUnknown moment name gtrid last f served
 
-  record AreSeen (last : Option (Server L)) (f : Branch → Standing) (served : AreServed moment name last f) (text : List ℕ) : Type 0 where
+  record AreSeen (noted : List Transaction) (line text : List ℕ) (last : Option (Server L)) (f : Branch → Standing) (served : AreServed moment name last f)
+      : Type 0 where
     replies : List (List ℕ)
     are : text ≡ joined replies
-    each : All (WasSeen last f served) replies
+    each : ArePaired (WasSeen noted last f served) (parts_of line) replies
 
-  were_seen : (text : List ℕ) (last : Option (Server L)) (f : Branch → Standing) (served : AreServed moment name last f)
-      → WasReplied moment name text last f served → AreSeen last f served text
-  were_seen text _ _ NoneYet was = absurd was
-  were_seen text _ _ (OneMore last from to handed o told seen now left done cut before handed_on is is_left honest may) (inl replied) = record {
+  were_seen : (noted : List Transaction) (line text : List ℕ) (last : Option (Server L)) (f : Branch → Standing) (served : AreServed moment name last f)
+      → WasReplied moment name noted line text last f served → AreSeen noted line text last f served
+  were_seen noted line text _ _ NoneYet was = absurd was
+  were_seen noted line text _ _ (OneMore last from to handed o told seen now left done cut before handed_on is is_left honest may) (inl replied) = record {
     replies = replied.replies;
     are = replied.are;
     each =
-        All-weaker (IsReply (was_done (lines_read name is.lines) is.replies))
-        (WasSeen (Some left) to (OneMore last from to handed o told seen now left done cut before handed_on is is_left honest may))
-        (λ r reply.
-        let saw = reply_seen moment name handed o told now is r reply in
-        record { gtrid = saw.gtrid; committed = λ w. inl (saw.committed w); rolled_back = λ w. inl (saw.rolled_back w); unknown = λ w. inl (saw.unknown w) })
-        replied.replies replied.each;
+        paired_weaker (IsReplyTo (was_done (lines_read name is.lines) is.replies) noted)
+        (WasSeen noted (Some left) to (OneMore last from to handed o told seen now left done cut before handed_on is is_left honest may))
+        (λ part r reply.
+        let saw = reply_seen moment name handed o told now is noted part r reply in
+        record {
+          gtrid = saw.gtrid;
+          moved = saw.moved;
+          committed = λ w. inl (saw.committed w);
+          rolled_back = λ w. inl (saw.rolled_back w);
+          unknown = λ w. inl (saw.unknown w);
+        })
+        (parts_of line) replied.replies replied.each;
   }
-  were_seen text _ _ (OneMore last from to handed o told seen now left done cut before handed_on is is_left honest may) (inr earlier) =
-      let saw = were_seen text last from before earlier in
+  were_seen noted line text _ _ (OneMore last from to handed o told seen now left done cut before handed_on is is_left honest may) (inr earlier) =
+      let saw = were_seen noted line text last from before earlier in
       record {
         replies = saw.replies;
         are = saw.are;
         each =
-            All-weaker (WasSeen last from before)
-            (WasSeen (Some left) to (OneMore last from to handed o told seen now left done cut before handed_on is is_left honest may))
-            (λ r s. record { gtrid = s.gtrid; committed = λ w. inr (s.committed w); rolled_back = λ w. inr (s.rolled_back w); unknown = λ w. inr (s.unknown w) })
-            saw.replies saw.each;
+            paired_weaker (WasSeen noted last from before)
+            (WasSeen noted (Some left) to (OneMore last from to handed o told seen now left done cut before handed_on is is_left honest may))
+            (λ part r s.
+            record {
+              gtrid = s.gtrid;
+              moved = s.moved;
+              committed = λ w. inr (s.committed w);
+              rolled_back = λ w. inr (s.rolled_back w);
+              unknown = λ w. inr (s.unknown w);
+            })
+            (parts_of line) saw.replies saw.each;
       }
-  were_seen text _ _ (Between last from to d how before was_prepared final) was =
-      let saw = were_seen text last from before was in
+  were_seen noted line text _ _ (Between last from to d how before was_prepared final) was =
+      let saw = were_seen noted line text last from before was in
       record {
         replies = saw.replies;
         are = saw.are;
         each =
-            All-weaker (WasSeen last from before) (WasSeen last to (Between last from to d how before was_prepared final))
-            (λ r s. record { gtrid = s.gtrid; committed = s.committed; rolled_back = s.rolled_back; unknown = s.unknown }) saw.replies saw.each;
+            paired_weaker (WasSeen noted last from before) (WasSeen noted last to (Between last from to d how before was_prepared final))
+            (λ part r s.
+            record { gtrid = s.gtrid; moved = s.moved; committed = s.committed; rolled_back = s.rolled_back; unknown = s.unknown })
+            (parts_of line) saw.replies saw.each;
       }
 
   -- ** what is noted
@@ -328,23 +410,24 @@ module _ {L : Type 0} (moment : L → Moment) (commits : ServedCommitStands mome
       record { each = commits name (Some last) f served g told; row_stays = row_stays name last f c served g left told }
 
   pub replies_true : RepliesAreTrue moment
-  replies_true name last f c served text left was =
-      let saw = were_seen moment name text (Some last) f served was in
+  replies_true name last f c served noted line text left was =
+      let saw = were_seen moment name noted line text (Some last) f served was in
       record {
         replies = saw.replies;
         are = saw.are;
         each =
-            All-weaker (WasSeen moment name (Some last) f served) (ReplyIsSo moment name (Some last) f served c)
-            (λ r s.
+            paired_weaker (WasSeen moment name noted (Some last) f served) (ReplyIsSo moment name (Some last) f served c noted)
+            (λ part r s.
             record {
               gtrid = s.gtrid;
+              moved = s.moved;
               committed = λ w. committed_there name last f c served s.gtrid left (s.committed w);
               rolled_back = λ w. rolls_back name (Some last) f served s.gtrid (s.rolled_back w);
               unknown = s.unknown;
               alone = λ w.
                   is_alone name (Some last) f served s.gtrid (unknown_handed moment name s.gtrid (Some last) f served (s.unknown w));
             })
-            saw.replies saw.each;
+            (parts_of line) saw.replies saw.each;
       }
 
   pub notes_true : NotesAreTrue moment

@@ -1,14 +1,16 @@
 -- A conducted session is one that is served, and its lines are what the conductor's replies and
 -- notes rest on.
-use Rattle.std.proofs.Common.{◌≡◌, inl, inr, ℕ, Bool, true, false, List, [], subst, sym}
+use Rattle.std.proofs.Common.{◌≡◌, inl, inr, ℕ, Bool, true, false, List, [], Option, Some, None, subst, sym}
 use Rattle.std.proofs.lemmas.Bool.{false≢true, or_cases}
-use Rattle.std.proofs.lemmas.List.Elements.{All-weaker}
 use Rattle.std.specs.List.{list_any}
 use Rattle.std.specs.Prelude.{All}
 use Rattle.xa_conduct.proofs.BackingLemmas.{all_rest_more, rests_more}
+use Rattle.xa_conduct.proofs.MoveLemmas.{paired_weaker}
 use Rattle.xa_conduct.specs.Acting.{Acts, done_of}
 use Rattle.xa_conduct.specs.Backing.{Rests, was_asked}
-use Rattle.xa_conduct.specs.Told.{AreReplies, IsReply}
+use Rattle.xa_conduct.specs.Moves.{parts_of, thread_in}
+use Rattle.xa_conduct.specs.Told.{AreReplies, IsReply, IsReplyTo}
+use Rattle.xa_conduct.specs.declared.transaction.Transaction.{Transaction}
 use Rattle.xa_log.specs.Contract.{Moment}
 use Rattle.xa_requests.specs.declared.request.Request.{Request}
 use Rattle.xa_requests.specs.declared.response.Response.{Response}
@@ -27,16 +29,24 @@ lines_asked done lines replies asked p e =
     elim (or_cases (list_any p done) false e) [ inl was ↦ asked p was | inr none ↦ absurd (false≢true none) ]
 
 module _ (asked more : (Request → Bool) → Bool) (keeps : (p : Request → Bool) → asked p ≡ true → more p ≡ true) where
-  reply_more : (text : List ℕ) → IsReply asked text → IsReply more text
-  reply_more text (inl tells) =
-      inl (record { transaction = tells.transaction; rests = rests_more asked more keeps tells.transaction tells.rests; tells = tells.tells })
-  reply_more text (inr other) = inr other
+  reply_more : (noted : List Transaction) (thread : Option ℕ) (text : List ℕ) → IsReply asked noted thread text → IsReply more noted thread text
+  reply_more noted (Some t) text (inl tells) =
+      inl (record {
+        transaction = tells.transaction;
+        among = tells.among;
+        name = tells.name;
+        rests = rests_more asked more keeps tells.transaction tells.rests;
+        tells = tells.tells;
+      })
+  reply_more noted (Some t) text (inr other) = inr other
+  reply_more noted None text error = error
 
-  replies_more : (text : List ℕ) → AreReplies asked text → AreReplies more text
-  replies_more text are = record {
+  replies_more : (noted : List Transaction) (line text : List ℕ) → AreReplies asked noted line text → AreReplies more noted line text
+  replies_more noted line text are = record {
     replies = are.replies;
     are = are.are;
-    each = All-weaker (IsReply asked) (IsReply more) reply_more are.replies are.each;
+    each =
+        paired_weaker (IsReplyTo asked noted) (IsReplyTo more noted) (λ part r. reply_more noted (thread_in part) r) (parts_of line) are.replies are.each;
   }
 
 module _ {L : Type 0} (moment : L → Moment) (seen : ServedSessionsAreSeen moment) where
@@ -73,13 +83,15 @@ module _ {L : Type 0} (moment : L → Moment) (seen : ServedSessionsAreSeen mome
   )
 
   pub turns_served : TurnsAreServed moment
-  turns_served threads rms handed first now old new text starts conducts turns moves on =
+  turns_served threads rms handed first now old new line text starts conducts turns moves on =
       let turned = turns first conducts in
       let done = turned.0.done in
       let acts = on done first turned.0.acts in
-      session_of threads rms handed first now done acts (λ lines replies. AreReplies (was_done lines replies) text) starts
+      let noted = old.notes.transactions.items in
+      session_of threads rms handed first now done acts (λ lines replies. AreReplies (was_done lines replies) noted line text) starts
       (elim turned.1 [
-        | inl told ↦ replies_more (was_asked done []) (was_done acts.lines acts.replies) (lines_asked done acts.lines acts.replies acts.asked) text told
+        | inl told ↦
+            replies_more (was_asked done []) (was_done acts.lines acts.replies) (lines_asked done acts.lines acts.replies acts.asked) noted line text told
         | inr none ↦ absurd (moves none)
       ])
 

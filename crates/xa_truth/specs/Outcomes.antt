@@ -1,5 +1,5 @@
 -- What a conductor tells of outcomes is so, after all sessions.
-use Rattle.std.specs.Prelude.{◌≡◌, ◌⊎◌, ℕ, Bool, true, All, List, Option, Some, is_some}
+use Rattle.std.specs.Prelude.{◌≡◌, ◌<◌, ◌⊎◌, ℕ, Bool, true, List, Option, Some, get_or, is_some, length}
 use Rattle.std.specs.FinMap.{get}
 use Rattle.std.specs.List.{list_any}
 use Rattle.xa_base.specs.declared.branch.Branch.{Branch}
@@ -8,6 +8,7 @@ use Rattle.xa_base.specs.declared.state.Standing.{Standing}
 use Rattle.xa_base.specs.declared.state.Standing.TheVariants.{Prepared}
 use Rattle.xa_conduct.specs.Acting.{done_of}
 use Rattle.xa_conduct.specs.Backing.{Rests}
+use Rattle.xa_conduct.specs.Moves.{ArePaired, parts_of, thread_in}
 use Rattle.xa_conduct.specs.Plain.{is_gtrid}
 use Rattle.xa_conduct.specs.Told.{AreReplies, joined}
 use Rattle.xa_conduct.specs.declared.transaction.Standing.{Standing as NotedStanding}
@@ -22,7 +23,7 @@ use Rattle.xa_server.specs.NamedLines.{lines_read}
 use Rattle.xa_server.specs.Sessions.{AreServed, AreServed.Between, AreServed.NoneYet, AreServed.OneMore}
 use Rattle.xa_server.specs.declared.server.Server.{Server}
 use Rattle.xa_session.specs.Logging.{LeavesContent}
-use Rattle.xa_truth.specs.Replies.{TellsCommitted, TellsRolledBack, TellsUnknown}
+use Rattle.xa_truth.specs.Replies.{TellsCommitted, TellsOutcome, TellsRolledBack, TellsUnknown}
 use Rattle.xa_truth.specs.Unknown.{WasLeftUnknown}
 
 -- ** how a transaction ends
@@ -33,6 +34,16 @@ pub record IsCommittedInLog (f : Branch → Standing) (log : Content) (g : Gtrid
   pub each : (b : Branch) → b.gtrid ≡ g → MayStandCommitted (f b)
   pub row_stays : (b : Branch) → b.gtrid ≡ g → f b ≡ Prepared → is_some (get log.decisions g) ≡ true
 
+-- ** of which transaction a reply tells
+
+-- The part of a line is a move of a thread, and the transaction that was noted of this thread has this name, if the numbers of the name that was
+-- noted fit their types.
+pub record IsMoved (noted : List Transaction) (part : List ℕ) (g : Gtrid) : Type 0 where
+  pub thread : ℕ
+  pub moves : thread_in part ≡ Some thread
+  pub among : thread < length noted
+  pub name : (d : Transaction) → is_gtrid (get_or noted thread d).gtrid ≡ true → g ≡ (get_or noted thread d).gtrid
+
 -- ** what a session rests on
 
 -- a request that passes was asked for by one of these lines, and done
@@ -40,13 +51,14 @@ abbrev pub was_done : List (List ℕ) → List Response → (Request → Bool) �
 was_done lines replies p = list_any p (done_of lines replies)
 
 module _ {L : Type 0} (moment : L → Moment) (name : List ℕ) where
-  -- A conductor told this in one of these sessions: the reply to a line of moves, which rests on
-  -- what lines of the session asked for, and was done.
-  abbrev pub WasReplied : (text : List ℕ) (last : Option (Server L)) (f : Branch → Standing) → AreServed moment name last f → Type 0
-  WasReplied text _ _ NoneYet = ⊥
-  WasReplied text _ _ (OneMore last from to handed o told seen now left done cut before handed_on is is_left honest may) =
-      AreReplies (was_done (lines_read name is.lines) is.replies) text ⊎ WasReplied text last from before
-  WasReplied text _ _ (Between last from to d how before was final) = WasReplied text last from before
+  -- A conductor that had noted these transactions was told a line of moves in one of these sessions, and replied so, which rests on what lines of
+  -- the session asked for, and was done.
+  abbrev pub WasReplied : (noted : List Transaction) (line text : List ℕ) (last : Option (Server L)) (f : Branch → Standing)
+      → AreServed moment name last f → Type 0
+  WasReplied noted line text _ _ NoneYet = ⊥
+  WasReplied noted line text _ _ (OneMore last from to handed o told seen now left done cut before handed_on is is_left honest may) =
+      AreReplies (was_done (lines_read name is.lines) is.replies) noted line text ⊎ WasReplied noted line text last from before
+  WasReplied noted line text _ _ (Between last from to d how before was final) = WasReplied noted line text last from before
 
   -- It noted this of a transaction, which rests on the same.
   abbrev pub WasNoted : Transaction → (last : Option (Server L)) (f : Branch → Standing) → AreServed moment name last f → Type 0
@@ -58,21 +70,22 @@ module _ {L : Type 0} (moment : L → Moment) (name : List ℕ) where
   -- ** what is so
 
   module _ (last : Option (Server L)) (f : Branch → Standing) (served : AreServed moment name last f) (log : Content) where
-    -- What a reply to a move tells of a transaction is so: that it is committed, and so none of its
+    -- What a reply to a move tells is so of the transaction of the thread that moved: that it is committed, and so none of its
     -- branches is rolled back or lost; that it is rolled back, and so none is committed; or that
     -- nobody knows, and its one branch was to be committed in one phase on a line that was lost.
-    pub record ReplyIsSo (text : List ℕ) : Type 0 where
+    pub record ReplyIsSo (noted : List Transaction) (part text : List ℕ) : Type 0 where
       pub gtrid : Gtrid
+      pub moved : TellsOutcome text → IsMoved noted part gtrid
       pub committed : TellsCommitted text → IsCommittedInLog f log gtrid
       pub rolled_back : TellsRolledBack text → HasNoCommit f gtrid
       pub unknown : TellsUnknown text → WasLeftUnknown moment name gtrid last f served
       pub alone : TellsUnknown text → HasOneBranch f gtrid
 
-    -- what each of the replies to a line tells
-    pub record RepliesAreSo (text : List ℕ) : Type 0 where
+    -- what each of the replies to a line tells, of which there is one to each of its parts, in their order
+    pub record RepliesAreSo (noted : List Transaction) (line text : List ℕ) : Type 0 where
       pub replies : List (List ℕ)
       pub are : text ≡ joined replies
-      pub each : All ReplyIsSo replies
+      pub each : ArePaired (ReplyIsSo noted) (parts_of line) replies
 
     -- and so is how it is noted that a transaction stands
     abbrev pub NoteIsSo : Gtrid → NotedStanding → Type 0
@@ -87,9 +100,9 @@ module _ {L : Type 0} (moment : L → Moment) (name : List ℕ) where
 -- branches then stand. Sessions may go on, so it is so for ever.
 abbrev pub RepliesAreTrue : {L : Type 0} → (L → Moment) → Type 0
 RepliesAreTrue {L} moment =
-    (name : List ℕ) (last : Server L) (f : Branch → Standing) (c : Content) (served : AreServed moment name (Some last) f) (text : List ℕ)
-    → LeavesContent moment last.session.manager c → WasReplied moment name text (Some last) f served
-    → RepliesAreSo moment name (Some last) f served c text
+    (name : List ℕ) (last : Server L) (f : Branch → Standing) (c : Content) (served : AreServed moment name (Some last) f)
+    (noted : List Transaction) (line text : List ℕ) → LeavesContent moment last.session.manager c
+    → WasReplied moment name noted line text (Some last) f served → RepliesAreSo moment name (Some last) f served c noted line text
 
 -- The same of what it noted of any transaction, if the numbers of its name fit their types.
 abbrev pub NotesAreTrue : {L : Type 0} → (L → Moment) → Type 0

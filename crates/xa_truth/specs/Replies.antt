@@ -13,3 +13,7 @@ TellsRolledBack text = HasFirst (codes "rolled-back") text ⊎ (HasFirst (codes 
 -- that nobody knows its outcome
 abbrev pub TellsUnknown : List ℕ → Type 0
 TellsUnknown text = HasFirst (codes "unknown") text
+
+-- one of these
+abbrev pub TellsOutcome : List ℕ → Type 0
+TellsOutcome text = TellsCommitted text ⊎ (TellsRolledBack text ⊎ TellsUnknown text)

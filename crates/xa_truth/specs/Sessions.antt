@@ -37,13 +37,14 @@ module _ {L : Type 0} (moment : L → Moment) where
       × ((name : List ℕ) (lines : List (List ℕ)) → lines_read name lines ≡ acts.lines → list_any is_log_fault acts.replies ≡ false
       → (o : Origin) → BeginsWith threads rms first.session.manager o → IsSessionOf name handed o lines acts.replies now Holds))
 
-  -- What its replies to a line tell, by which a transaction moved, rests on these; whatever it did
-  -- since.
+  -- What its replies to a line tell, by which a transaction moved, rests on these, and is told of the transactions that were noted of the threads
+  -- that moved; whatever it did since.
   abbrev pub TurnsAreServed : Type 0
   TurnsAreServed =
-      (threads rms : ℕ) (handed : L) (first now : Server L) (old new : Conductor L) (text : List ℕ) → StartsOver moment threads rms handed first
-      → Conducts moment first old → TurnsSo moment old new text → (MovesNone moment old new → ⊥) → GoesOn moment new.server now
-      → IsServedWith threads rms handed first now (λ lines replies. AreReplies (was_done lines replies) text)
+      (threads rms : ℕ) (handed : L) (first now : Server L) (old new : Conductor L) (line text : List ℕ)
+      → StartsOver moment threads rms handed first → Conducts moment first old → TurnsSo moment old new line text → (MovesNone moment old new → ⊥)
+      → GoesOn moment new.server now
+      → IsServedWith threads rms handed first now (λ lines replies. AreReplies (was_done lines replies) old.notes.transactions.items line text)
 
   -- And so does what it notes of each transaction, unless nothing is told any more.
   abbrev pub NotesAreServed : Type 0

@@ -1,11 +1,13 @@
 //! What follows from a line of moves: decisions, rows that leave the log, transactions that begin, and the replies.
 
-ghost use Rattle.std.specs.Prelude.{◌≡◌, ◌≤◌, ◌++◌, ◌∷◌, [], true, false, length, All, Bool, IfOk, string_bytes};
+ghost use Rattle.std.specs.Prelude.{◌≡◌, ◌==◌, ◌≤◌, ◌++◌, ◌∷◌, [], true, false, length};
+ghost use Rattle.std.specs.Prelude.{ℕ, All, Bool, IfOk, string_bytes};
 ghost use Rattle.std.specs.List.{list_any};
 ghost use Rattle.xa_conduct.specs.Backing.{KeepResting, KeepsRest, Rests};
 ghost use Rattle.xa_conduct.specs.Decided.{AsksNoLess, is_same};
+ghost use Rattle.xa_conduct.specs.Moves.{AreOnce, is_of};
 ghost use Rattle.xa_conduct.specs.Progress.{AllStep};
-ghost use Rattle.xa_conduct.specs.Told.{Adds, AreReplies, IsBehindWord, IsReply};
+ghost use Rattle.xa_conduct.specs.Told.{Adds, AreTold, IsBehindWord, IsSameAt, IsToldBy};
 ghost use Rattle.xa_conduct.specs.Turns.{AllPass, IsSaid, Passes, SaysAll};
 ghost use Rattle.xa_conduct.specs.declared.notes.Reply.{Reply};
 ghost use Rattle.xa_conduct.specs.declared.notes.Reply.TheVariants as Replies;
@@ -141,6 +143,7 @@ impl Notes {
 
     /// The replies to the moves of a line.
     pub fn reply(&mut self, replies: &[Reply], nexts: &[Option<Gtrid>]) -> Result<String, Memory>
+        requires { AreOnce replies.now }
         ensures rests { IfOk result (λ _. KeepsRest self.old.transactions.items
             self.new.transactions.items) }
         ensures passes { IfOk result (λ _. AllPass self.old.transactions.items
@@ -148,7 +151,7 @@ impl Notes {
         ensures said { IfOk result (λ text. SaysAll replies.now (string_bytes text)) }
         ensures tells { IfOk result (λ text. (asked : (Request → Bool) → Bool) →
             All (Rests asked) self.old.transactions.items →
-            AreReplies asked (string_bytes text)) }
+            AreTold asked self.old.transactions.items replies.now (string_bytes text)) }
     {
         let mut text = String::new(self.alloc);
         let mut nexts = nexts.iter();
@@ -178,9 +181,12 @@ impl Notes {
             self.new.transactions.items) }
         ensures said { IfOk result (λ _. Adds (IsSaid reply)
             (string_bytes text.old) (string_bytes text.new)) }
+        ensures others { IfOk result (λ _. (t : ℕ) → is_of t reply ≡ false →
+            IsSameAt t self.old.transactions.items self.new.transactions.items) }
         ensures tells { IfOk result (λ _. (asked : (Request → Bool) → Bool) →
             All (Rests asked) self.old.transactions.items →
-            Adds (IsReply asked) (string_bytes text.old) (string_bytes text.new)) }
+            Adds (IsToldBy asked self.old.transactions.items reply)
+                (string_bytes text.old) (string_bytes text.new)) }
     {
         match reply {
             Reply::Thread(thread) => self.add_thread(text, thread, next),
@@ -216,9 +222,12 @@ impl Notes {
             self.new.transactions.items) }
         ensures said { IfOk result (λ _. (reply : Reply) → reply ≡ Replies.Thread thread →
             Adds (IsSaid reply) (string_bytes text.old) (string_bytes text.new)) }
+        ensures others { IfOk result (λ _. (t : ℕ) → (t == thread) ≡ false →
+            IsSameAt t self.old.transactions.items self.new.transactions.items) }
         ensures tells { IfOk result (λ _. (asked : (Request → Bool) → Bool) →
             All (Rests asked) self.old.transactions.items →
-            Adds (IsReply asked) (string_bytes text.old) (string_bytes text.new)) }
+            Adds (IsToldBy asked self.old.transactions.items (Replies.Thread thread))
+                (string_bytes text.old) (string_bytes text.new)) }
     {
         let Some(transaction) = self.transactions.get_mut(thread as usize) else {
             text.push_str("error not now")?;

@@ -2,20 +2,28 @@ use Rattle.std.proofs.Common.{List, ap, inl, inr, rules, subst, sym}
 use Rattle.std.specs.Prelude.{All, string_bytes}
 use Rattle.xa_requests.specs.declared.request.Request.{Request}
 use Rattle.xa_conduct.proofs.ConductLemmas.{moves_told, ok_all, rest_stays, stops_told}
+use Rattle.xa_conduct.proofs.MoveLemmas.{line_replied}
 use Rattle.xa_conduct.proofs.TurnLemmas.{line_steps}
 use Rattle.xa_conduct.specs.Backing.{Rests, was_asked}
+use Rattle.xa_conduct.specs.Told.{AreTold}
 use Rattle.xa_conduct.specs.Turns.{SaysAll}
 use Rattle.xa_conduct.specs.declared.notes.Reply.{Reply}
 use Rattle.xa_conduct.proofs.conductor.Conductor.move_threads.Goals as goal
 
 pub returns-clause-rests : goal.returns-clause-rests
-returns-clause-rests g c =
+returns-clause-rests g c = λ line read.
     let s = c.args.self.now in
+    let told = c.in_ok-replies.replies.items in
     let taken = c.take_all.new in
     let decided = c.decide.new in
     let finished = c.finish.new in
     let begun = c.begin_next.new in
-    moves_told g.L.DecisionLog.moment s _ begun.plan.requests.items begun.self.transactions.items (string_bytes c.in_ok-text.text) c.requires.going
+    let steps =
+    line_steps told s.notes.transactions.items taken.self.transactions.items decided.self.transactions.items finished.self.transactions.items
+    begun.self.transactions.items c.in_ok-replies.ensures.steps c.in_ok-decide.ensures.steps (ap (λ v. v.items) c.finish.ensures.same)
+    (ap (λ v. v.items) c.begin_next.ensures.same) in
+    let text = string_bytes c.in_ok-text.text in
+    moves_told g.L.DecisionLog.moment s _ begun.plan.requests.items begun.self.transactions.items line text c.requires.going
     (λ past rest.
     let first = subst (λ (plan : List Request). All (Rests (was_asked past plan)) s.notes.transactions.items) (sym c.new-plan.ensures) rest in
     rest_stays past finished.plan.requests.items begun.plan.requests.items finished.self.transactions.items begun.self.transactions.items
@@ -23,13 +31,19 @@ returns-clause-rests g c =
     (rest_stays past decided.plan.requests.items finished.plan.requests.items decided.self.transactions.items finished.self.transactions.items
     c.in_ok-finish.ensures.more (ap (λ v. v.items) c.finish.ensures.same)
     (c.in_ok-decide.ensures.rests past (c.in_ok-replies.ensures.rests past first))))
-    c.in_ok-text.ensures.rests c.in_ok-text.ensures.tells (c.ask_all.ensures.done (search rules))
+    c.in_ok-text.ensures.rests
+    (λ asked rest.
+    line_replied asked s.notes.transactions.items begun.self.transactions.items line text c.args.moves.now told read c.in_ok-replies.ensures.threads
+    c.in_ok-replies.ensures.once steps
+    (subst (λ (rs : List Reply). AreTold asked begun.self.transactions.items rs text) c.as_slice-4.ensures.value
+    (c.in_ok-text.ensures.tells asked rest)))
+    (c.ask_all.ensures.done (search rules))
 
 pub returns-then-not-ask_all-clause-rests : goal.returns-then-not-ask_all-clause-rests
 returns-then-not-ask_all-clause-rests g c =
     ok_all c.stop.result _
-    (λ text.
-    stops_told g.L.DecisionLog.moment c.args.self.now c.stop.new.self (string_bytes text) c.stop.ensures.stopped
+    (λ text line read.
+    stops_told g.L.DecisionLog.moment c.args.self.now c.stop.new.self line (string_bytes text) c.stop.ensures.stopped
     (λ done first acts. c.stop.ensures.acts done first (c.ask_all.ensures.acts done first acts)))
 
 pub returns-clause-steps : goal.returns-clause-steps

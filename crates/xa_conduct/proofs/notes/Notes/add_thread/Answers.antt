@@ -1,10 +1,12 @@
-use Rattle.std.proofs.Common.{Bool, false, arith, refl, subst, sym}
+use Rattle.std.proofs.Common.{◌∙◌, ◌<◌, Bool, false, ap, arith, length, refl, subst, sym}
+use Rattle.std.proofs.lemmas.List.{get_or_default}
 use Rattle.std.specs.Prelude.{All, string_bytes}
 use Rattle.xa_requests.specs.declared.request.Request.{Request}
 use Rattle.xa_conduct.proofs.BackingLemmas.{rest_begun}
 use Rattle.xa_conduct.proofs.ToldLemmas.{told_thread}
 use Rattle.xa_conduct.proofs.TurnLemmas.{all_pass_set, passes_moved, said_thread}
 use Rattle.xa_conduct.specs.Backing.{Rests}
+use Rattle.xa_conduct.specs.declared.transaction.Transaction.{Transaction}
 use Rattle.xa_conduct.proofs.notes.Notes.add_thread.Goals as goal
 
 pub returns-clause-rests : goal.returns-clause-rests
@@ -19,8 +21,12 @@ returns-clause-tells c = λ asked rest.
     let t = c.in-Some.transaction.now in
     let here : Rests asked t =
     subst (Rests asked) (sym c.in-Some.ensures.value) (rest c.args.thread t (omega (arith, c.in-Some.ensures.variant.0 refl))) in
-    told_thread asked (record t { has_moved = false }) (string_bytes c.args.text.now) (string_bytes c.add_told.new.text)
-    (string_bytes c.add_begun.new.text) here c.in_ok-add_told.ensures c.in_ok-add_begun.ensures.adds
+    let ts = c.args.self.now.transactions.items in
+    let within : c.args.thread < length ts = omega (arith, c.in-Some.ensures.variant.0 refl) in
+    let told = record t { has_moved = false } in
+    told_thread asked ts c.args.thread told (string_bytes c.args.text.now) (string_bytes c.add_told.new.text) (string_bytes c.add_begun.new.text) within
+    (ap (λ (x : Transaction). x.gtrid) (c.in-Some.ensures.value ∙ get_or_default ts c.args.thread t told within)) here c.in_ok-add_told.ensures
+    c.in_ok-add_begun.ensures.adds
 
 pub returns-clause-passes : goal.returns-clause-passes
 returns-clause-passes c =
