@@ -144,7 +144,8 @@ module _ {L : Type 0} (moment : L → Moment) (name : List ℕ) (handed : L) (o 
 
   -- ** a reply
 
-  -- what it tells of the transaction was seen, perhaps under another name if the numbers of this one don't fit their types
+  -- what it tells of the transaction was seen, perhaps under another name if the numbers of this
+  -- one don't fit their types
   pub record ReplySeen (g : Gtrid) (text : List ℕ) : Type 0 where
     pub gtrid : Gtrid
     pub same : is_gtrid g ≡ true → gtrid ≡ g

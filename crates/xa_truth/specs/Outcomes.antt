@@ -36,8 +36,8 @@ pub record IsCommittedInLog (f : Branch → Standing) (log : Content) (g : Gtrid
 
 -- ** of which transaction a reply tells
 
--- The part of a line is a move of a thread, and the transaction that was noted of this thread has this name, if the numbers of the name that was
--- noted fit their types.
+-- The part of a line is a move of a thread, and the transaction that was noted of this thread has
+-- this name, if the numbers of the name that was noted fit their types.
 pub record IsMoved (noted : List Transaction) (part : List ℕ) (g : Gtrid) : Type 0 where
   pub thread : ℕ
   pub moves : thread_in part ≡ Some thread
@@ -51,8 +51,8 @@ abbrev pub was_done : List (List ℕ) → List Response → (Request → Bool) �
 was_done lines replies p = list_any p (done_of lines replies)
 
 module _ {L : Type 0} (moment : L → Moment) (name : List ℕ) where
-  -- A conductor that had noted these transactions was told a line of moves in one of these sessions, and replied so, which rests on what lines of
-  -- the session asked for, and was done.
+  -- A conductor that had noted these transactions was told a line of moves in one of these
+  -- sessions, and replied so, which rests on what lines of the session asked for, and was done.
   abbrev pub WasReplied : (noted : List Transaction) (line text : List ℕ) (last : Option (Server L)) (f : Branch → Standing)
       → AreServed moment name last f → Type 0
   WasReplied noted line text _ _ NoneYet = ⊥
@@ -70,9 +70,10 @@ module _ {L : Type 0} (moment : L → Moment) (name : List ℕ) where
   -- ** what is so
 
   module _ (last : Option (Server L)) (f : Branch → Standing) (served : AreServed moment name last f) (log : Content) where
-    -- What a reply to a move tells is so of the transaction of the thread that moved: that it is committed, and so none of its
-    -- branches is rolled back or lost; that it is rolled back, and so none is committed; or that
-    -- nobody knows, and its one branch was to be committed in one phase on a line that was lost.
+    -- What a reply to a move tells is so of the transaction of the thread that moved: that it is
+    -- committed, and so none of its branches is rolled back or lost; that it is rolled back, and so
+    -- none is committed; or that nobody knows, and its one branch was to be committed in one phase
+    -- on a line that was lost.
     pub record ReplyIsSo (noted : List Transaction) (part text : List ℕ) : Type 0 where
       pub gtrid : Gtrid
       pub moved : TellsOutcome text → IsMoved noted part gtrid
@@ -81,7 +82,8 @@ module _ {L : Type 0} (moment : L → Moment) (name : List ℕ) where
       pub unknown : TellsUnknown text → WasLeftUnknown moment name gtrid last f served
       pub alone : TellsUnknown text → HasOneBranch f gtrid
 
-    -- what each of the replies to a line tells, of which there is one to each of its parts, in their order
+    -- what each of the replies to a line tells, of which there is one to each of its parts, in
+    -- their order
     pub record RepliesAreSo (noted : List Transaction) (line text : List ℕ) : Type 0 where
       pub replies : List (List ℕ)
       pub are : text ≡ joined replies

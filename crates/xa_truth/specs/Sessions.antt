@@ -37,8 +37,8 @@ module _ {L : Type 0} (moment : L → Moment) where
       × ((name : List ℕ) (lines : List (List ℕ)) → lines_read name lines ≡ acts.lines → list_any is_log_fault acts.replies ≡ false
       → (o : Origin) → BeginsWith threads rms first.session.manager o → IsSessionOf name handed o lines acts.replies now Holds))
 
-  -- What its replies to a line tell, by which a transaction moved, rests on these, and is told of the transactions that were noted of the threads
-  -- that moved; whatever it did since.
+  -- What its replies to a line tell, by which a transaction moved, rests on these, and is told of
+  -- the transactions that were noted of the threads that moved; whatever it did since.
   abbrev pub TurnsAreServed : Type 0
   TurnsAreServed =
       (threads rms : ℕ) (handed : L) (first now : Server L) (old new : Conductor L) (line text : List ℕ)
