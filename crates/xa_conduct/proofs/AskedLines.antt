@@ -52,7 +52,7 @@ use Rattle.xa_requests.specs.declared.request.Request.TheVariants as requests
 use Rattle.xa_requests.proofs.SpaceLemmas.{NoSpace, cut_word, decimal_text, last_word}
 use Rattle.xa_requests.specs.Spellings.{CodesHaveOneSpelling, IndexesHaveOneSpelling, IntegersHaveOneSpelling, KindsHaveOneSpelling, TransactionsHaveOneSpelling, XidsHaveOneSpelling}
 use Rattle.xa_server.specs.Lines.{asked_in}
-use Rattle.xa_conduct.specs.Plain.{HasLine, are_few, is_branch, is_gtrid, is_number, is_on_branch, is_open, is_own, is_plain, is_plain_answer, is_plain_call, is_recover, is_that_of}
+use Rattle.xa_conduct.specs.Plain.{IsAskedInLine, are_few, is_branch, is_gtrid, is_number, is_on_branch, is_open_call, is_own, is_plain, is_plain_answer, is_plain_call, is_recover, is_that_of}
 
 -- ** words
 
@@ -290,14 +290,14 @@ module _ (laws : Spelled) where
   verb : (w : Word) → list_all is_plain_byte w ≡ true → length w ≤ 51 → IsWord w
   verb w h short = plain_word w h short
 
-  by_words : (w : Word) (ws : List Word) (request : Request) → AreWords (w ∷ ws) → length ws ≤ 1250 → request_in (w ∷ ws) ≡ Some request → HasLine request
+  by_words : (w : Word) (ws : List Word) (request : Request) → AreWords (w ∷ ws) → length ws ≤ 1250 → request_in (w ∷ ws) ≡ Some request → IsAskedInLine request
   by_words w ws request are few reads = (line_of (w ∷ ws), asked w ws request are few reads)
 
   begins_read : (t : ℕ) → t < 2 ^ 32 → request_in (codes "begin" ∷ decimal t ∷ []) ≡ Some (requests.Begin t)
   unfolding request_in
   begins_read t ht = ap (option_and_then (λ n. Some (requests.Begin n))) (number_named t ht)
 
-  begins : (t : ℕ) → t < 2 ^ 32 → HasLine (requests.Begin t)
+  begins : (t : ℕ) → t < 2 ^ 32 → IsAskedInLine (requests.Begin t)
   begins t ht =
       by_words (codes "begin") (decimal t ∷ []) (requests.Begin t) (verb (codes "begin") refl (omega arith), (number_word t ht, tt)) (omega arith) (begins_read t ht)
 
@@ -305,7 +305,7 @@ module _ (laws : Spelled) where
   unfolding request_in
   resolves_read r hr = ap (option_and_then (λ n. Some (requests.Resolve n))) (number_named r hr)
 
-  resolves : (r : ℕ) → r < 2 ^ 32 → HasLine (requests.Resolve r)
+  resolves : (r : ℕ) → r < 2 ^ 32 → IsAskedInLine (requests.Resolve r)
   resolves r hr =
       by_words (codes "resolve") (decimal r ∷ []) (requests.Resolve r) (verb (codes "resolve") refl (omega arith), (number_word r hr, tt)) (omega arith) (resolves_read r hr)
 
@@ -313,7 +313,7 @@ module _ (laws : Spelled) where
   unfolding request_in
   owes_read r hr = ap (option_and_then (λ n. Some (requests.Owed n))) (number_named r hr)
 
-  owes : (r : ℕ) → r < 2 ^ 32 → HasLine (requests.Owed r)
+  owes : (r : ℕ) → r < 2 ^ 32 → IsAskedInLine (requests.Owed r)
   owes r hr = by_words (codes "owed") (decimal r ∷ []) (requests.Owed r) (verb (codes "owed") refl (omega arith), (number_word r hr, tt)) (omega arith) (owes_read r hr)
 
   two_numbers : (t r : ℕ) → t < 2 ^ 32 → r < 2 ^ 32 → line_in_words (decimal t ∷ decimal r ∷ []) ≡ Some (t, r)
@@ -324,7 +324,7 @@ module _ (laws : Spelled) where
   unfolding request_in
   waits_read t r ht hr = ap (option_and_then (λ (l : ℕ × ℕ). Some (requests.Waiting l.0 l.1))) (two_numbers t r ht hr)
 
-  waits : (t r : ℕ) → t < 2 ^ 32 → r < 2 ^ 32 → HasLine (requests.Waiting t r)
+  waits : (t r : ℕ) → t < 2 ^ 32 → r < 2 ^ 32 → IsAskedInLine (requests.Waiting t r)
   waits t r ht hr =
       by_words (codes "waiting") (decimal t ∷ decimal r ∷ []) (requests.Waiting t r)
       (verb (codes "waiting") refl (omega arith), (number_word t ht, (number_word r hr, tt))) (omega arith) (waits_read t r ht hr)
@@ -334,7 +334,7 @@ module _ (laws : Spelled) where
   unfolding request_in
   loses_read t r ht hr = ap (option_and_then (λ (l : ℕ × ℕ). Some (requests.CrashLine l.0 l.1))) (two_numbers t r ht hr)
 
-  loses : (t r : ℕ) → t < 2 ^ 32 → r < 2 ^ 32 → HasLine (requests.CrashLine t r)
+  loses : (t r : ℕ) → t < 2 ^ 32 → r < 2 ^ 32 → IsAskedInLine (requests.CrashLine t r)
   loses t r ht hr =
       by_words (codes "crash") (codes "line" ∷ decimal t ∷ decimal r ∷ []) (requests.CrashLine t r)
       (verb (codes "crash") refl (omega arith), (verb (codes "line") refl (omega arith), (number_word t ht, (number_word r hr, tt)))) (omega arith)
@@ -454,7 +454,7 @@ module _ (laws : Spelled) where
   unfolding request_in issue_request
   issues_read t r call ht hr h = rw (number_named t ht, number_named r hr, call_read t r call h) refl
 
-  issues : (t r : ℕ) (call : Call Xid) → t < 2 ^ 32 → r < 2 ^ 32 → is_plain_call call ≡ true → HasLine (requests.Issue t r call)
+  issues : (t r : ℕ) (call : Call Xid) → t < 2 ^ 32 → r < 2 ^ 32 → is_plain_call call ≡ true → IsAskedInLine (requests.Issue t r call)
   issues t r call ht hr h =
       let few = few_call_words call in
       by_words (codes "issue") (decimal t ∷ decimal r ∷ call_words call) (requests.Issue t r call)
@@ -500,7 +500,7 @@ module _ (laws : Spelled) where
   unfolding bare_answer
   bare_answered kind code = rw (code_is_named code) refl
 
-  bare : (kind : CallKind) (t r : ℕ) (code : Code) → is_open kind ≡ true
+  bare : (kind : CallKind) (t r : ℕ) (code : Code) → is_open_call kind ≡ true
       → answer_behind kind t r (code_text code ∷ []) ≡ Some (record { kind = kind; xid = None }, Ret code)
   bare kinds.OpenRm t r code h = bare_answered kinds.OpenRm code
   bare kinds.CloseRm t r code h = absurd (cc)
@@ -595,7 +595,7 @@ module _ (laws : Spelled) where
   answers_read t r kind xid answer ht hr h = rw (number_named t ht, number_named r hr, kind_named kind, answered t r kind xid answer h) refl
 
   answers : (t r : ℕ) (kind : CallKind) (xid : Option Xid) (answer : Answer Xid) → t < 2 ^ 32 → r < 2 ^ 32
-      → is_plain_answer (record { kind = kind; xid = xid }) answer ≡ true → HasLine (requests.Answer t r (record { kind = kind; xid = xid }) answer)
+      → is_plain_answer (record { kind = kind; xid = xid }) answer ≡ true → IsAskedInLine (requests.Answer t r (record { kind = kind; xid = xid }) answer)
   answers t r kind xid answer ht hr h =
       let words = answer_are_words kind xid answer h in
       by_words (codes "answer") (decimal t ∷ decimal r ∷ kind_name kind ∷ answer_words xid answer)
@@ -633,7 +633,7 @@ module _ (laws : Spelled) where
   finishes_read gs some h =
       ap (λ ws. request_in (codes "done" ∷ ws)) (append-nil (map gtrid_text gs)) ∙ ap (option_and_then (λ gtrids. Some (requests.Done gtrids))) (some_read gs some h)
 
-  finishes : (gs : List Gtrid) → are_few gs ≡ true → HasLine (requests.Done gs)
+  finishes : (gs : List Gtrid) → are_few gs ≡ true → IsAskedInLine (requests.Done gs)
   finishes gs h =
       let first = and_parts (nat_lt 0 (length gs)) (nat_le (length gs) 1200 && list_all is_gtrid gs) h in
       let rest = and_parts (nat_le (length gs) 1200) (list_all is_gtrid gs) first.1 in
@@ -675,7 +675,7 @@ module _ (laws : Spelled) where
   decides_read gs o some h =
       rw (front_of (map gtrid_text gs) (outcome_word o), last_of (map gtrid_text gs) (outcome_word o), some_read gs some h, outcome_is_named o) refl
 
-  decides : (gs : List Gtrid) (o : Outcome) → are_few gs ≡ true → HasLine (requests.Decide gs o)
+  decides : (gs : List Gtrid) (o : Outcome) → are_few gs ≡ true → IsAskedInLine (requests.Decide gs o)
   decides gs o h =
       let first = and_parts (nat_lt 0 (length gs)) (nat_le (length gs) 1200 && list_all is_gtrid gs) h in
       let rest = and_parts (nat_le (length gs) 1200) (list_all is_gtrid gs) first.1 in
@@ -690,7 +690,7 @@ module _ (laws : Spelled) where
   number_is : (n : ℕ) → is_number n ≡ true → n < 2 ^ 32
   number_is n h = ltb-true n (2 ^ 32) h
 
-  pub has_line : (request : Request) → is_plain request ≡ true → HasLine request
+  pub has_line : (request : Request) → is_plain request ≡ true → IsAskedInLine request
   has_line (requests.Begin t) h = begins t (number_is t h)
   has_line (requests.Issue t r call) h =
       let first = and_parts (is_number t) (is_number r && is_plain_call call) h in

@@ -16,9 +16,9 @@ use Rattle.xa_base.specs.declared.code.Code.TheVariants as codes
 use Rattle.xa_base.specs.declared.code.How.TheVariants as hows
 use Rattle.xa_requests.specs.declared.request.Request.{Request}
 use Rattle.xa_requests.specs.declared.request.Request.TheVariants as requests
-use Rattle.xa_conduct.specs.Backing.{AreBacked, KeepAllBacked, IsBacked, IsToldSo, KeepsBacked, KeepsResting, OutcomeRests, RestOn, Rests, WasAtOnce, asks_at_once, asks_commit, asks_forget, asks_prepare, asks_rollback, branch_at, is_backed, is_commit, is_end, is_later, is_on, is_refused, is_yes, loses, standing_after, tells, was_asked}
+use Rattle.xa_conduct.specs.Backing.{AreBacked, KeepAllBacked, IsBacked, IsToldSo, KeepsBacked, KeepsResting, OutcomeRests, RestOn, TransactionRests, WasAtOnce, asks_at_once, asks_commit, asks_forget, asks_prepare, asks_rollback, branch_at_rm, is_backed, says_committed, is_end, is_later, is_on, says_rolled_back, is_yes_vote, loses, standing_once_heard, tells_code, was_asked}
 use Rattle.xa_conduct.specs.Decided.{AsksNoLess, is_commit_of, is_rollback_of, is_same}
-use Rattle.xa_conduct.specs.Meaning.{kind_at, step_of}
+use Rattle.xa_conduct.specs.Meaning.{kind_at, step_at}
 use Rattle.xa_conduct.specs.Places.{is_asked, steps_at}
 use Rattle.xa_conduct.specs.declared.meaning.Heard.{Heard}
 use Rattle.xa_conduct.specs.declared.meaning.Heard.TheVariants as heards
@@ -75,20 +75,20 @@ module _ (asked more : (Request → Bool) → Bool) (keeps : (p : Request → Bo
   backed_more b Working backed = refl
   backed_more b Preparing backed = keeps (asks_prepare b) backed
   backed_more b AtOnce backed = keeps (asks_at_once b) backed
-  backed_more b Prepared backed = keeps (tells is_yes b) backed
+  backed_more b Prepared backed = keeps (tells_code is_yes_vote b) backed
   backed_more b Committing backed = both (is_commit_of b.gtrid) (asks_commit b) backed
   backed_more b RollingBack backed = both (is_rollback_of b.gtrid) (asks_rollback b) backed
   backed_more b Undoing backed = both (is_rollback_of b.gtrid) (asks_rollback b) backed
   backed_more b Refusing backed = both (is_rollback_of b.gtrid) (asks_prepare b) backed
   backed_more b Forgetting backed = keeps (asks_forget b) backed
-  backed_more b Over backed = keeps (tells is_end b) backed
-  backed_more b Owed backed = either (loses b) (tells is_later b) backed
+  backed_more b Over backed = keeps (tells_code is_end b) backed
+  backed_more b Owed backed = either (loses b) (tells_code is_later b) backed
 
   at_once_more : (g : Gtrid) (t : ℕ) (then : Branch → Request → Bool) → WasAtOnce asked g t then → WasAtOnce more g t then
   at_once_more g t then was = record {
     rm = was.rm;
-    issued = keeps (asks_at_once (branch_at g t was.rm)) was.issued;
-    heard = keeps (then (branch_at g t was.rm)) was.heard;
+    issued = keeps (asks_at_once (branch_at_rm g t was.rm)) was.issued;
+    heard = keeps (then (branch_at_rm g t was.rm)) was.heard;
   }
 
   pub outcome_more : (g : Gtrid) (t : ℕ) (standing : Standing) → OutcomeRests asked g t standing → OutcomeRests more g t standing
@@ -96,14 +96,14 @@ module _ (asked more : (Request → Bool) → Bool) (keeps : (p : Request → Bo
   outcome_more g t standings.Open rests = tt
   outcome_more g t standings.Ready rests = tt
   outcome_more g t standings.Committed rests =
-      elim rests [ inl decided ↦ inl (keeps (is_commit_of g) decided) | inr was ↦ inr (at_once_more g t (tells is_commit) was) ]
+      elim rests [ inl decided ↦ inl (keeps (is_commit_of g) decided) | inr was ↦ inr (at_once_more g t (tells_code says_committed) was) ]
   outcome_more g t (standings.RolledBack why) rests =
-      elim rests [ inl decided ↦ inl (keeps (is_rollback_of g) decided) | inr was ↦ inr (at_once_more g t (tells is_refused) was) ]
+      elim rests [ inl decided ↦ inl (keeps (is_rollback_of g) decided) | inr was ↦ inr (at_once_more g t (tells_code says_rolled_back) was) ]
   outcome_more g t standings.Unknown rests = at_once_more g t loses rests
 
   pub parts_more : (g : Gtrid) (t : ℕ) (parts : List Part) → All (IsBacked asked g t) parts → All (IsBacked more g t) parts
   parts_more g t parts backed =
-      All-weaker (IsBacked asked g t) (IsBacked more g t) (λ part. backed_more (branch_at g t part.rm) part.place) parts backed
+      All-weaker (IsBacked asked g t) (IsBacked more g t) (λ part. backed_more (branch_at_rm g t part.rm) part.place) parts backed
 
   pub rest_more : (g : Gtrid) (t : ℕ) (standing : Standing) (parts : List Part) → RestOn asked g t standing parts → RestOn more g t standing parts
   rest_more g t standing parts rest = record {
@@ -111,52 +111,52 @@ module _ (asked more : (Request → Bool) → Bool) (keeps : (p : Request → Bo
     parts = parts_more g t parts rest.parts;
   }
 
-  pub rests_more : (t : Transaction) → Rests asked t → Rests more t
+  pub rests_more : (t : Transaction) → TransactionRests asked t → TransactionRests more t
   rests_more t rests = rest_more t.gtrid t.thread t.standing t.parts.items rests
 
-  pub all_rest_more : (ts : List Transaction) → All (Rests asked) ts → All (Rests more) ts
-  all_rest_more ts rest = All-weaker (Rests asked) (Rests more) rests_more ts rest
+  pub all_rest_more : (ts : List Transaction) → All (TransactionRests asked) ts → All (TransactionRests more) ts
+  all_rest_more ts rest = All-weaker (TransactionRests asked) (TransactionRests more) rests_more ts rest
 
 -- ** what was heard
 
 module _ (asked : (Request → Bool) → Bool) (b : Branch) where
   -- where a report takes a branch, what was told then backs
-  pub step_backed : (place : Place) (report : Report) → is_asked place ≡ true → IsToldSo asked b place (step_of place report).code
-      → ((step_of place report).place ≡ Forgetting → asked (asks_forget b) ≡ true) → is_backed asked b (step_of place report).place ≡ true
-  step_backed Preparing (reports.Code codes.Success) is told forgets = told is_yes refl
+  pub step_backed : (place : Place) (report : Report) → is_asked place ≡ true → IsToldSo asked b place (step_at place report).code
+      → ((step_at place report).place ≡ Forgetting → asked (asks_forget b) ≡ true) → is_backed asked b (step_at place report).place ≡ true
+  step_backed Preparing (reports.Code codes.Success) is told forgets = told is_yes_vote refl
   step_backed Preparing (reports.Code codes.ReadOnly) is told forgets = told is_end refl
   step_backed Preparing (reports.Code (codes.RolledBack why)) is told forgets = told is_end refl
-  step_backed Preparing _ is told forgets = or_left (asked (loses b)) (asked (tells is_later b)) told
+  step_backed Preparing _ is told forgets = or_left (asked (loses b)) (asked (tells_code is_later b)) told
   step_backed AtOnce (reports.Code codes.Success) is told forgets = told is_end refl
   step_backed AtOnce (reports.Code (codes.RolledBack why)) is told forgets = told is_end refl
   step_backed AtOnce (reports.Code codes.RmError) is told forgets = told is_end refl
-  step_backed AtOnce _ is told forgets = or_left (asked (loses b)) (asked (tells is_later b)) told
+  step_backed AtOnce _ is told forgets = or_left (asked (loses b)) (asked (tells_code is_later b)) told
   step_backed Committing (reports.Code codes.Success) is told forgets = told is_end refl
-  step_backed Committing (reports.Code codes.Retry) is told forgets = or_right (asked (loses b)) (asked (tells is_later b)) (told is_later refl)
+  step_backed Committing (reports.Code codes.Retry) is told forgets = or_right (asked (loses b)) (asked (tells_code is_later b)) (told is_later refl)
   step_backed Committing (reports.Code (codes.Heuristic how)) is told forgets = forgets refl
   step_backed Committing (reports.Code (codes.RolledBack why)) is told forgets = forgets refl
   step_backed Committing (reports.Code codes.RmError) is told forgets = forgets refl
   step_backed Committing (reports.Code codes.NotAnXid) is told forgets = forgets refl
-  step_backed Committing _ is told forgets = or_left (asked (loses b)) (asked (tells is_later b)) told
+  step_backed Committing _ is told forgets = or_left (asked (loses b)) (asked (tells_code is_later b)) told
   step_backed RollingBack (reports.Code codes.Success) is told forgets = told is_end refl
   step_backed RollingBack (reports.Code (codes.RolledBack why)) is told forgets = told is_end refl
   step_backed RollingBack (reports.Code (codes.Heuristic how)) is told forgets = forgets refl
   step_backed RollingBack (reports.Code codes.NotAnXid) is told forgets = forgets refl
-  step_backed RollingBack _ is told forgets = or_left (asked (loses b)) (asked (tells is_later b)) told
+  step_backed RollingBack _ is told forgets = or_left (asked (loses b)) (asked (tells_code is_later b)) told
   step_backed Undoing (reports.Code codes.Success) is told forgets = told is_end refl
   step_backed Undoing (reports.Code (codes.RolledBack why)) is told forgets = told is_end refl
   step_backed Undoing (reports.Code codes.NotAnXid) is told forgets = told is_end refl
   step_backed Undoing (reports.Code (codes.Heuristic hows.Rb)) is told forgets = told is_end refl
-  step_backed Undoing _ is told forgets = or_left (asked (loses b)) (asked (tells is_later b)) told
+  step_backed Undoing _ is told forgets = or_left (asked (loses b)) (asked (tells_code is_later b)) told
   step_backed Refusing (reports.Code codes.Success) is told forgets = told is_end refl
   step_backed Refusing (reports.Code (codes.RolledBack why)) is told forgets = told is_end refl
   step_backed Refusing (reports.Code codes.NotAnXid) is told forgets = told is_end refl
   step_backed Refusing (reports.Code (codes.Heuristic hows.Rb)) is told forgets = told is_end refl
-  step_backed Refusing _ is told forgets = or_left (asked (loses b)) (asked (tells is_later b)) told
+  step_backed Refusing _ is told forgets = or_left (asked (loses b)) (asked (tells_code is_later b)) told
   step_backed Forgetting (reports.Code codes.Success) is told forgets = told is_end refl
   step_backed Forgetting (reports.Code codes.NotAnXid) is told forgets = told is_end refl
   step_backed Forgetting (reports.Code codes.RmError) is told forgets = told is_end refl
-  step_backed Forgetting _ is told forgets = or_left (asked (loses b)) (asked (tells is_later b)) told
+  step_backed Forgetting _ is told forgets = or_left (asked (loses b)) (asked (tells_code is_later b)) told
   step_backed Working report is told forgets = absurd (false≢true is)
   step_backed Prepared report is told forgets = absurd (false≢true is)
   step_backed Over report is told forgets = absurd (false≢true is)
@@ -164,13 +164,13 @@ module _ (asked : (Request → Bool) → Bool) (b : Branch) where
 
 module _ (asked : (Request → Bool) → Bool) (g : Gtrid) (t rm : ℕ) (standing : Standing) where
   -- and how the transaction then stands rests on it
-  pub outcome_heard : (place : Place) (report : Report) → is_backed asked (branch_at g t rm) place ≡ true
-      → IsToldSo asked (branch_at g t rm) place (step_of place report).code → OutcomeRests asked g t standing
-      → OutcomeRests asked g t (standing_after standing (step_of place report).heard rm)
-  outcome_heard AtOnce (reports.Code codes.Success) backed told rests = inr (record { rm = rm; issued = backed; heard = told is_commit refl })
+  pub outcome_heard : (place : Place) (report : Report) → is_backed asked (branch_at_rm g t rm) place ≡ true
+      → IsToldSo asked (branch_at_rm g t rm) place (step_at place report).code → OutcomeRests asked g t standing
+      → OutcomeRests asked g t (standing_once_heard standing (step_at place report).heard rm)
+  outcome_heard AtOnce (reports.Code codes.Success) backed told rests = inr (record { rm = rm; issued = backed; heard = told says_committed refl })
   outcome_heard AtOnce (reports.Code (codes.RolledBack why)) backed told rests =
-      inr (record { rm = rm; issued = backed; heard = told is_refused refl })
-  outcome_heard AtOnce (reports.Code codes.RmError) backed told rests = inr (record { rm = rm; issued = backed; heard = told is_refused refl })
+      inr (record { rm = rm; issued = backed; heard = told says_rolled_back refl })
+  outcome_heard AtOnce (reports.Code codes.RmError) backed told rests = inr (record { rm = rm; issued = backed; heard = told says_rolled_back refl })
   outcome_heard AtOnce _ backed told rests = record { rm = rm; issued = backed; heard = told }
   outcome_heard Preparing (reports.Code codes.Success) backed told rests = rests
   outcome_heard Preparing (reports.Code (codes.RolledBack why)) backed told rests = rests
@@ -200,17 +200,17 @@ module _ (asked : (Request → Bool) → Bool) (g : Gtrid) (t rm : ℕ) (standin
 -- one of them goes on, and more was asked for
 pub part_moved : (past old new : List Request) (g : Gtrid) (t : ℕ) (parts : List Part) (i : ℕ) (d to : Part) → i < length parts
     → to.rm ≡ (get_or parts i d).rm → AsksNoLess old new
-    → KeepsBacked old new (branch_at g t (get_or parts i d).rm) (get_or parts i d).place to.place
+    → KeepsBacked old new (branch_at_rm g t (get_or parts i d).rm) (get_or parts i d).place to.place
     → AreBacked (was_asked past old) g t parts → AreBacked (was_asked past new) g t (set parts i to)
 part_moved past old new g t parts i d to within same more keeps backed =
     All-set (IsBacked (was_asked past new) g t) parts i to
-    (subst (λ (rm : ℕ). is_backed (was_asked past new) (branch_at g t rm) to.place ≡ true) (sym same) (keeps past (backed i d within)))
+    (subst (λ (rm : ℕ). is_backed (was_asked past new) (branch_at_rm g t rm) to.place ≡ true) (sym same) (keeps past (backed i d within)))
     (parts_more (was_asked past old) (was_asked past new) (asked_more past old new more) g t parts backed)
 
 -- as they went on before
 pub branches_moved : (begun old new : List Request) (g : Gtrid) (t : ℕ) (first parts : List Part) (i : ℕ) (d to : Part) → i < length parts
     → to.rm ≡ (get_or parts i d).rm → AsksNoLess old new
-    → KeepsBacked old new (branch_at g t (get_or parts i d).rm) (get_or parts i d).place to.place
+    → KeepsBacked old new (branch_at_rm g t (get_or parts i d).rm) (get_or parts i d).place to.place
     → KeepAllBacked begun old g t first parts → KeepAllBacked begun new g t first (set parts i to)
 branches_moved begun old new g t first parts i d to within same more keeps kept = λ past backed.
     part_moved past old new g t parts i d to within same more keeps (kept past backed)
@@ -218,7 +218,7 @@ branches_moved begun old new g t first parts i d to within same more keeps kept 
 -- ** one report
 
 -- nothing follows for a branch that waits for none
-pub no_step : (place : Place) (report : Report) → is_asked place ≡ false → step_of place report ≡ record { code = None; place = place; heard = heards.Nothing }
+pub no_step : (place : Place) (report : Report) → is_asked place ≡ false → step_at place report ≡ record { code = None; place = place; heard = heards.Nothing }
 no_step Working report is = refl
 no_step Prepared report is = refl
 no_step Over report is = refl
@@ -232,7 +232,7 @@ no_step Refusing report is = absurd (true≢false is)
 no_step Forgetting report is = absurd (true≢false is)
 
 -- a branch that waits for one is closer to its end then
-pub step_closer : (place : Place) (report : Report) → is_asked place ≡ true → steps_at place < steps_at (step_of place report).place
+pub step_closer : (place : Place) (report : Report) → is_asked place ≡ true → steps_at place < steps_at (step_at place report).place
 step_closer Preparing (reports.Code codes.Success) is = lit< tt
 step_closer Preparing (reports.Code codes.ReadOnly) is = lit< tt
 step_closer Preparing (reports.Code (codes.RolledBack why)) is = lit< tt
@@ -267,19 +267,19 @@ step_closer Owed report is = absurd (false≢true is)
 told_more : (asked more : (Request → Bool) → Bool) → ((p : Request → Bool) → asked p ≡ true → more p ≡ true) → (b : Branch) (place : Place)
     (code : Option Code) → IsToldSo asked b place code → IsToldSo more b place code
 told_more asked more keeps b place None told = keeps (loses b) told
-told_more asked more keeps b place (Some code) told = λ are_so so. keeps (tells are_so b) (told are_so so)
+told_more asked more keeps b place (Some code) told = λ are_so so. keeps (tells_code are_so b) (told are_so so)
 
 pub told_kept : (old new : List Request) (b : Branch) (place : Place) (code : Option Code) → AsksNoLess old new
     → IsToldSo (was_asked [] old) b place code → IsToldSo (was_asked [] new) b place code
 told_kept old new b place code more told = told_more (was_asked [] old) (was_asked [] new) (asked_more [] old new more) b place code told
 
 pub told_at : (plan : List Request) (b : Branch) (kind : CallKind) (place : Place) (code : Code) → kind ≡ kind_at place
-    → ((are_so : CallKind → Code → Bool) → are_so kind code ≡ true → list_any (tells are_so b) plan ≡ true)
+    → ((are_so : CallKind → Code → Bool) → are_so kind code ≡ true → list_any (tells_code are_so b) plan ≡ true)
     → IsToldSo (was_asked [] plan) b place (Some code)
 told_at plan b kind place code is told = λ are_so so. told are_so (subst (λ (k : CallKind). are_so k code ≡ true) (sym is) so)
 
 -- where a report took a branch, what was planned backs
-pub heard_backed : (past plan : List Request) (b : Branch) (place : Place) (report : Report) (step : Step) → step ≡ step_of place report
+pub heard_backed : (past plan : List Request) (b : Branch) (place : Place) (report : Report) (step : Step) → step ≡ step_at place report
     → is_asked place ≡ true → IsToldSo (was_asked [] plan) b place step.code → (step.place ≡ Forgetting → list_any (asks_forget b) plan ≡ true)
     → is_backed (was_asked past plan) b step.place ≡ true
 heard_backed past plan b place report step is asked told forgets =
@@ -287,33 +287,33 @@ heard_backed past plan b place report step is asked told forgets =
     λ (s : Step). IsToldSo (was_asked [] plan) b place s.code → (s.place ≡ Forgetting → list_any (asks_forget b) plan ≡ true)
     → is_backed (was_asked past plan) b s.place ≡ true in
     subst P (sym is)
-    (λ t f. backed_more (was_asked [] plan) (was_asked past plan) (asked_now past plan) b (step_of place report).place
+    (λ t f. backed_more (was_asked [] plan) (was_asked past plan) (asked_now past plan) b (step_at place report).place
     (step_backed (was_asked [] plan) b place report asked t f))
     told forgets
 
 -- and how the transaction stands then rests on it
 pub outcome_moved : (past old new : List Request) (g : Gtrid) (t rm : ℕ) (standing : Standing) (heard : Heard) (place : Place) (report : Report)
-    → AsksNoLess old new → is_backed (was_asked past old) (branch_at g t rm) place ≡ true
-    → IsToldSo (was_asked [] new) (branch_at g t rm) place (step_of place report).code → heard ≡ (step_of place report).heard
-    → OutcomeRests (was_asked past old) g t standing → OutcomeRests (was_asked past new) g t (standing_after standing heard rm)
+    → AsksNoLess old new → is_backed (was_asked past old) (branch_at_rm g t rm) place ≡ true
+    → IsToldSo (was_asked [] new) (branch_at_rm g t rm) place (step_at place report).code → heard ≡ (step_at place report).heard
+    → OutcomeRests (was_asked past old) g t standing → OutcomeRests (was_asked past new) g t (standing_once_heard standing heard rm)
 outcome_moved past old new g t rm standing heard place report more backed told is rests =
-    let b = branch_at g t rm in
+    let b = branch_at_rm g t rm in
     let keeps = asked_more past old new more in
-    subst (λ (h : Heard). OutcomeRests (was_asked past new) g t (standing_after standing h rm)) (sym is)
+    subst (λ (h : Heard). OutcomeRests (was_asked past new) g t (standing_once_heard standing h rm)) (sym is)
     (outcome_heard (was_asked past new) g t rm standing place report (backed_more (was_asked past old) (was_asked past new) keeps b place backed)
-    (told_more (was_asked [] new) (was_asked past new) (asked_now past new) b place (step_of place report).code told)
+    (told_more (was_asked [] new) (was_asked past new) (asked_now past new) b place (step_at place report).code told)
     (outcome_more (was_asked past old) (was_asked past new) keeps g t standing rests))
 
 -- also where the branch waited for no call
 outcome_went : (past old new : List Request) (g : Gtrid) (t rm : ℕ) (standing : Standing) (heard : Heard) (place : Place) (report : Report)
-    → AsksNoLess old new → is_backed (was_asked past old) (branch_at g t rm) place ≡ true
-    → (is_asked place ≡ true → IsToldSo (was_asked [] new) (branch_at g t rm) place (step_of place report).code)
-    → heard ≡ (step_of place report).heard → OutcomeRests (was_asked past old) g t standing
-    → OutcomeRests (was_asked past new) g t (standing_after standing heard rm)
+    → AsksNoLess old new → is_backed (was_asked past old) (branch_at_rm g t rm) place ≡ true
+    → (is_asked place ≡ true → IsToldSo (was_asked [] new) (branch_at_rm g t rm) place (step_at place report).code)
+    → heard ≡ (step_at place report).heard → OutcomeRests (was_asked past old) g t standing
+    → OutcomeRests (was_asked past new) g t (standing_once_heard standing heard rm)
 outcome_went past old new g t rm standing heard place report more backed told is rests =
     elim (cases_Bool (is_asked place)) [
       | inl asked ↦ outcome_moved past old new g t rm standing heard place report more backed (told asked) is rests
-      | inr idle ↦ subst (λ (h : Heard). OutcomeRests (was_asked past new) g t (standing_after standing h rm))
+      | inr idle ↦ subst (λ (h : Heard). OutcomeRests (was_asked past new) g t (standing_once_heard standing h rm))
           (sym (is ∙ ap (λ (s : Step). s.heard) (no_step place report idle)))
           (outcome_more (was_asked past old) (was_asked past new) (asked_more past old new more) g t standing rests)
     ]
@@ -360,7 +360,7 @@ rest_each past old new g t standing parts lent now len more is keeps outcome bac
 pub rest_joined : (asked : (Request → Bool) → Bool) (g : Gtrid) (t : ℕ) (standing : Standing) (parts now : List Part) (part : Part)
     → now ≡ parts ++ part ∷ [] → part.place ≡ Working → RestOn asked g t standing parts → RestOn asked g t standing now
 rest_joined asked g t standing parts now part is works rest =
-    let begun : IsBacked asked g t part = subst (λ (p : Place). is_backed asked (branch_at g t part.rm) p ≡ true) (sym works) refl in
+    let begun : IsBacked asked g t part = subst (λ (p : Place). is_backed asked (branch_at_rm g t part.rm) p ≡ true) (sym works) refl in
     record {
       outcome = rest.outcome;
       parts = subst (AreBacked asked g t) (sym is) (All-push (IsBacked asked g t) parts part rest.parts begun);
@@ -369,7 +369,7 @@ rest_joined asked g t standing parts now part is works rest =
 -- one went on
 pub rest_one : (past old new : List Request) (g : Gtrid) (t : ℕ) (standing : Standing) (parts : List Part) (i : ℕ) (from to : Part)
     → i < length parts → from ≡ get_or parts i from → to.rm ≡ from.rm → AsksNoLess old new
-    → KeepsBacked old new (branch_at g t from.rm) from.place to.place → RestOn (was_asked past old) g t standing parts
+    → KeepsBacked old new (branch_at_rm g t from.rm) from.place to.place → RestOn (was_asked past old) g t standing parts
     → RestOn (was_asked past new) g t standing (set parts i to)
 rest_one past old new g t standing parts i from to within at same more keeps rest =
     let here : IsBacked (was_asked past old) g t from = subst (IsBacked (was_asked past old) g t) (sym at) (rest.parts i from within) in
@@ -377,16 +377,16 @@ rest_one past old new g t standing parts i from to within at same more keeps res
       outcome = outcome_kept past old new g t standing more rest.outcome;
       parts =
           All-set (IsBacked (was_asked past new) g t) parts i to
-          (subst (λ (rm : ℕ). is_backed (was_asked past new) (branch_at g t rm) to.place ≡ true) (sym same) (keeps past here))
+          (subst (λ (rm : ℕ). is_backed (was_asked past new) (branch_at_rm g t rm) to.place ≡ true) (sym same) (keeps past here))
           (parts_more (was_asked past old) (was_asked past new) (asked_more past old new more) g t parts rest.parts);
     }
 
 -- one was heard
 pub rest_heard : (past old new : List Request) (g : Gtrid) (t : ℕ) (standing after : Standing) (parts now : List Part) (i : ℕ) (from to : Part)
     (report : Report) (heard : Heard) → i < length parts → from ≡ get_or parts i from → now ≡ set parts i to → to.rm ≡ from.rm
-    → AsksNoLess old new → KeepsBacked old new (branch_at g t from.rm) from.place to.place
-    → (is_asked from.place ≡ true → IsToldSo (was_asked [] new) (branch_at g t from.rm) from.place (step_of from.place report).code)
-    → heard ≡ (step_of from.place report).heard → after ≡ standing_after standing heard from.rm
+    → AsksNoLess old new → KeepsBacked old new (branch_at_rm g t from.rm) from.place to.place
+    → (is_asked from.place ≡ true → IsToldSo (was_asked [] new) (branch_at_rm g t from.rm) from.place (step_at from.place report).code)
+    → heard ≡ (step_at from.place report).heard → after ≡ standing_once_heard standing heard from.rm
     → RestOn (was_asked past old) g t standing parts → RestOn (was_asked past new) g t after now
 rest_heard past old new g t standing after parts now i from to report heard within at is same more keeps told hears stands rest =
     let here : IsBacked (was_asked past old) g t from = subst (IsBacked (was_asked past old) g t) (sym at) (rest.parts i from within) in
@@ -397,7 +397,7 @@ rest_heard past old new g t standing after parts now i from to report heard with
       parts =
           subst (AreBacked (was_asked past new) g t) (sym is)
           (All-set (IsBacked (was_asked past new) g t) parts i to
-          (subst (λ (rm : ℕ). is_backed (was_asked past new) (branch_at g t rm) to.place ≡ true) (sym same) (keeps past here))
+          (subst (λ (rm : ℕ). is_backed (was_asked past new) (branch_at_rm g t rm) to.place ≡ true) (sym same) (keeps past here))
           (parts_more (was_asked past old) (was_asked past new) (asked_more past old new more) g t parts rest.parts));
     }
 
@@ -405,28 +405,28 @@ rest_heard past old new g t standing after parts now i from to report heard with
 
 -- one of them goes on, and more was asked for
 pub rest_moved : (past old new : List Request) (ts : List Transaction) (i : ℕ) (from to : Transaction) → i < length ts → from ≡ get_or ts i from
-    → AsksNoLess old new → KeepsResting old new from to → All (Rests (was_asked past old)) ts → All (Rests (was_asked past new)) (set ts i to)
+    → AsksNoLess old new → KeepsResting old new from to → All (TransactionRests (was_asked past old)) ts → All (TransactionRests (was_asked past new)) (set ts i to)
 rest_moved past old new ts i from to within at more keeps rest =
-    let here : Rests (was_asked past old) from = subst (Rests (was_asked past old)) (sym at) (rest i from within) in
-    All-set (Rests (was_asked past new)) ts i to (keeps past here)
+    let here : TransactionRests (was_asked past old) from = subst (TransactionRests (was_asked past old)) (sym at) (rest i from within) in
+    All-set (TransactionRests (was_asked past new)) ts i to (keeps past here)
     (all_rest_more (was_asked past old) (was_asked past new) (asked_more past old new more) ts rest)
 
 -- more was asked for
-pub rest_more_asked : (past old new : List Request) (ts : List Transaction) → AsksNoLess old new → All (Rests (was_asked past old)) ts
-    → All (Rests (was_asked past new)) ts
+pub rest_more_asked : (past old new : List Request) (ts : List Transaction) → AsksNoLess old new → All (TransactionRests (was_asked past old)) ts
+    → All (TransactionRests (was_asked past new)) ts
 rest_more_asked past old new ts more rest = all_rest_more (was_asked past old) (was_asked past new) (asked_more past old new more) ts rest
 
 -- nothing has happened in one
-pub rest_begun : (asked : (Request → Bool) → Bool) (ts : List Transaction) (i : ℕ) (to : Transaction) → Rests asked to → All (Rests asked) ts
-    → All (Rests asked) (set ts i to)
-rest_begun asked ts i to begun rest = All-set (Rests asked) ts i to begun rest
+pub rest_begun : (asked : (Request → Bool) → Bool) (ts : List Transaction) (i : ℕ) (to : Transaction) → TransactionRests asked to → All (TransactionRests asked) ts
+    → All (TransactionRests asked) (set ts i to)
+rest_begun asked ts i to begun rest = All-set (TransactionRests asked) ts i to begun rest
 
 -- one is as it was
 pub rest_same : (asked : (Request → Bool) → Bool) (ts : List Transaction) (i : ℕ) (same : Transaction) → i < length ts → same ≡ get_or ts i same
-    → All (Rests asked) ts → All (Rests asked) (set ts i same)
-rest_same asked ts i same within at rest = All-set (Rests asked) ts i same (subst (Rests asked) (sym at) (rest i same within)) rest
+    → All (TransactionRests asked) ts → All (TransactionRests asked) (set ts i same)
+rest_same asked ts i same within at rest = All-set (TransactionRests asked) ts i same (subst (TransactionRests asked) (sym at) (rest i same within)) rest
 
 -- one more
-pub rest_pushed : (asked : (Request → Bool) → Bool) (ts us : List Transaction) (to : Transaction) → us ≡ ts ++ to ∷ [] → Rests asked to
-    → All (Rests asked) ts → All (Rests asked) us
-rest_pushed asked ts us to is begun rest = subst (All (Rests asked)) (sym is) (All-push (Rests asked) ts to rest begun)
+pub rest_pushed : (asked : (Request → Bool) → Bool) (ts us : List Transaction) (to : Transaction) → us ≡ ts ++ to ∷ [] → TransactionRests asked to
+    → All (TransactionRests asked) ts → All (TransactionRests asked) us
+rest_pushed asked ts us to is begun rest = subst (All (TransactionRests asked)) (sym is) (All-push (TransactionRests asked) ts to rest begun)

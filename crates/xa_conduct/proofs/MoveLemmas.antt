@@ -7,9 +7,9 @@ use Rattle.std.specs.List.{list_any, slice_split}
 use Rattle.std.specs.Prelude.{MatchBool, Option, Some, None, if◌then◌else◌}
 use Rattle.xa_requests.specs.declared.request.Request.{Request}
 use Rattle.xa_conduct.proofs.ToldLemmas.{joined_more}
-use Rattle.xa_conduct.specs.Moves.{AreOnce, ArePaired, IsOfThread, IsReadOf, IsReplyOf, has_moved, is_of, parts_of, thread_in, thread_of}
+use Rattle.xa_conduct.specs.Moves.{AreMovedOnce, ArePairedInOrder, IsOfThread, IsReadOf, IsReplyOf, has_moved, is_reply_to, parts_of, thread_in, thread_of}
 use Rattle.xa_conduct.specs.Progress.{AllStep, is_start}
-use Rattle.xa_conduct.specs.Told.{Adds, AreReplies, AreTold, IsReply, IsReplyTo, IsSameAt, IsToldBy, TellsSo, joined}
+use Rattle.xa_conduct.specs.Told.{AddsText, AreReplies, AreRepliesTold, IsReply, IsReplyTo, IsSameAt, IsToldBy, TellsSo, joined_replies}
 use Rattle.xa_conduct.specs.declared.moves.Move.{Move}
 use Rattle.xa_conduct.specs.declared.notes.Reply.{Reply}
 use Rattle.xa_conduct.specs.declared.notes.Reply.TheVariants as replies
@@ -17,15 +17,15 @@ use Rattle.xa_conduct.specs.declared.transaction.Transaction.{Transaction}
 
 -- ** what goes with what
 
-pub paired_push : {X Y : Type 0} (AreSo : X → Y → Type 0) (xs : List X) (ys : List Y) (x : X) (y : Y) → ArePaired AreSo xs ys → AreSo x y
-    → ArePaired AreSo (xs ++ x ∷ []) (ys ++ y ∷ [])
+pub paired_push : {X Y : Type 0} (AreSo : X → Y → Type 0) (xs : List X) (ys : List Y) (x : X) (y : Y) → ArePairedInOrder AreSo xs ys → AreSo x y
+    → ArePairedInOrder AreSo (xs ++ x ∷ []) (ys ++ y ∷ [])
 paired_push AreSo [] [] x y all one = (one, tt)
 paired_push AreSo [] (b ∷ ys) x y all one = absurd all
 paired_push AreSo (a ∷ xs) [] x y all one = absurd all
 paired_push AreSo (a ∷ xs) (b ∷ ys) x y all one = (all.0, paired_push AreSo xs ys x y all.1 one)
 
 pub paired_weaker : {X Y : Type 0} (AreSo AreNow : X → Y → Type 0) → ((x : X) (y : Y) → AreSo x y → AreNow x y) → (xs : List X) (ys : List Y)
-    → ArePaired AreSo xs ys → ArePaired AreNow xs ys
+    → ArePairedInOrder AreSo xs ys → ArePairedInOrder AreNow xs ys
 paired_weaker AreSo AreNow all [] [] are = tt
 paired_weaker AreSo AreNow all [] (b ∷ ys) are = absurd are
 paired_weaker AreSo AreNow all (a ∷ xs) [] are = absurd are
@@ -33,20 +33,20 @@ paired_weaker AreSo AreNow all (a ∷ xs) (b ∷ ys) are = (all a b are.0, paire
 
 -- one more is looked at
 pub paired_more : {X Y : Type 0} (AreSo : X → Y → Type 0) (xs : List X) (ys now : List Y) (k : ℕ) (d : X) (y : Y) → k < length xs
-    → now ≡ ys ++ y ∷ [] → ArePaired AreSo (take k xs) ys → AreSo (get_or xs k d) y → ArePaired AreSo (take (k + 1) xs) now
+    → now ≡ ys ++ y ∷ [] → ArePairedInOrder AreSo (take k xs) ys → AreSo (get_or xs k d) y → ArePairedInOrder AreSo (take (k + 1) xs) now
 paired_more AreSo xs ys now k d y within is all one =
-    subst (λ zs. ArePaired AreSo (take (k + 1) xs) zs) (sym is)
-    (subst (λ zs. ArePaired AreSo zs (ys ++ y ∷ [])) (sym (take_more xs k d within)) (paired_push AreSo (take k xs) ys (get_or xs k d) y all one))
+    subst (λ zs. ArePairedInOrder AreSo (take (k + 1) xs) zs) (sym is)
+    (subst (λ zs. ArePairedInOrder AreSo zs (ys ++ y ∷ [])) (sym (take_more xs k d within)) (paired_push AreSo (take k xs) ys (get_or xs k d) y all one))
 
 -- ** parts of a line
 
 -- one more is read
 pub read_more : {X : Type 0} (f : X → List ℕ) (xs : List X) (moves now : List (Option Move)) (k : ℕ) (d : X) (asked : Option Move) → k < length xs
-    → now ≡ moves ++ asked ∷ [] → ArePaired IsReadOf (map f (take k xs)) moves → IsReadOf (f (get_or xs k d)) asked
-    → ArePaired IsReadOf (map f (take (k + 1) xs)) now
+    → now ≡ moves ++ asked ∷ [] → ArePairedInOrder IsReadOf (map f (take k xs)) moves → IsReadOf (f (get_or xs k d)) asked
+    → ArePairedInOrder IsReadOf (map f (take (k + 1) xs)) now
 read_more f xs moves now k d asked within is all one =
-    subst (λ (ms : List (Option Move)). ArePaired IsReadOf (map f (take (k + 1) xs)) ms) (sym is)
-    (subst (λ (zs : List (List ℕ)). ArePaired IsReadOf zs (moves ++ asked ∷ []))
+    subst (λ (ms : List (Option Move)). ArePairedInOrder IsReadOf (map f (take (k + 1) xs)) ms) (sym is)
+    (subst (λ (zs : List (List ℕ)). ArePairedInOrder IsReadOf zs (moves ++ asked ∷ []))
     (sym (ap (map f) (take_more xs k d within) ∙ map_push f (take k xs) (get_or xs k d)))
     (paired_push IsReadOf (map f (take k xs)) moves (f (get_or xs k d)) asked all one))
   where
@@ -72,38 +72,38 @@ no_move part t is = absurd (cc)
 -- ** once
 
 -- no move was taken
-pub none_moves : (told : List Reply) (reply : Reply) → ((t : ℕ) → is_of t reply ≡ false) → (t : ℕ) → is_of t reply ≡ true
-    → list_any (is_of t) told ≡ false
+pub none_moves : (told : List Reply) (reply : Reply) → ((t : ℕ) → is_reply_to t reply ≡ false) → (t : ℕ) → is_reply_to t reply ≡ true
+    → list_any (is_reply_to t) told ≡ false
 none_moves told reply none t is = absurd (true≢false (sym is ∙ none t))
 
 -- it moves, and others did
-none_with : (t : ℕ) (x y : Reply) (ys : List Reply) → is_of t x ≡ true → (is_of t y ≡ true → list_any (is_of t) (x ∷ ys) ≡ false)
-    → is_of t y ≡ false
+none_with : (t : ℕ) (x y : Reply) (ys : List Reply) → is_reply_to t x ≡ true → (is_reply_to t y ≡ true → list_any (is_reply_to t) (x ∷ ys) ≡ false)
+    → is_reply_to t y ≡ false
 none_with t x y ys is apart =
-    elim (cases_Bool (is_of t y)) [
-      | inl also ↦ absurd (true≢false (sym is ∙ (or_parts (is_of t x) (list_any (is_of t) ys) (apart also)).0))
+    elim (cases_Bool (is_reply_to t y)) [
+      | inl also ↦ absurd (true≢false (sym is ∙ (or_parts (is_reply_to t x) (list_any (is_reply_to t) ys) (apart also)).0))
       | inr none ↦ none
     ]
 
 -- one more moves, which hasn't yet
-pub once_push : (told : List Reply) (reply : Reply) → AreOnce told → ((t : ℕ) → is_of t reply ≡ true → list_any (is_of t) told ≡ false)
-    → AreOnce (told ++ reply ∷ [])
+pub once_push : (told : List Reply) (reply : Reply) → AreMovedOnce told → ((t : ℕ) → is_reply_to t reply ≡ true → list_any (is_reply_to t) told ≡ false)
+    → AreMovedOnce (told ++ reply ∷ [])
 once_push [] reply once apart = (λ t is. refl, tt)
 once_push (x ∷ told) reply once apart = (
   λ t is.
-      list_any-append (is_of t) told (reply ∷ [])
-      ∙ or_from (list_any (is_of t) told) (list_any (is_of t) (reply ∷ [])) (once.0 t is)
-      (or_from (is_of t reply) false (none_with t x reply told is (apart t)) refl),
-  once_push told reply once.1 (λ t is. (or_parts (is_of t x) (list_any (is_of t) told) (apart t is)).1),
+      list_any-append (is_reply_to t) told (reply ∷ [])
+      ∙ or_from (list_any (is_reply_to t) told) (list_any (is_reply_to t) (reply ∷ [])) (once.0 t is)
+      (or_from (is_reply_to t reply) false (none_with t x reply told is (apart t)) refl),
+  once_push told reply once.1 (λ t is. (or_parts (is_reply_to t x) (list_any (is_reply_to t) told) (apart t is)).1),
 )
 
 -- a reply of a thread that hasn't moved
 pub apart_from : (told : List Reply) (thread : Option ℕ) (reply : Reply) → IsOfThread thread reply → has_moved told thread ≡ false → (t : ℕ)
-    → is_of t reply ≡ true → list_any (is_of t) told ≡ false
+    → is_reply_to t reply ≡ true → list_any (is_reply_to t) told ≡ false
 apart_from told thread (replies.Thread s) of none t is =
-    subst (λ (m : ℕ). list_any (is_of m) told ≡ false) (sym (eqb-true t s is)) (subst (λ (o : Option ℕ). has_moved told o ≡ false) of none)
+    subst (λ (m : ℕ). list_any (is_reply_to m) told ≡ false) (sym (eqb-true t s is)) (subst (λ (o : Option ℕ). has_moved told o ≡ false) of none)
 apart_from told thread (replies.Started s g) of none t is =
-    subst (λ (m : ℕ). list_any (is_of m) told ≡ false) (sym (eqb-true t s is)) (subst (λ (o : Option ℕ). has_moved told o ≡ false) of none)
+    subst (λ (m : ℕ). list_any (is_reply_to m) told ≡ false) (sym (eqb-true t s is)) (subst (λ (o : Option ℕ). has_moved told o ≡ false) of none)
 apart_from told thread replies.NoMove of none t is = absurd (false≢true is)
 apart_from told thread replies.NotNow of none t is = absurd (false≢true is)
 
@@ -120,7 +120,7 @@ some_same m n item one other = cc
 -- which hadn't moved before
 pub apart_move : (told slice : List Reply) (item : Option Move) (m n : Move) (thread : Option ℕ) (moved : Bool) (taken reply : Reply) → item ≡ Some m
     → item ≡ Some n → thread ≡ thread_of n → slice ≡ told → moved ≡ has_moved slice thread → moved ≡ false → reply ≡ taken
-    → IsOfThread (thread_of m) taken → (t : ℕ) → is_of t reply ≡ true → list_any (is_of t) told ≡ false
+    → IsOfThread (thread_of m) taken → (t : ℕ) → is_reply_to t reply ≡ true → list_any (is_reply_to t) told ≡ false
 apart_move told slice item m n thread moved taken reply one other thread_is slice_is moved_is none same of =
     let hasnt : has_moved told (thread_of m) ≡ false =
     subst (λ (x : Move). has_moved told (thread_of x) ≡ false) (some_same n m item other one)
@@ -129,15 +129,15 @@ apart_move told slice item m n thread moved taken reply one other thread_is slic
     apart_from told (thread_of m) reply (subst (IsOfThread (thread_of m)) (sym same) of) hasnt
 
 -- none before the one at this place is of its thread
-pub once_at : (told : List Reply) (k t : ℕ) (d : Reply) → AreOnce told → k < length told → is_of t (get_or told k d) ≡ true
-    → list_any (is_of t) (take k told) ≡ false
+pub once_at : (told : List Reply) (k t : ℕ) (d : Reply) → AreMovedOnce told → k < length told → is_reply_to t (get_or told k d) ≡ true
+    → list_any (is_reply_to t) (take k told) ≡ false
 once_at [] k t d once within is = absurd (omega (arith, within))
 once_at (x ∷ told) zero t d once within is = refl
 once_at (x ∷ told) (suc k) t d once within is =
     let inside : k < length told = omega (arith, within) in
-    or_from (is_of t x) (list_any (is_of t) (take k told))
-    (elim (cases_Bool (is_of t x)) [
-      | inl also ↦ absurd (true≢false (sym (list_any_at (is_of t) told k d inside is) ∙ once.0 t also))
+    or_from (is_reply_to t x) (list_any (is_reply_to t) (take k told))
+    (elim (cases_Bool (is_reply_to t x)) [
+      | inl also ↦ absurd (true≢false (sym (list_any_at (is_reply_to t) told k d inside is) ∙ once.0 t also))
       | inr none ↦ none
     ]) (once_at told k t d once.1 inside is)
 
@@ -146,27 +146,27 @@ abbrev pub is_thread : (thread : ℕ) → Reply → Bool
 is_thread i (replies.Thread t) = i == t
 is_thread i _ = false
 
-thread_is_of : (t : ℕ) (told : List Reply) → list_any (is_thread t) told ≡ true → list_any (is_of t) told ≡ true
+thread_is_of : (t : ℕ) (told : List Reply) → list_any (is_thread t) told ≡ true → list_any (is_reply_to t) told ≡ true
 thread_is_of t [] is = absurd (false≢true is)
 thread_is_of t (replies.Thread s ∷ told) is =
     elim (or_cases (t == s) (list_any (is_thread t) told) is) [
-      | inl here ↦ or_left (t == s) (list_any (is_of t) told) here
-      | inr later ↦ or_right (t == s) (list_any (is_of t) told) (thread_is_of t told later)
+      | inl here ↦ or_left (t == s) (list_any (is_reply_to t) told) here
+      | inr later ↦ or_right (t == s) (list_any (is_reply_to t) told) (thread_is_of t told later)
     ]
-thread_is_of t (replies.Started s g ∷ told) is = or_right (t == s) (list_any (is_of t) told) (thread_is_of t told is)
+thread_is_of t (replies.Started s g ∷ told) is = or_right (t == s) (list_any (is_reply_to t) told) (thread_is_of t told is)
 thread_is_of t (replies.NoMove ∷ told) is = thread_is_of t told is
 thread_is_of t (replies.NotNow ∷ told) is = thread_is_of t told is
 
-none_starts : (t : ℕ) (told : List Reply) → list_any (is_of t) told ≡ false → list_any (is_start t) told ≡ false
+none_starts : (t : ℕ) (told : List Reply) → list_any (is_reply_to t) told ≡ false → list_any (is_start t) told ≡ false
 none_starts t [] none = refl
-none_starts t (replies.Thread s ∷ told) none = none_starts t told (or_parts (t == s) (list_any (is_of t) told) none).1
+none_starts t (replies.Thread s ∷ told) none = none_starts t told (or_parts (t == s) (list_any (is_reply_to t) told) none).1
 none_starts t (replies.Started s g ∷ told) none =
-    let parts = or_parts (t == s) (list_any (is_of t) told) none in or_from (t == s) (list_any (is_start t) told) parts.0 (none_starts t told parts.1)
+    let parts = or_parts (t == s) (list_any (is_reply_to t) told) none in or_from (t == s) (list_any (is_start t) told) parts.0 (none_starts t told parts.1)
 none_starts t (replies.NoMove ∷ told) none = none_starts t told none
 none_starts t (replies.NotNow ∷ told) none = none_starts t told none
 
 -- so none of its transactions began by the same line
-pub thread_no_start : (t : ℕ) (told : List Reply) → AreOnce told → list_any (is_thread t) told ≡ true → list_any (is_start t) told ≡ false
+pub thread_no_start : (t : ℕ) (told : List Reply) → AreMovedOnce told → list_any (is_thread t) told ≡ true → list_any (is_start t) told ≡ false
 thread_no_start t [] once is = refl
 thread_no_start t (replies.Thread s ∷ told) once is =
     elim (or_cases (t == s) (list_any (is_thread t) told) is) [
@@ -189,7 +189,7 @@ abbrev pub HaveNames : (t : ℕ) → List Transaction → List Transaction → T
 HaveNames t noted now = (length now ≡ length noted) × ((d : Transaction) → t < length noted → (get_or now t d).gtrid ≡ (get_or noted t d).gtrid)
 
 -- what a line told of a thread it told of the transaction that was there before, as it stood once its move was taken
-pub names_kept : (told : List Reply) (ts us : List Transaction) → AreOnce told → AllStep told ts us → (t : ℕ) → list_any (is_thread t) told ≡ true
+pub names_kept : (told : List Reply) (ts us : List Transaction) → AreMovedOnce told → AllStep told ts us → (t : ℕ) → list_any (is_thread t) told ≡ true
     → HaveNames t ts us
 names_kept told ts us once steps t is = (steps.count, λ d inside. (steps.each t d inside (thread_no_start t told once is)).same)
 
@@ -220,7 +220,7 @@ reply_to : (asked : (Request → Bool) → Bool) (noted : List Transaction) (thr
     → IsOfThread thread reply → IsToldBy asked noted reply text → IsReply asked noted thread text
 reply_to asked noted thread (replies.Thread t) text of told =
     subst (λ (o : Option ℕ). IsReply asked noted o text) (sym of)
-    (elim told [ | inl tells ↦ inl tells | inr error ↦ inr (inr error) ])
+    (elim told [ inl tells ↦ inl tells | inr error ↦ inr (inr error) ])
 reply_to asked noted thread (replies.Started t g) text of told = subst (λ (o : Option ℕ). IsReply asked noted o text) (sym of) (inr (inl told))
 reply_to asked noted None replies.NoMove text of told = told
 reply_to asked noted (Some t) replies.NoMove text of told = inr (inr told)
@@ -236,9 +236,9 @@ of_part part asked replies.NotNow read of = tt
 
 -- each part of a line is replied
 pub all_replied : (asked : (Request → Bool) → Bool) (noted now : List Transaction) (parts : List (List ℕ)) (moves : List (Option Move))
-    (told : List Reply) (texts : List (List ℕ)) → ArePaired IsReadOf parts moves → ArePaired IsReplyOf moves told
-    → ((t : ℕ) → list_any (is_thread t) told ≡ true → HaveNames t noted now) → ArePaired (IsToldBy asked now) told texts
-    → ArePaired (IsReplyTo asked noted) parts texts
+    (told : List Reply) (texts : List (List ℕ)) → ArePairedInOrder IsReadOf parts moves → ArePairedInOrder IsReplyOf moves told
+    → ((t : ℕ) → list_any (is_thread t) told ≡ true → HaveNames t noted now) → ArePairedInOrder (IsToldBy asked now) told texts
+    → ArePairedInOrder (IsReplyTo asked noted) parts texts
 all_replied asked noted now [] [] [] [] read of names each = tt
 all_replied asked noted now (part ∷ parts) (move ∷ moves) (reply ∷ told) (text ∷ texts) read of names each = (
   reply_to asked noted (thread_in part) reply text (of_part part move reply read.0 of.0)
@@ -254,7 +254,7 @@ all_replied asked noted now (part ∷ parts) (move ∷ moves) (reply ∷ told) [
 
 -- so a line is
 pub line_replied : (asked : (Request → Bool) → Bool) (noted now : List Transaction) (line text : List ℕ) (moves : List (Option Move)) (told : List Reply)
-    → ArePaired IsReadOf (parts_of line) moves → ArePaired IsReplyOf moves told → AreOnce told → AllStep told noted now → AreTold asked now told text
+    → ArePairedInOrder IsReadOf (parts_of line) moves → ArePairedInOrder IsReplyOf moves told → AreMovedOnce told → AllStep told noted now → AreRepliesTold asked now told text
     → AreReplies asked noted line text
 line_replied asked noted now line text moves told read of once steps tells = record {
   replies = tells.texts;
@@ -268,8 +268,8 @@ line_replied asked noted now line text moves told read of once steps tells = rec
 pub record TellsSome (asked : (Request → Bool) → Bool) (noted : List Transaction) (told : List Reply) (text : List ℕ) : Type 0 where
   pub first : List ℕ
   pub others : List (List ℕ)
-  pub are : text ≡ joined (first ∷ others)
-  pub each : ArePaired (IsToldBy asked noted) told (first ∷ others)
+  pub are : text ≡ joined_replies (first ∷ others)
+  pub each : ArePairedInOrder (IsToldBy asked noted) told (first ∷ others)
 
 -- none was added yet, or some were
 abbrev pub ToldSoFar : ((Request → Bool) → Bool) → List Transaction → List Reply → (is_first : Bool) → List ℕ → Type 0
@@ -277,13 +277,13 @@ ToldSoFar asked noted told is_first text = MatchBool is_first ((told ≡ []) × 
 
 pub told_more : (asked : (Request → Bool) → Bool) (noted : List Transaction) (told now : List Reply) (reply : Reply) (is_first : Bool) (a b c : List ℕ)
     → now ≡ told ++ reply ∷ [] → (is_first ≡ true → b ≡ a) → (is_first ≡ false → b ≡ a ++ 59 ∷ []) → ToldSoFar asked noted told is_first a
-    → Adds (IsToldBy asked noted reply) b c → TellsSome asked noted now c
+    → AddsText (IsToldBy asked noted reply) b c → TellsSome asked noted now c
 told_more asked noted told now reply true a b c is first other none more = record {
   first = more.0;
   others = [];
   are = more.1 ∙ ap (λ z. z ++ more.0) (first refl ∙ none.1);
   each =
-      subst (λ (rs : List Reply). ArePaired (IsToldBy asked noted) rs (more.0 ∷ [])) (sym (is ∙ ap (λ (rs : List Reply). rs ++ reply ∷ []) none.0))
+      subst (λ (rs : List Reply). ArePairedInOrder (IsToldBy asked noted) rs (more.0 ∷ [])) (sym (is ∙ ap (λ (rs : List Reply). rs ++ reply ∷ []) none.0))
       (more.2, tt);
 }
 told_more asked noted told now reply false a b c is first other some more = record {
@@ -293,26 +293,26 @@ told_more asked noted told now reply false a b c is first other some more = reco
       more.1 ∙ ap (λ z. z ++ more.0) (other refl) ∙ append_assoc a (59 ∷ []) more.0 ∙ ap (λ z. z ++ (59 ∷ more.0)) some.are
       ∙ sym (joined_more some.first some.others more.0);
   each =
-      subst (λ (rs : List Reply). ArePaired (IsToldBy asked noted) rs (some.first ∷ (some.others ++ more.0 ∷ []))) (sym is)
+      subst (λ (rs : List Reply). ArePairedInOrder (IsToldBy asked noted) rs (some.first ∷ (some.others ++ more.0 ∷ []))) (sym is)
       (paired_push (IsToldBy asked noted) told (some.first ∷ some.others) reply more.0 some.each more.2);
 }
 
 pub told_all : (asked : (Request → Bool) → Bool) (noted : List Transaction) (told now : List Reply) (is_first : Bool) (text : List ℕ) → now ≡ told
-    → ToldSoFar asked noted now is_first text → AreTold asked noted told text
+    → ToldSoFar asked noted now is_first text → AreRepliesTold asked noted told text
 told_all asked noted told now true text is none = record {
   texts = [];
   are = none.1;
-  each = subst (λ (rs : List Reply). ArePaired (IsToldBy asked noted) rs []) (sym none.0 ∙ is) tt;
+  each = subst (λ (rs : List Reply). ArePairedInOrder (IsToldBy asked noted) rs []) (sym none.0 ∙ is) tt;
 }
 told_all asked noted told now false text is some = record {
   texts = some.first ∷ some.others;
   are = some.are;
-  each = subst (λ (rs : List Reply). ArePaired (IsToldBy asked noted) rs (some.first ∷ some.others)) is some.each;
+  each = subst (λ (rs : List Reply). ArePairedInOrder (IsToldBy asked noted) rs (some.first ∷ some.others)) is some.each;
 }
 
 -- what is told by a reply of a thread that was told nothing yet is told of its transaction as it was
 pub told_as_was : (asked : (Request → Bool) → Bool) (told : List Reply) (k : ℕ) (d : Reply) (was now : List Transaction) (text : List ℕ)
-    → AreOnce told → k < length told → length now ≡ length was → ((t : ℕ) → list_any (is_of t) (take k told) ≡ false → IsSameAt t was now)
+    → AreMovedOnce told → k < length told → length now ≡ length was → ((t : ℕ) → list_any (is_reply_to t) (take k told) ≡ false → IsSameAt t was now)
     → IsToldBy asked now (get_or told k d) text → IsToldBy asked was (get_or told k d) text
 told_as_was asked told k d was now text once within count same is =
     told_names asked was now (get_or told k d) text
@@ -320,7 +320,7 @@ told_as_was asked told k d was now text once within count same is =
     let none = once_at told k t d once within (thread_of_one t (get_or told k d) of) in
     (count, λ e inside. ap (λ (x : Transaction). x.gtrid) (same t none e))) is
   where
-    thread_of_one : (t : ℕ) (r : Reply) → is_thread t r ≡ true → is_of t r ≡ true
+    thread_of_one : (t : ℕ) (r : Reply) → is_thread t r ≡ true → is_reply_to t r ≡ true
     thread_of_one t (replies.Thread s) of = of
     thread_of_one t (replies.Started s g) of = absurd (false≢true of)
     thread_of_one t replies.NoMove of = absurd (false≢true of)
@@ -328,9 +328,9 @@ told_as_was asked told k d was now text once within count same is =
 
 -- none of the first ones and not this one
 pub same_more : (told : List Reply) (k : ℕ) (d : Reply) (was now next : List Transaction) → k < length told
-    → ((t : ℕ) → list_any (is_of t) (take k told) ≡ false → IsSameAt t was now)
-    → ((t : ℕ) → is_of t (get_or told k d) ≡ false → IsSameAt t now next) → (t : ℕ) → list_any (is_of t) (take (k + 1) told) ≡ false
+    → ((t : ℕ) → list_any (is_reply_to t) (take k told) ≡ false → IsSameAt t was now)
+    → ((t : ℕ) → is_reply_to t (get_or told k d) ≡ false → IsSameAt t now next) → (t : ℕ) → list_any (is_reply_to t) (take (k + 1) told) ≡ false
     → IsSameAt t was next
 same_more told k d was now next within same others t none =
-    let parts = or_parts (list_any (is_of t) (take k told)) (is_of t (get_or told k d)) (sym (list_any_more (is_of t) told k d within) ∙ none) in
+    let parts = or_parts (list_any (is_reply_to t) (take k told)) (is_reply_to t (get_or told k d)) (sym (list_any_more (is_reply_to t) told k d within) ∙ none) in
     λ e. others t parts.1 e ∙ same t parts.0 e

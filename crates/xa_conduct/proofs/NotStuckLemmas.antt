@@ -14,7 +14,7 @@ use Rattle.xa_conduct.proofs.ProgressLemmas.{one_at_most}
 use Rattle.xa_conduct.proofs.TurnLemmas.{four_at_most, turns_step}
 use Rattle.xa_conduct.specs.Meaning.{takes}
 use Rattle.xa_conduct.specs.NotStuck.{IsToBeMoved, IsToBeTold, TransactionsAreNotStuck, all_lost, are_answers, calls_of, is_at_rest, is_in_table, is_ready, is_so_of, is_undecided, may_be_undone, may_roll_back, reply_if}
-use Rattle.xa_conduct.specs.Over.{has_calls, is_decided, is_over}
+use Rattle.xa_conduct.specs.Over.{has_calls, is_decided, is_all_answered}
 use Rattle.xa_conduct.specs.OverInTime.{TransactionsAreOver}
 use Rattle.xa_conduct.specs.Places.{is_asked, steps_at}
 use Rattle.xa_conduct.specs.Progress.{branch_steps, steps_of, steps_to}
@@ -294,7 +294,7 @@ all_undone (part ∷ parts) idle =
 one_most : (n : ℕ) → n ≤ 1 → nat_le n 1 ≡ true
 one_most n few = grind (arith, nat_tests)
 
-decided_over : (t : Transaction) → is_decided t.standing ≡ true → has_calls t ≡ false → is_over t ≡ true
+decided_over : (t : Transaction) → is_decided t.standing ≡ true → has_calls t ≡ false → is_all_answered t ≡ true
 decided_over t decided idle = and_from _ _ decided (ap not idle)
 
 open_moved : (t : Transaction) → not t.has_moved ≡ true → t.standing ≡ standings.Open → has_calls t ≡ false → IsToBeMoved t
@@ -303,7 +303,7 @@ open_moved t unmoved stands idle =
     record { rolls_back = back; commits = λ few works. and_from _ _ back (and_from _ _ (one_most (length t.parts.items) few) works) }
 
 by_standing : (t : Transaction) (s : Standing) → t.standing ≡ s → is_at_rest t ≡ true → (t.standing ≡ standings.Idle → ⊥) → has_calls t ≡ false
-    → (is_over t ≡ true) ⊎ (IsToBeTold t ⊎ IsToBeMoved t)
+    → (is_all_answered t ≡ true) ⊎ (IsToBeTold t ⊎ IsToBeMoved t)
 by_standing t standings.Idle stands rest begun idle = absurd (begun stands)
 by_standing t standings.Open stands rest begun idle = inr (inr (open_moved t (and_parts _ _ rest).0 stands idle))
 by_standing t standings.Ready stands rest begun idle =

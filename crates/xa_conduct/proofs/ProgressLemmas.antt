@@ -11,11 +11,11 @@ use Rattle.std.specs.List.{list_all, list_any, sum_by}
 use Rattle.std.specs.Prelude.{if◌then◌else◌}
 use Rattle.xa_base.specs.declared.branch.Gtrid.{Gtrid}
 use Rattle.xa_conduct.proofs.BackingLemmas.{no_step, step_closer}
-use Rattle.xa_conduct.specs.Backing.{standing_after}
-use Rattle.xa_conduct.specs.Meaning.{step_of}
+use Rattle.xa_conduct.specs.Backing.{standing_once_heard}
+use Rattle.xa_conduct.specs.Meaning.{step_at}
 use Rattle.xa_conduct.specs.Over.{has_calls}
 use Rattle.xa_conduct.specs.Places.{is_asked, is_working, steps_at}
-use Rattle.xa_conduct.specs.Progress.{AllStep, Steps, are_working, branch_steps, is_asked_in, is_asked_of, is_at, is_new_at, is_start, is_taken, moves_taken, steps_made, steps_of, steps_to}
+use Rattle.xa_conduct.specs.Progress.{AllStep, Steps, are_working, branch_steps, is_asked_in, is_asked_of, is_part_at, is_new_at, is_start, takes_move, moves_taken, steps_made, steps_of, steps_to}
 use Rattle.xa_conduct.specs.declared.meaning.Heard.{Heard}
 use Rattle.xa_conduct.specs.declared.meaning.Heard.TheVariants as heards
 use Rattle.xa_conduct.specs.declared.meaning.Step.{Step}
@@ -86,7 +86,7 @@ one_at_most standings.Committed = lit≤ tt
 one_at_most (standings.RolledBack why) = lit≤ tt
 one_at_most standings.Unknown = lit≤ tt
 
-pub stands_on : (standing : Standing) (heard : Heard) (rm : ℕ) → steps_to standing ≤ steps_to (standing_after standing heard rm)
+pub stands_on : (standing : Standing) (heard : Heard) (rm : ℕ) → steps_to standing ≤ steps_to (standing_once_heard standing heard rm)
 stands_on standing heards.Committed rm = one_at_most standing
 stands_on standing (heards.RolledBack why) rm = one_at_most standing
 stands_on standing heards.LostAtOnce rm = one_at_most standing
@@ -104,7 +104,7 @@ steps_both a b t u v one other = record { same = other.same ∙ one.same; made =
 pub steps_fewer : (a b : ℕ) (t u : Transaction) → b ≤ a → Steps a t u → Steps b t u
 steps_fewer a b t u fewer made = record { same = made.same; made = omega (arith, made.made, fewer) }
 
-pub step_no_less : (place : Place) (report : Report) → steps_at place ≤ steps_at (step_of place report).place
+pub step_no_less : (place : Place) (report : Report) → steps_at place ≤ steps_at (step_at place report).place
 step_no_less place report =
     elim (cases_Bool (is_asked place)) [
       | inl asked ↦ let closer = step_closer place report asked in omega (arith, closer)
@@ -113,8 +113,8 @@ step_no_less place report =
 
 -- one of its branches heard a report
 pub steps_heard : (t u : Transaction) (i : ℕ) (from to : Part) (report : Report) (heard : Heard) (rm : ℕ) → i < length t.parts.items
-    → from ≡ get_or t.parts.items i from → u.parts.items ≡ set t.parts.items i to → to.place ≡ (step_of from.place report).place → u.gtrid ≡ t.gtrid
-    → u.standing ≡ standing_after t.standing heard rm → Steps (if is_asked_in t.parts.items i then 1 else 0) t u
+    → from ≡ get_or t.parts.items i from → u.parts.items ≡ set t.parts.items i to → to.place ≡ (step_at from.place report).place → u.gtrid ≡ t.gtrid
+    → u.standing ≡ standing_once_heard t.standing heard rm → Steps (if is_asked_in t.parts.items i then 1 else 0) t u
 steps_heard t u i from to report heard rm within at is goes same stands =
     let here : is_asked_in t.parts.items i ≡ is_asked from.place =
     ap is_asked_of (slice_get_read t.parts.items (length t.parts.items) i from refl within at) in
@@ -202,11 +202,11 @@ joined_more k m t u v before one =
 
 -- one that has a branch isn't the first
 pub joined_same : (k m d : ℕ) (rms : List ℕ) (t u : Transaction) → k < length rms → list_all (is_new_at t.parts.items) rms ≡ true
-    → list_any (is_at (get_or rms k d)) u.parts.items ≡ true → Joined k t u → Joined m t u
+    → list_any (is_part_at (get_or rms k d)) u.parts.items ≡ true → Joined k t u → Joined m t u
 joined_same k m d rms t u within new has before =
     elim before [
       | inl none ↦
-          let has_first : list_any (is_at (get_or rms k d)) t.parts.items ≡ true = sym (ap (list_any (is_at (get_or rms k d))) none.1) ∙ has in
+          let has_first : list_any (is_part_at (get_or rms k d)) t.parts.items ≡ true = sym (ap (list_any (is_part_at (get_or rms k d))) none.1) ∙ has in
           let is_new : is_new_at t.parts.items (get_or rms k d) ≡ true = all_get (is_new_at t.parts.items) rms k d within new in
           absurd (true≢false (sym is_new ∙ ap not has_first))
       | inr some ↦ inr some
@@ -238,7 +238,7 @@ all_step_both a b ts us vs one other = record {
   each =
       λ j d inside start.
       let apart = or_none (list_any (is_start j) a) (list_any (is_start j) b) (sym (list_any-append (is_start j) a b) ∙ start) in
-      subst (λ (n : ℕ). Steps n (get_or ts j d) (get_or vs j d)) (sym (sum_by-append (is_taken j) a b))
+      subst (λ (n : ℕ). Steps n (get_or ts j d) (get_or vs j d)) (sym (sum_by-append (takes_move j) a b))
       (steps_both (moves_taken j a) (moves_taken j b) (get_or ts j d) (get_or us j d) (get_or vs j d) (one.each j d inside apart.0)
       (other.each j d (subst (λ (n : ℕ). j < n) (sym one.count) inside) apart.1));
 }

@@ -8,10 +8,10 @@ use Rattle.std.specs.List.{list_any, sum_by}
 use Rattle.std.specs.Prelude.{MatchBool}
 use Rattle.xa_conduct.proofs.ProgressLemmas.{all_step_both, one_at_most, steps_both, steps_none}
 use Rattle.xa_conduct.proofs.ToldLemmas.{joined_more}
-use Rattle.xa_conduct.specs.Over.{is_decided, is_over}
+use Rattle.xa_conduct.specs.Over.{is_decided, is_all_answered}
 use Rattle.xa_conduct.specs.Places.{is_asked, steps_at}
 use Rattle.xa_conduct.specs.Progress.{AllStep, Steps, branch_steps, moves_taken, steps_made, steps_of, steps_to}
-use Rattle.xa_conduct.specs.Told.{Adds, joined}
+use Rattle.xa_conduct.specs.Told.{AddsText, joined_replies}
 use Rattle.xa_conduct.specs.Turns.{AllPass, AreSaid, IsNew, IsSaid, IsSame, Passes, SaysAll, TransactionsEnd, TurnsOn, Turns, Turns.NoLine, Turns.OneMore}
 use Rattle.xa_conduct.specs.declared.notes.Reply.{Reply}
 use Rattle.xa_conduct.specs.declared.notes.Reply.TheVariants as replies
@@ -31,17 +31,17 @@ said_push (r ∷ rs) [] reply text all one = absurd all
 said_push (r ∷ rs) (y ∷ ys) reply text all one = (all.0, said_push rs ys reply text all.1 one)
 
 -- what is told of a transaction, and words behind it
-pub said_thread : {P Q : List ℕ → Type 0} (thread : ℕ) (reply : Reply) (a b c : List ℕ) → reply ≡ replies.Thread thread → Adds P a b → Adds Q b c
-    → Adds (IsSaid reply) a c
+pub said_thread : {P Q : List ℕ → Type 0} (thread : ℕ) (reply : Reply) (a b c : List ℕ) → reply ≡ replies.Thread thread → AddsText P a b → AddsText Q b c
+    → AddsText (IsSaid reply) a c
 said_thread thread reply a b c is told behind =
-    subst (λ (r : Reply). Adds (IsSaid r) a c) (sym is)
+    subst (λ (r : Reply). AddsText (IsSaid r) a c) (sym is)
     (told.0 ++ behind.0, behind.1 ∙ ap (λ z. z ++ behind.0) told.1 ∙ append_assoc a told.0 behind.0, tt)
 
 -- a part and others, of so many replies
 pub record SaysSome (told : List Reply) (text : List ℕ) : Type 0 where
   pub first : List ℕ
   pub others : List (List ℕ)
-  pub are : text ≡ joined (first ∷ others)
+  pub are : text ≡ joined_replies (first ∷ others)
   pub said : AreSaid told (first ∷ others)
 
 -- none was added yet, or some were
@@ -49,7 +49,7 @@ abbrev pub SaidSoFar : List Reply → (is_first : Bool) → List ℕ → Type 0
 SaidSoFar told is_first text = MatchBool is_first ((told ≡ []) × (text ≡ [])) (SaysSome told text)
 
 pub said_more : (told now : List Reply) (reply : Reply) (is_first : Bool) (a b c : List ℕ) → now ≡ told ++ reply ∷ [] → (is_first ≡ true → b ≡ a)
-    → (is_first ≡ false → b ≡ a ++ 59 ∷ []) → SaidSoFar told is_first a → Adds (IsSaid reply) b c → SaysSome now c
+    → (is_first ≡ false → b ≡ a ++ 59 ∷ []) → SaidSoFar told is_first a → AddsText (IsSaid reply) b c → SaysSome now c
 said_more told now reply true a b c is first other none more = record {
   first = more.0;
   others = [];
@@ -77,7 +77,7 @@ said_all told now false text is some = record {
 
 -- ** one transaction gives way to the next
 
-over_same : (t u : Transaction) → IsSame t u → is_over u ≡ true → is_over t ≡ true
+over_same : (t u : Transaction) → IsSame t u → is_all_answered u ≡ true → is_all_answered t ≡ true
 over_same t u same over =
     ap₂ (λ (s : Standing) (ps : List Part). is_decided s && not (list_any (λ (part : Part). is_asked part.place) ps)) (sym same.standing)
     (sym same.parts)

@@ -56,9 +56,9 @@ is_named_on b t r None = false
 is_named_on b t r (Some x) = is_on b t r x
 
 -- it tells the answer to a call on the branch, and the call and its code are so
-abbrev pub tells : (CallKind → Code → Bool) → Branch → Request → Bool
-tells are_so b (requests.Answer t r name (Ret code)) = are_so name.kind code && is_named_on b t r name.xid
-tells are_so b _ = false
+abbrev pub tells_code : (CallKind → Code → Bool) → Branch → Request → Bool
+tells_code are_so b (requests.Answer t r name (Ret code)) = are_so name.kind code && is_named_on b t r name.xid
+tells_code are_so b _ = false
 
 -- it tells that the branch's line is lost
 abbrev pub loses : Branch → Request → Bool
@@ -68,18 +68,18 @@ loses b _ = false
 -- ** answers
 
 -- the branch voted yes
-abbrev pub is_yes : CallKind → Code → Bool
-is_yes kinds.Prepare codes.Success = true
-is_yes _ _ = false
+abbrev pub is_yes_vote : CallKind → Code → Bool
+is_yes_vote kinds.Prepare codes.Success = true
+is_yes_vote _ _ = false
 
 -- it is committed; it was rolled back in place of that
-abbrev pub is_commit : CallKind → Code → Bool
-is_commit kinds.Commit codes.Success = true
-is_commit _ _ = false
+abbrev pub says_committed : CallKind → Code → Bool
+says_committed kinds.Commit codes.Success = true
+says_committed _ _ = false
 
-abbrev pub is_refused : CallKind → Code → Bool
-is_refused kinds.Commit (codes.RolledBack why) = true
-is_refused _ _ = false
+abbrev pub says_rolled_back : CallKind → Code → Bool
+says_rolled_back kinds.Commit (codes.RolledBack why) = true
+says_rolled_back _ _ = false
 
 -- it can't be ended yet
 abbrev pub is_later : CallKind → Code → Bool
@@ -109,14 +109,14 @@ abbrev pub is_backed : ((Request → Bool) → Bool) → Branch → Place → Bo
 is_backed asked b Working = true
 is_backed asked b Preparing = asked (asks_prepare b)
 is_backed asked b AtOnce = asked (asks_at_once b)
-is_backed asked b Prepared = asked (tells is_yes b)
+is_backed asked b Prepared = asked (tells_code is_yes_vote b)
 is_backed asked b Committing = asked (is_commit_of b.gtrid) && asked (asks_commit b)
 is_backed asked b RollingBack = asked (is_rollback_of b.gtrid) && asked (asks_rollback b)
 is_backed asked b Undoing = asked (is_rollback_of b.gtrid) && asked (asks_rollback b)
 is_backed asked b Refusing = asked (is_rollback_of b.gtrid) && asked (asks_prepare b)
 is_backed asked b Forgetting = asked (asks_forget b)
-is_backed asked b Over = asked (tells is_end b)
-is_backed asked b Owed = asked (loses b) || asked (tells is_later b)
+is_backed asked b Over = asked (tells_code is_end b)
+is_backed asked b Owed = asked (loses b) || asked (tells_code is_later b)
 
 -- as places go on
 abbrev pub KeepsBacked : (old new : List Request) → Branch → Place → Place → Type 0
@@ -127,34 +127,34 @@ KeepsBacked old new b from to =
 abbrev pub IsToldSo : ((Request → Bool) → Bool) → Branch → Place → Option Code → Type 0
 IsToldSo asked b place None = asked (loses b) ≡ true
 IsToldSo asked b place (Some code) =
-    (are_so : CallKind → Code → Bool) → are_so (kind_at place) code ≡ true → asked (tells are_so b) ≡ true
+    (are_so : CallKind → Code → Bool) → are_so (kind_at place) code ≡ true → asked (tells_code are_so b) ≡ true
 
-abbrev pub branch_at : Gtrid → (thread rm : ℕ) → Branch
-branch_at g t r = record { gtrid = g; thread = t; rm = r }
+abbrev pub branch_at_rm : Gtrid → (thread rm : ℕ) → Branch
+branch_at_rm g t r = record { gtrid = g; thread = t; rm = r }
 
 -- the one branch was to be committed in one phase, and this was asked for then
 pub record WasAtOnce (asked : (Request → Bool) → Bool) (g : Gtrid) (thread : ℕ) (then : Branch → Request → Bool) : Type 0 where
   pub rm : ℕ
-  pub issued : asked (asks_at_once (branch_at g thread rm)) ≡ true
-  pub heard : asked (then (branch_at g thread rm)) ≡ true
+  pub issued : asked (asks_at_once (branch_at_rm g thread rm)) ≡ true
+  pub heard : asked (then (branch_at_rm g thread rm)) ≡ true
 
 -- An outcome rests on the decision, or on how the xa_commit in one phase was answered. Unknown is only one of which that call has no
 -- answer, and its line was lost.
 abbrev pub OutcomeRests : ((Request → Bool) → Bool) → Gtrid → (thread : ℕ) → Standing → Type 0
-OutcomeRests asked g t standings.Committed = (asked (is_commit_of g) ≡ true) ⊎ WasAtOnce asked g t (tells is_commit)
-OutcomeRests asked g t (standings.RolledBack why) = (asked (is_rollback_of g) ≡ true) ⊎ WasAtOnce asked g t (tells is_refused)
+OutcomeRests asked g t standings.Committed = (asked (is_commit_of g) ≡ true) ⊎ WasAtOnce asked g t (tells_code says_committed)
+OutcomeRests asked g t (standings.RolledBack why) = (asked (is_rollback_of g) ≡ true) ⊎ WasAtOnce asked g t (tells_code says_rolled_back)
 OutcomeRests asked g t standings.Unknown = WasAtOnce asked g t loses
 OutcomeRests asked g t _ = Unit {0}
 
 -- how a transaction that stood so stands once a branch was heard
-abbrev pub standing_after : Standing → Heard → (rm : ℕ) → Standing
-standing_after standing heards.Committed rm = standings.Committed
-standing_after standing (heards.RolledBack why) rm = standings.RolledBack (Some (why, rm))
-standing_after standing heards.LostAtOnce rm = standings.Unknown
-standing_after standing _ rm = standing
+abbrev pub standing_once_heard : Standing → Heard → (rm : ℕ) → Standing
+standing_once_heard standing heards.Committed rm = standings.Committed
+standing_once_heard standing (heards.RolledBack why) rm = standings.RolledBack (Some (why, rm))
+standing_once_heard standing heards.LostAtOnce rm = standings.Unknown
+standing_once_heard standing _ rm = standing
 
 abbrev pub IsBacked : ((Request → Bool) → Bool) → Gtrid → (thread : ℕ) → Part → Type 0
-IsBacked asked g t part = is_backed asked (branch_at g t part.rm) part.place ≡ true
+IsBacked asked g t part = is_backed asked (branch_at_rm g t part.rm) part.place ≡ true
 
 abbrev pub AreBacked : ((Request → Bool) → Bool) → Gtrid → (thread : ℕ) → List Part → Type 0
 AreBacked asked g t parts = All (IsBacked asked g t) parts
@@ -169,16 +169,16 @@ pub record RestOn (asked : (Request → Bool) → Bool) (g : Gtrid) (thread : �
   pub parts : AreBacked asked g thread branches
 
 -- what is noted of a transaction does
-abbrev pub Rests : ((Request → Bool) → Bool) → Transaction → Type 0
-Rests asked t = RestOn asked t.gtrid t.thread t.standing t.parts.items
+abbrev pub TransactionRests : ((Request → Bool) → Bool) → Transaction → Type 0
+TransactionRests asked t = RestOn asked t.gtrid t.thread t.standing t.parts.items
 
 -- as transactions go on, one or all
 abbrev pub KeepsResting : (old new : List Request) → Transaction → Transaction → Type 0
-KeepsResting old new t u = (past : List Request) → Rests (was_asked past old) t → Rests (was_asked past new) u
+KeepsResting old new t u = (past : List Request) → TransactionRests (was_asked past old) t → TransactionRests (was_asked past new) u
 
 abbrev pub KeepResting : (old new : List Request) → List Transaction → List Transaction → Type 0
-KeepResting old new ts us = (past : List Request) → All (Rests (was_asked past old)) ts → All (Rests (was_asked past new)) us
+KeepResting old new ts us = (past : List Request) → All (TransactionRests (was_asked past old)) ts → All (TransactionRests (was_asked past new)) us
 
 -- what rested on some requests still does
 abbrev pub KeepsRest : (ts us : List Transaction) → Type 0
-KeepsRest ts us = (asked : (Request → Bool) → Bool) → All (Rests asked) ts → All (Rests asked) us
+KeepsRest ts us = (asked : (Request → Bool) → Bool) → All (TransactionRests asked) ts → All (TransactionRests asked) us

@@ -4,7 +4,7 @@ use Rattle.xa_log.specs.Contract.{Moment}
 use Rattle.xa_requests.specs.declared.request.Request.{Request}
 use Rattle.xa_server.specs.declared.server.Server.{Server}
 use Rattle.xa_conduct.specs.Acting.{Acts}
-use Rattle.xa_conduct.specs.Backing.{Rests, was_asked}
+use Rattle.xa_conduct.specs.Backing.{TransactionRests, was_asked}
 use Rattle.xa_conduct.specs.Told.{AreReplies}
 use Rattle.xa_conduct.specs.declared.conductor.Conductor.{Conductor}
 
@@ -14,7 +14,7 @@ module _ {L : Type 0} (moment : L → Moment) where
   pub record Conducts (first : Server L) (c : Conductor L) : Type 0 where
     pub done : List Request
     pub acts : Acts moment done first c.server
-    pub rest : c.notes.is_stopped ≡ false → All (Rests (was_asked done [])) c.notes.transactions.items
+    pub rest : c.notes.is_stopped ≡ false → All (TransactionRests (was_asked done [])) c.notes.transactions.items
 
   -- as a conductor goes on
   abbrev pub KeepsConducting : (old new : Conductor L) → Type 0

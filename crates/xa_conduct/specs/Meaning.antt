@@ -83,15 +83,15 @@ step_after_forget _ = step_by_loss heards.LostEnd
 
 -- ** by place
 
-abbrev pub step_of : Place → Report → Step
-step_of Preparing report = step_after_vote report
-step_of AtOnce report = step_after_at_once report
-step_of Committing report = step_after_commit report
-step_of RollingBack report = step_after_rollback report
-step_of Undoing report = step_after_undo codes.Success report
-step_of Refusing report = step_after_undo (codes.RolledBack whys.Rollback) report
-step_of Forgetting report = step_after_forget report
-step_of place report = record { code = None; place = place; heard = heards.Nothing }
+abbrev pub step_at : Place → Report → Step
+step_at Preparing report = step_after_vote report
+step_at AtOnce report = step_after_at_once report
+step_at Committing report = step_after_commit report
+step_at RollingBack report = step_after_rollback report
+step_at Undoing report = step_after_undo codes.Success report
+step_at Refusing report = step_after_undo (codes.RolledBack whys.Rollback) report
+step_at Forgetting report = step_after_forget report
+step_at place report = record { code = None; place = place; heard = heards.Nothing }
 
 -- the call that waits behind xa_end, or alone
 abbrev pub kind_at : Place → CallKind
@@ -105,4 +105,4 @@ kind_at _ = kinds.Rollback
 -- there is such an answer to the call that was told
 abbrev pub takes : Place → Report → Bool
 takes place Lost = is_asked place
-takes place report = is_asked place && is_some (step_of place report).code
+takes place report = is_asked place && is_some (step_at place report).code

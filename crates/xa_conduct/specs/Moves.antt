@@ -62,22 +62,22 @@ abbrev pub IsReplyOf : Option Move → Reply → Type 0
 IsReplyOf asked reply = IsOfThread (thread_moved asked) reply
 
 -- each goes with the one at its place
-abbrev pub ArePaired : {X Y : Type 0} → (X → Y → Type 0) → List X → List Y → Type 0
-ArePaired AreSo [] [] = Unit {0}
-ArePaired AreSo (x ∷ xs) (y ∷ ys) = AreSo x y × ArePaired AreSo xs ys
-ArePaired AreSo xs ys = ⊥
+abbrev pub ArePairedInOrder : {X Y : Type 0} → (X → Y → Type 0) → List X → List Y → Type 0
+ArePairedInOrder AreSo [] [] = Unit {0}
+ArePairedInOrder AreSo (x ∷ xs) (y ∷ ys) = AreSo x y × ArePairedInOrder AreSo xs ys
+ArePairedInOrder AreSo xs ys = ⊥
 
 -- it is to a move of the thread that was taken
-abbrev pub is_of : (thread : ℕ) → Reply → Bool
-is_of i (replies.Thread t) = i == t
-is_of i (replies.Started t g) = i == t
-is_of i _ = false
+abbrev pub is_reply_to : (thread : ℕ) → Reply → Bool
+is_reply_to i (replies.Thread t) = i == t
+is_reply_to i (replies.Started t g) = i == t
+is_reply_to i _ = false
 
 abbrev pub has_moved : List Reply → Option ℕ → Bool
 has_moved told None = false
-has_moved told (Some t) = list_any (is_of t) told
+has_moved told (Some t) = list_any (is_reply_to t) told
 
 -- of each thread one move at most was taken
-abbrev pub AreOnce : List Reply → Type 0
-AreOnce [] = Unit {0}
-AreOnce (reply ∷ told) = ((t : ℕ) → is_of t reply ≡ true → list_any (is_of t) told ≡ false) × AreOnce told
+abbrev pub AreMovedOnce : List Reply → Type 0
+AreMovedOnce [] = Unit {0}
+AreMovedOnce (reply ∷ told) = ((t : ℕ) → is_reply_to t reply ≡ true → list_any (is_reply_to t) told ≡ false) × AreMovedOnce told

@@ -5,7 +5,7 @@ use Rattle.std.specs.List.{list_all}
 use Rattle.xa_base.specs.declared.code.Code.{Code}
 use Rattle.xa_base.specs.declared.code.Code.TheVariants as codes
 use Rattle.xa_base.specs.declared.code.How.TheVariants as hows
-use Rattle.xa_conduct.specs.Over.{has_calls, is_over}
+use Rattle.xa_conduct.specs.Over.{has_calls, is_all_answered}
 use Rattle.xa_conduct.specs.Places.{is_asked}
 use Rattle.xa_conduct.specs.Progress.{are_working, is_new_at}
 use Rattle.xa_conduct.specs.declared.moves.Move.{Move}
@@ -175,4 +175,4 @@ pub record IsToBeMoved (t : Transaction) : Type 0 where
 abbrev pub TransactionsAreNotStuck : Type 0
 TransactionsAreNotStuck =
     (t : Transaction) → is_at_rest t ≡ true → (t.standing ≡ standings.Idle → ⊥)
-    → (is_over t ≡ true) ⊎ (IsToBeTold t ⊎ IsToBeMoved t)
+    → (is_all_answered t ≡ true) ⊎ (IsToBeTold t ⊎ IsToBeMoved t)

@@ -20,8 +20,8 @@ is_decided Unknown = true
 abbrev pub has_calls : Transaction → Bool
 has_calls t = list_any (λ (part : Part). is_asked part.place) t.parts.items
 
-abbrev pub is_over : Transaction → Bool
-is_over t = is_decided t.standing && not (has_calls t)
+abbrev pub is_all_answered : Transaction → Bool
+is_all_answered t = is_decided t.standing && not (has_calls t)
 
 -- the end of a branch is left to the recovery, which would need the row
 abbrev pub has_left : Transaction → Bool
@@ -29,4 +29,4 @@ has_left t = list_any (λ (part : Part). is_left part.place) t.parts.items
 
 -- it has a row that no branch needs any more
 abbrev pub has_spare_row : Transaction → Bool
-has_spare_row t = not (has_left t) && (t.has_row && is_over t)
+has_spare_row t = not (has_left t) && (t.has_row && is_all_answered t)

@@ -64,9 +64,9 @@ is_on_branch kinds.CloseRm = false
 is_on_branch kinds.Recover = false
 is_on_branch kind = true
 
-abbrev pub is_open : CallKind → Bool
-is_open kinds.OpenRm = true
-is_open kind = false
+abbrev pub is_open_call : CallKind → Bool
+is_open_call kinds.OpenRm = true
+is_open_call kind = false
 
 abbrev pub is_recover : CallKind → Bool
 is_recover kinds.Recover = true
@@ -75,7 +75,7 @@ is_recover kind = false
 -- a code to a call on a branch of this manager, or to an xa_open
 abbrev pub is_named : CallKind → Option Xid → Bool
 is_named kind (Some x) = is_on_branch kind && is_own x
-is_named kind None = is_open kind
+is_named kind None = is_open_call kind
 
 abbrev pub is_none : Option Xid → Bool
 is_none None = true
@@ -105,9 +105,9 @@ ArePlain requests = list_all is_plain requests ≡ true
 -- ** and their lines
 
 -- a driver may ask for it by a line
-abbrev pub HasLine : Request → Type 0
-HasLine request = (line : List ℕ) × (asked_in line ≡ Some request)
+abbrev pub IsAskedInLine : Request → Type 0
+IsAskedInLine request = (line : List ℕ) × (asked_in line ≡ Some request)
 
 -- each plain request has one
 abbrev pub PlainRequestsHaveLines : Type 0
-PlainRequestsHaveLines = (request : Request) → is_plain request ≡ true → HasLine request
+PlainRequestsHaveLines = (request : Request) → is_plain request ≡ true → IsAskedInLine request

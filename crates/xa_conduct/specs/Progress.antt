@@ -3,7 +3,7 @@
 use Rattle.std.specs.Prelude.{◌≡◌, ◌≤◌, ◌<◌, ◌+◌, ◌⊎◌, ◌==◌, ◌&&◌, ℕ, Bool, true, false, not, List, Option, Some, None, [], length, get_or, slice_get, if◌then◌else◌}
 use Rattle.std.specs.List.{list_all, list_any, sum_by}
 use Rattle.xa_base.specs.declared.branch.Gtrid.{Gtrid}
-use Rattle.xa_conduct.specs.Over.{is_over}
+use Rattle.xa_conduct.specs.Over.{is_all_answered}
 use Rattle.xa_conduct.specs.Places.{is_asked, is_working, steps_at}
 use Rattle.xa_conduct.specs.declared.notes.Reply.{Reply}
 use Rattle.xa_conduct.specs.declared.notes.Reply.TheVariants as replies
@@ -45,11 +45,11 @@ IsBegun g t = (t.gtrid ≡ g) × (t.standing ≡ Open) × (t.parts.items ≡ [])
 -- ** branches
 
 -- it is the one at this resource manager
-abbrev pub is_at : (rm : ℕ) → Part → Bool
-is_at rm part = part.rm == rm
+abbrev pub is_part_at : (rm : ℕ) → Part → Bool
+is_part_at rm part = part.rm == rm
 
 abbrev pub is_new_at : List Part → (rm : ℕ) → Bool
-is_new_at parts rm = not (list_any (is_at rm) parts)
+is_new_at parts rm = not (list_any (is_part_at rm) parts)
 
 -- the branch at this place was told a call
 abbrev pub is_asked_of : Option Part → Bool
@@ -66,12 +66,12 @@ are_working parts = list_all (λ (part : Part). is_working part.place) parts
 -- ** the moves of a line
 
 -- how many of these replies are to moves of the thread that were taken
-abbrev pub is_taken : (thread : ℕ) → Reply → ℕ
-is_taken i (replies.Thread t) = if i == t then 1 else 0
-is_taken i _ = 0
+abbrev pub takes_move : (thread : ℕ) → Reply → ℕ
+takes_move i (replies.Thread t) = if i == t then 1 else 0
+takes_move i _ = 0
 
 abbrev pub moves_taken : (thread : ℕ) → List Reply → ℕ
-moves_taken i told = sum_by (is_taken i) told
+moves_taken i told = sum_by (takes_move i) told
 
 -- its first transaction began
 abbrev pub is_start : (thread : ℕ) → Reply → Bool

@@ -2,8 +2,8 @@
 use Rattle.std.specs.Prelude.{◌≡◌, ◌<◌, ◌⊎◌, ℕ, Bool, true, MatchBool, List, [], ◌∷◌, ◌++◌, Option, Some, None, codes, get_or, length}
 use Rattle.std.specs.List.{Contains}
 use Rattle.xa_requests.specs.declared.request.Request.{Request}
-use Rattle.xa_conduct.specs.Backing.{Rests}
-use Rattle.xa_conduct.specs.Moves.{ArePaired, parts_of, thread_in}
+use Rattle.xa_conduct.specs.Backing.{TransactionRests}
+use Rattle.xa_conduct.specs.Moves.{ArePairedInOrder, parts_of, thread_in}
 use Rattle.xa_conduct.specs.Over.{has_calls}
 use Rattle.xa_conduct.specs.Places.{is_asked}
 use Rattle.xa_conduct.specs.declared.notes.Reply.{Reply}
@@ -29,11 +29,11 @@ verb_at Forgetting = codes "forget"
 verb_at place = []
 
 -- how a transaction stands that has no call to make
-abbrev pub word_of : Standing → List ℕ
-word_of Committed = codes "committed"
-word_of (RolledBack why) = codes "rolled-back"
-word_of Unknown = codes "unknown"
-word_of standing = codes "joined"
+abbrev pub standing_word : Standing → List ℕ
+standing_word Committed = codes "committed"
+standing_word (RolledBack why) = codes "rolled-back"
+standing_word Unknown = codes "unknown"
+standing_word standing = codes "joined_replies"
 
 -- behind a word comes a space, or nothing
 abbrev pub IsBehindWord : List ℕ → Type 0
@@ -47,8 +47,8 @@ pub record HasFirst (word text : List ℕ) : Type 0 where
   pub parted : IsBehindWord rest
 
 -- a text goes on by some that is so
-abbrev pub Adds : (List ℕ → Type 0) → (old new : List ℕ) → Type 0
-Adds IsSo old new = (said : List ℕ) × (new ≡ old ++ said) × IsSo said
+abbrev pub AddsText : (List ℕ → Type 0) → (old new : List ℕ) → Type 0
+AddsText IsSo old new = (said : List ℕ) × (new ≡ old ++ said) × IsSo said
 
 -- ** replies
 
@@ -61,14 +61,14 @@ pub record TellsCall (branches : List Part) (text : List ℕ) : Type 0 where
 
 -- the text tells of the transaction: calls, or if there are none, how it stands
 abbrev pub TellsOf : Transaction → List ℕ → Type 0
-TellsOf t text = MatchBool (has_calls t) (TellsCall t.parts.items text) (HasFirst (word_of t.standing) text)
+TellsOf t text = MatchBool (has_calls t) (TellsCall t.parts.items text) (HasFirst (standing_word t.standing) text)
 
 -- What is told of the transaction that is noted of a thread, by its name, rests on what was asked for.
 pub record TellsSo (asked : (Request → Bool) → Bool) (noted : List Transaction) (thread : ℕ) (text : List ℕ) : Type 0 where
   pub transaction : Transaction
   pub among : thread < length noted
   pub name : transaction.gtrid ≡ (get_or noted thread transaction).gtrid
-  pub rests : Rests asked transaction
+  pub rests : TransactionRests asked transaction
   pub tells : TellsOf transaction text
 
 -- A reply to a move of the thread tells of that thread's transaction; or it says that its first transaction began, or that nothing was done.
@@ -81,17 +81,17 @@ abbrev pub IsReplyTo : ((Request → Bool) → Bool) → List Transaction → (p
 IsReplyTo asked noted part text = IsReply asked noted (thread_in part) text
 
 -- replies, with this between any two
-abbrev pub joined : List (List ℕ) → List ℕ
-joined [] = []
-joined (x ∷ []) = x
-joined (x ∷ (y ∷ ys)) = x ++ (59 ∷ joined (y ∷ ys))
+abbrev pub joined_replies : List (List ℕ) → List ℕ
+joined_replies [] = []
+joined_replies (x ∷ []) = x
+joined_replies (x ∷ (y ∷ ys)) = x ++ (59 ∷ joined_replies (y ∷ ys))
 
 -- The replies to a line of moves are one to each of its parts, in their order. What is told of the transaction of a thread is told of the one that
 -- was noted of it before the line.
 pub record AreReplies (asked : (Request → Bool) → Bool) (noted : List Transaction) (line text : List ℕ) : Type 0 where
   pub replies : List (List ℕ)
-  pub are : text ≡ joined replies
-  pub each : ArePaired (IsReplyTo asked noted) (parts_of line) replies
+  pub are : text ≡ joined_replies replies
+  pub each : ArePairedInOrder (IsReplyTo asked noted) (parts_of line) replies
 
 -- ** while a line is replied
 
@@ -106,7 +106,7 @@ IsToldBy asked noted (replies.Started t g) text = HasFirst (codes "started") tex
 IsToldBy asked noted reply text = HasFirst (codes "error") text
 
 -- by each of these
-pub record AreTold (asked : (Request → Bool) → Bool) (noted : List Transaction) (told : List Reply) (text : List ℕ) : Type 0 where
+pub record AreRepliesTold (asked : (Request → Bool) → Bool) (noted : List Transaction) (told : List Reply) (text : List ℕ) : Type 0 where
   pub texts : List (List ℕ)
-  pub are : text ≡ joined texts
-  pub each : ArePaired (IsToldBy asked noted) told texts
+  pub are : text ≡ joined_replies texts
+  pub each : ArePairedInOrder (IsToldBy asked noted) told texts

@@ -3,9 +3,9 @@ use Rattle.std.specs.Prelude.{◌≡◌, ◌≤◌, ◌<◌, ◌+◌, ◌*◌, �
 use Rattle.std.specs.List.{list_any}
 use Rattle.xa_log.specs.Contract.{Moment}
 use Rattle.xa_conduct.specs.Conducting.{MovesNone}
-use Rattle.xa_conduct.specs.Over.{is_over}
+use Rattle.xa_conduct.specs.Over.{is_all_answered}
 use Rattle.xa_conduct.specs.Progress.{AllStep, is_start, moves_taken}
-use Rattle.xa_conduct.specs.Told.{HasFirst, joined}
+use Rattle.xa_conduct.specs.Told.{HasFirst, joined_replies}
 use Rattle.xa_conduct.specs.declared.conductor.Conductor.{Conductor}
 use Rattle.xa_conduct.specs.declared.notes.Reply.{Reply}
 use Rattle.xa_conduct.specs.declared.notes.Reply.TheVariants as replies
@@ -29,7 +29,7 @@ AreSaid told texts = ⊥
 -- the text has a part for each reply
 pub record SaysAll (told : List Reply) (text : List ℕ) : Type 0 where
   pub texts : List (List ℕ)
-  pub are : text ≡ joined texts
+  pub are : text ≡ joined_replies texts
   pub said : AreSaid told texts
 
 -- ** one transaction after another
@@ -45,7 +45,7 @@ IsNew t = (t.standing ≡ Open) × (t.parts.items ≡ [])
 
 -- it goes on; or it is over, and the thread's next has begun
 abbrev pub Passes : Transaction → Transaction → Type 0
-Passes t u = IsSame t u ⊎ ((is_over t ≡ true) × IsNew u)
+Passes t u = IsSame t u ⊎ ((is_all_answered t ≡ true) × IsNew u)
 
 pub record AllPass (ts us : List Transaction) : Type 0 where
   pub count : length us ≡ length ts

@@ -3,7 +3,7 @@
 ghost use Rattle.std.specs.Prelude.{◌≡◌, ◌≤◌, ℕ, true, false, length, IfOk, List, string_bytes};
 ghost use Rattle.xa_conduct.specs.Acting.{Acts, GoesOn};
 ghost use Rattle.xa_conduct.specs.Conducting.{Conducts, TurnsSo};
-ghost use Rattle.xa_conduct.specs.Moves.{ArePaired, IsReadOf, parts_of};
+ghost use Rattle.xa_conduct.specs.Moves.{ArePairedInOrder, IsReadOf, parts_of};
 ghost use Rattle.xa_conduct.specs.Turns.{StepsOn};
 ghost use Rattle.xa_requests.specs.declared.request.Request.{Request};
 ghost use Rattle.xa_server.specs.declared.server.Server.{Server};
@@ -105,7 +105,7 @@ impl<L: DecisionLog + Drop> Conductor<L> {
         ensures ready { IsReady self.new.server.session }
         ensures acts { GoesOn L.moment self.old.server self.new.server }
         ensures rests { IfOk result (λ text. (line : List ℕ) →
-            ArePaired IsReadOf (parts_of line) moves.now →
+            ArePairedInOrder IsReadOf (parts_of line) moves.now →
             TurnsSo L.moment self.old self.new line (string_bytes text)) }
         ensures steps { IfOk result (λ text.
             StepsOn L.moment self.old self.new (string_bytes text)) }

@@ -1,7 +1,7 @@
 //! What the report of a call means, by the place of the branch that waited for it.
 
 ghost use Rattle.std.specs.Prelude.{◌≡◌, true};
-ghost use Rattle.xa_conduct.specs.Meaning.{kind_at, step_by_answer, step_by_loss, step_of, step_to_end, takes};
+ghost use Rattle.xa_conduct.specs.Meaning.{kind_at, step_by_answer, step_by_loss, step_at, step_to_end, takes};
 ghost use Rattle.xa_conduct.specs.Meaning.{step_after_at_once, step_after_commit, step_after_forget};
 ghost use Rattle.xa_conduct.specs.Meaning.{step_after_rollback, step_after_undo, step_after_vote};
 ghost use Rattle.xa_conduct.specs.NotStuck.{is_in_table};
@@ -192,7 +192,7 @@ fn step_after_forget(report: Report) -> Step
 impl Place {
     /// What follows from a report. One that is no answer to the call is taken as a loss.
     pub fn step_of(self, report: Report) -> Step
-        ensures { result ≡ step_of self report }
+        ensures { result ≡ step_at self report }
     {
         match self {
             Place::Preparing => step_after_vote(report),

@@ -2,7 +2,7 @@
 
 ghost use Rattle.std.specs.Prelude.{◌≡◌, ◌==◌, ◌≤◌, None, length, map, IfOk};
 ghost use Rattle.std.specs.List.{slice_split};
-ghost use Rattle.xa_conduct.specs.Moves.{ArePaired, IsMoveBy, IsReadOf, parts_of, thread_behind};
+ghost use Rattle.xa_conduct.specs.Moves.{ArePairedInOrder, IsMoveBy, IsReadOf, parts_of, thread_behind};
 ghost use Rattle.xa_conduct.specs.Moves.{thread_moved, thread_of};
 ghost use Rattle.xa_requests.specs.Words.{words_of};
 
@@ -232,7 +232,7 @@ fn cut_in_parts(alloc: Global, line: &str) -> Result<Vec<&str>, AllocError>
 fn read_each(alloc: Global, parts: &[&str]) -> Result<Vec<Option<Move>>, AllocError>
     ensures count { IfOk result (λ moves. length moves.items ≡ length parts.now) }
     ensures read { IfOk result (λ moves.
-        ArePaired IsReadOf (map (λ part. part.now) parts.now) moves.items) }
+        ArePairedInOrder IsReadOf (map (λ part. part.now) parts.now) moves.items) }
 {
     let mut moves = Vec::with_capacity(alloc, parts.len())?;
     for part in parts {
@@ -245,7 +245,7 @@ fn read_each(alloc: Global, parts: &[&str]) -> Result<Vec<Option<Move>>, AllocEr
 /// What the parts of a line ask for. One that has too many parts asks for nothing.
 pub fn read_moves(alloc: Global, line: &str) -> Result<Vec<Option<Move>>, AllocError>
     ensures few { IfOk result (λ moves. length moves.items ≤ 1024) }
-    ensures read { IfOk result (λ moves. ArePaired IsReadOf (parts_of line.now) moves.items) }
+    ensures read { IfOk result (λ moves. ArePairedInOrder IsReadOf (parts_of line.now) moves.items) }
 {
     let parts = cut_in_parts(alloc, line)?;
     if parts.len() > MOST_MOVES {

@@ -3,10 +3,10 @@
 
 ghost use Rattle.std.specs.Prelude.{◌≡◌, ◌≤◌, ◌∷◌, [], length, All, Bool, IfOk, Some};
 ghost use Rattle.std.specs.List.{list_any};
-ghost use Rattle.xa_conduct.specs.Backing.{KeepResting, Rests};
+ghost use Rattle.xa_conduct.specs.Backing.{KeepResting, TransactionRests};
 ghost use Rattle.xa_conduct.specs.Decided.{AsksNoLess};
-ghost use Rattle.xa_conduct.specs.Moves.{AreOnce, ArePaired, IsOfThread, IsReplyOf, has_moved};
-ghost use Rattle.xa_conduct.specs.Moves.{is_of, thread_of};
+ghost use Rattle.xa_conduct.specs.Moves.{AreMovedOnce, ArePairedInOrder, IsOfThread, IsReplyOf, has_moved};
+ghost use Rattle.xa_conduct.specs.Moves.{is_reply_to, thread_of};
 ghost use Rattle.xa_conduct.specs.NotStuck.{IsTakenSo, may_commit, may_join, may_roll_back, may_tell, reply_if};
 ghost use Rattle.xa_conduct.specs.Progress.{AllStep};
 ghost use Rattle.xa_requests.specs.declared.request.Request.{Request};
@@ -39,7 +39,7 @@ pub(crate) enum Reply {
 
 /// Whether it is the reply to a move of the thread that was taken.
 fn is_of(reply: Reply, thread: u32) -> bool
-    ensures { result ≡ is_of thread reply }
+    ensures { result ≡ is_reply_to thread reply }
 {
     match reply {
         Reply::Thread(other) | Reply::Started(other, _) => thread == other,
@@ -49,7 +49,7 @@ fn is_of(reply: Reply, thread: u32) -> bool
 
 /// Whether one of these is.
 fn has_one_of(replies: &[Reply], thread: u32) -> bool
-    ensures { result ≡ list_any (is_of thread) replies.now }
+    ensures { result ≡ list_any (is_reply_to thread) replies.now }
 {
     replies.iter().any(|reply| is_of(*reply, thread))
 }
@@ -93,7 +93,7 @@ impl Notes {
     /// Nothing has happened in this incarnation, of so many threads and resource managers.
     pub fn new(alloc: Global, incarnation: u64, threads: u32, rms: u32) -> Result<Notes, Memory>
         ensures { IfOk result (λ notes.
-            (asked : (Request → Bool) → Bool) → All (Rests asked) notes.transactions.items) }
+            (asked : (Request → Bool) → Bool) → All (TransactionRests asked) notes.transactions.items) }
     {
         let mut transactions = Vec::with_capacity(alloc, threads as usize)?;
         for thread in 0..threads {
@@ -145,8 +145,8 @@ impl Notes {
     ) -> Result<Vec<Reply>, Memory>
         ensures count { IfOk result (λ replies. length replies.items ≡ length moves.now) }
         ensures threads { IfOk result (λ replies.
-            ArePaired IsReplyOf moves.now replies.items) }
-        ensures once { IfOk result (λ replies. AreOnce replies.items) }
+            ArePairedInOrder IsReplyOf moves.now replies.items) }
+        ensures once { IfOk result (λ replies. AreMovedOnce replies.items) }
         ensures steps { IfOk result (λ replies. AllStep replies.items
             self.old.transactions.items self.new.transactions.items) }
         ensures more { IfOk result (λ _.

@@ -5,7 +5,7 @@ ghost use Rattle.std.specs.Prelude.{◌≡◌, ◌≢◌, ◌<◌, ◌≤◌, []
 ghost use Rattle.xa_conduct.specs.Backing.{IsToldSo, KeepsBacked, asks_forget, was_asked};
 ghost use Rattle.xa_conduct.specs.Debts.{OwesNoLess, is_owed_to};
 ghost use Rattle.xa_conduct.specs.Decided.{AsksNoLess, CommitIsAsked, is_rollback_of};
-ghost use Rattle.xa_conduct.specs.Meaning.{step_of};
+ghost use Rattle.xa_conduct.specs.Meaning.{step_at};
 ghost use Rattle.xa_conduct.specs.Places.{is_asked, is_left, is_working, steps_at};
 ghost use Rattle.xa_conduct.specs.declared.place.Place.TheVariants as Places;
 
@@ -149,15 +149,15 @@ impl Part {
         ensures more { IfOk result (λ _.
             AsksNoLess plan.old.requests.items plan.new.requests.items) }
         ensures place { IfOk result (λ _.
-            self.new.place ≡ (step_of self.old.place report).place) }
+            self.new.place ≡ (step_at self.old.place report).place) }
         ensures heard { IfOk result (λ heard.
-            heard ≡ (step_of self.old.place report).heard) }
+            heard ≡ (step_at self.old.place report).heard) }
         ensures backed { IfOk result (λ _. KeepsBacked plan.old.requests.items
             plan.new.requests.items branch self.old.place self.new.place) }
         // The answer is of the call that was told, or its line is lost.
         ensures tells { is_asked self.old.place ≡ true → IfOk result (λ _.
             IsToldSo (was_asked [] plan.new.requests.items) branch self.old.place
-            (step_of self.old.place report).code) }
+            (step_at self.old.place report).code) }
         // What is left to the recovery is owed, and nothing that was owed is forgotten.
         ensures owed { IfOk result (λ _. self.new.place ≡ Places.Owed →
             self.old.place ≢ Places.Owed → list_any (is_owed_to branch) debts.new.items ≡ true) }

@@ -8,7 +8,7 @@ ghost use Rattle.xa_base.specs.declared.call.CallKind.{CallKind};
 ghost use Rattle.xa_base.specs.declared.code.Code.{Code};
 ghost use Rattle.xa_base.specs.declared.step.Outcome.TheVariants as Outcomes;
 ghost use Rattle.xa_conduct.specs.Backing.{asks_at_once, asks_commit, asks_forget, asks_prepare};
-ghost use Rattle.xa_conduct.specs.Backing.{asks_rollback, loses, tells};
+ghost use Rattle.xa_conduct.specs.Backing.{asks_rollback, loses, tells_code};
 ghost use Rattle.xa_conduct.specs.Decided.{AsksNoLess, CommitIsAsked, is_rollback_of, is_same};
 ghost use Rattle.xa_conduct.specs.Plain.{ArePlain, is_gtrid, is_on_branch, is_own, is_plain, is_plain_call};
 ghost use Rattle.xa_requests.specs.declared.request.Request.TheVariants as Requests;
@@ -139,7 +139,7 @@ impl Plan {
             AsksNoLess self.old.requests.items self.new.requests.items) }
         ensures told { IfOk result (λ _. (are_so : CallKind → Code → Bool) →
             are_so kind code ≡ true →
-            list_any (tells are_so branch) self.new.requests.items ≡ true) }
+            list_any (tells_code are_so branch) self.new.requests.items ≡ true) }
     {
         self.add(Request::Answer {
             thread: branch.thread,

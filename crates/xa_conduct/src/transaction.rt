@@ -4,15 +4,15 @@
 ghost use Rattle.std.specs.Prelude.{◌≡◌, ◌<◌, ◌≤◌, ◌-◌, Bool, true, false, IfOk, IfSome, None};
 ghost use Rattle.std.specs.Prelude.{ℕ, length, nat_lt, if◌then◌else◌};
 ghost use Rattle.std.specs.List.{Contains, list_all, list_any};
-ghost use Rattle.xa_conduct.specs.Backing.{KeepAllBacked, KeepsResting, Rests, branch_at};
-ghost use Rattle.xa_conduct.specs.Backing.{standing_after};
+ghost use Rattle.xa_conduct.specs.Backing.{KeepAllBacked, KeepsResting, TransactionRests, branch_at_rm};
+ghost use Rattle.xa_conduct.specs.Backing.{standing_once_heard};
 ghost use Rattle.xa_conduct.specs.Decided.{AsksNoLess, CommitIsAsked, is_for, is_rollback_of};
 ghost use Rattle.xa_conduct.specs.NotStuck.{are_answers, are_undone, calls_of, is_undecided};
 ghost use Rattle.xa_conduct.specs.NotStuck.{may_commit, may_join, may_roll_back, may_tell};
-ghost use Rattle.xa_conduct.specs.Over.{has_calls, has_left, has_spare_row, is_decided, is_over};
+ghost use Rattle.xa_conduct.specs.Over.{has_calls, has_left, has_spare_row, is_decided, is_all_answered};
 ghost use Rattle.xa_conduct.specs.Places.{is_asked};
 ghost use Rattle.xa_conduct.specs.Progress.{IsBegun, Steps, are_working, branch_steps, is_asked_in};
-ghost use Rattle.xa_conduct.specs.Progress.{is_at, is_new_at, steps_to};
+ghost use Rattle.xa_conduct.specs.Progress.{is_part_at, is_new_at, steps_to};
 ghost use Rattle.xa_conduct.specs.declared.transaction.Standing.TheVariants as Standings;
 ghost use Rattle.xa_requests.specs.declared.request.Request.{Request};
 
@@ -167,7 +167,7 @@ fn are_answers(parts: &[Part], reports: &[Report]) -> bool
 impl Transaction {
     /// None has begun.
     pub fn new(alloc: Global, thread: u32, rms: u32) -> Result<Transaction, AllocError>
-        ensures { IfOk result (λ t. (asked : (Request → Bool) → Bool) → Rests asked t) }
+        ensures { IfOk result (λ t. (asked : (Request → Bool) → Bool) → TransactionRests asked t) }
     {
         Ok(Transaction {
             thread,
@@ -185,7 +185,7 @@ impl Transaction {
 
     /// The next transaction has begun.
     pub fn begin(&mut self, gtrid: Gtrid)
-        ensures rests { (asked : (Request → Bool) → Bool) → Rests asked self.new }
+        ensures rests { (asked : (Request → Bool) → Bool) → TransactionRests asked self.new }
         ensures begun { IsBegun gtrid self.new }
     {
         self.gtrid = gtrid;
@@ -197,7 +197,7 @@ impl Transaction {
 
     /// The branch at a resource manager.
     fn branch_at(&self, rm: u32) -> Branch
-        ensures { result ≡ branch_at self.now.gtrid self.now.thread rm }
+        ensures { result ≡ branch_at_rm self.now.gtrid self.now.thread rm }
     {
         Branch {
             gtrid: self.gtrid,
@@ -301,7 +301,7 @@ impl Transaction {
 
     /// Whether the transaction is over: decided, with nothing more to be answered.
     pub fn is_over(&self) -> bool
-        ensures { result ≡ is_over self.now }
+        ensures { result ≡ is_all_answered self.now }
     {
         self.has_outcome() && !self.is_asked()
     }
@@ -315,7 +315,7 @@ impl Transaction {
 
     /// Whether it is over with a row that no branch needs any more.
     pub fn has_spare_row(&self) -> bool
-        ensures over { result ≡ true → is_over self.now ≡ true }
+        ensures over { result ≡ true → is_all_answered self.now ≡ true }
         ensures left { result ≡ true → has_left self.now ≡ false }
         ensures exact { result ≡ has_spare_row self.now }
     {
@@ -327,7 +327,7 @@ impl Transaction {
 
     /// Whether there is a branch at the resource manager.
     fn has(&self, rm: u32) -> bool
-        ensures { result ≡ list_any (is_at rm) self.now.parts.items }
+        ensures { result ≡ list_any (is_part_at rm) self.now.parts.items }
     {
         self.parts.iter().any(|part| part.rm == rm)
     }
@@ -577,7 +577,7 @@ impl Transaction {
         ensures gtrid { self.new.gtrid ≡ self.old.gtrid }
         ensures thread { self.new.thread ≡ self.old.thread }
         ensures parts { self.new.parts ≡ self.old.parts }
-        ensures standing { self.new.standing ≡ standing_after self.old.standing heard rm }
+        ensures standing { self.new.standing ≡ standing_once_heard self.old.standing heard rm }
     {
         if heard.is_line_lost() {
             if let Some(is_open) = self.lines.get_mut(rm as usize) {
@@ -590,7 +590,7 @@ impl Transaction {
 
 /// How a transaction stands that stood so, once a branch at a resource manager was heard.
 fn standing_after(standing: Standing, heard: Heard, rm: u32) -> Standing
-    ensures { result ≡ standing_after standing heard rm }
+    ensures { result ≡ standing_once_heard standing heard rm }
 {
     match heard {
         Heard::Committed => Standing::Committed,

@@ -2,7 +2,7 @@
 
 ghost use Rattle.std.specs.Prelude.{◌≡◌, true, IfOk, string_bytes};
 ghost use Rattle.xa_conduct.specs.Over.{has_calls};
-ghost use Rattle.xa_conduct.specs.Told.{Adds, HasFirst, IsBehindWord, TellsCall, TellsOf, word_of};
+ghost use Rattle.xa_conduct.specs.Told.{AddsText, HasFirst, IsBehindWord, TellsCall, TellsOf, standing_word};
 
 use crate::part::Part;
 use crate::transaction::{Standing, Transaction};
@@ -13,7 +13,7 @@ use xa_base::{Gtrid, How, Memory, RbCode};
 #[tactic(auto, using(xa_files::proofs::Pieces::four_pieces))]
 fn add_number(text: &mut String, alloc: Global, number: u32) -> Result<(), Memory>
     ensures { IfOk result (λ _.
-        Adds IsBehindWord (string_bytes text.old) (string_bytes text.new)) }
+        AddsText IsBehindWord (string_bytes text.old) (string_bytes text.new)) }
 {
     let word = format!(in alloc; " {number}")?;
     text.push_str(word.as_str())?;
@@ -23,7 +23,7 @@ fn add_number(text: &mut String, alloc: Global, number: u32) -> Result<(), Memor
 /// Adds the calls that are to be made next. They have one verb: calls of two kinds never wait at a time.
 fn add_calls(text: &mut String, alloc: Global, transaction: &Transaction) -> Result<(), Memory>
     requires { has_calls transaction.now ≡ true }
-    ensures { IfOk result (λ _. Adds (TellsCall transaction.now.parts.items)
+    ensures { IfOk result (λ _. AddsText (TellsCall transaction.now.parts.items)
         (string_bytes text.old) (string_bytes text.new)) }
 {
     let Some(first) = transaction.first_asked() else {
@@ -37,7 +37,7 @@ fn add_calls(text: &mut String, alloc: Global, transaction: &Transaction) -> Res
 /// Adds the resource managers of the branches that were told a call.
 fn add_asked(text: &mut String, alloc: Global, transaction: &Transaction) -> Result<(), Memory>
     ensures { IfOk result (λ _.
-        Adds IsBehindWord (string_bytes text.old) (string_bytes text.new)) }
+        AddsText IsBehindWord (string_bytes text.old) (string_bytes text.new)) }
 {
     for part in transaction.parts.as_slice() {
         if part.place.is_asked() {
@@ -49,7 +49,7 @@ fn add_asked(text: &mut String, alloc: Global, transaction: &Transaction) -> Res
 
 /// Adds how it stands.
 fn add_standing(text: &mut String, alloc: Global, standing: Standing) -> Result<(), Memory>
-    ensures { IfOk result (λ _. Adds (HasFirst (word_of standing))
+    ensures { IfOk result (λ _. AddsText (HasFirst (standing_word standing))
         (string_bytes text.old) (string_bytes text.new)) }
 {
     match standing {
@@ -77,7 +77,7 @@ fn add_standing(text: &mut String, alloc: Global, standing: Standing) -> Result<
 #[tactic(auto, using(xa_files::proofs::Pieces::four_pieces))]
 fn add_why(text: &mut String, alloc: Global, why: Option<(RbCode, u32)>) -> Result<(), Memory>
     ensures { IfOk result (λ _.
-        Adds IsBehindWord (string_bytes text.old) (string_bytes text.new)) }
+        AddsText IsBehindWord (string_bytes text.old) (string_bytes text.new)) }
 {
     let Some((code, rm)) = why else {
         return Ok(());
@@ -99,7 +99,7 @@ fn is_mixed(how: How, standing: Standing) -> bool {
 /// Adds the branches whose end is left to the recovery, and those that ended otherwise.
 fn add_parts(text: &mut String, alloc: Global, transaction: &Transaction) -> Result<(), Memory>
     ensures { IfOk result (λ _.
-        Adds IsBehindWord (string_bytes text.old) (string_bytes text.new)) }
+        AddsText IsBehindWord (string_bytes text.old) (string_bytes text.new)) }
 {
     add_owed(text, alloc, transaction)?;
     add_mixed(text, alloc, transaction)?;
@@ -110,7 +110,7 @@ fn add_parts(text: &mut String, alloc: Global, transaction: &Transaction) -> Res
 fn add_once(text: &mut String, is_first: bool, word: &str) -> Result<(), Memory>
     requires { IsBehindWord word.now }
     ensures { IfOk result (λ _.
-        Adds IsBehindWord (string_bytes text.old) (string_bytes text.new)) }
+        AddsText IsBehindWord (string_bytes text.old) (string_bytes text.new)) }
 {
     if !is_first {
         return Ok(());
@@ -122,7 +122,7 @@ fn add_once(text: &mut String, is_first: bool, word: &str) -> Result<(), Memory>
 /// Adds the branches whose end is left to the recovery.
 fn add_owed(text: &mut String, alloc: Global, transaction: &Transaction) -> Result<(), Memory>
     ensures { IfOk result (λ _.
-        Adds IsBehindWord (string_bytes text.old) (string_bytes text.new)) }
+        AddsText IsBehindWord (string_bytes text.old) (string_bytes text.new)) }
 {
     let mut is_first = true;
     for part in transaction.parts.as_slice() {
@@ -146,7 +146,7 @@ fn mixed_end(part: &Part, standing: Standing) -> Option<How> {
 /// Adds the branches that ended otherwise than was decided.
 fn add_mixed(text: &mut String, alloc: Global, transaction: &Transaction) -> Result<(), Memory>
     ensures { IfOk result (λ _.
-        Adds IsBehindWord (string_bytes text.old) (string_bytes text.new)) }
+        AddsText IsBehindWord (string_bytes text.old) (string_bytes text.new)) }
 {
     let mut is_first = true;
     for part in transaction.parts.as_slice() {
@@ -163,7 +163,7 @@ fn add_mixed(text: &mut String, alloc: Global, transaction: &Transaction) -> Res
 #[tactic(auto, using(xa_files::proofs::Pieces::four_pieces))]
 fn add_end(text: &mut String, alloc: Global, rm: u32, how: How) -> Result<(), Memory>
     ensures { IfOk result (λ _.
-        Adds IsBehindWord (string_bytes text.old) (string_bytes text.new)) }
+        AddsText IsBehindWord (string_bytes text.old) (string_bytes text.new)) }
 {
     let number = how.number();
     let word = format!(in alloc; " {rm} {number}")?;
@@ -174,7 +174,7 @@ fn add_end(text: &mut String, alloc: Global, rm: u32, how: How) -> Result<(), Me
 /// Adds the name of the thread's next transaction.
 pub(crate) fn add_next(text: &mut String, alloc: Global, gtrid: Gtrid) -> Result<(), Memory>
     ensures { IfOk result (λ _.
-        Adds IsBehindWord (string_bytes text.old) (string_bytes text.new)) }
+        AddsText IsBehindWord (string_bytes text.old) (string_bytes text.new)) }
 {
     let name = gtrid.text(alloc)?;
     text.push_str(" next ")?;
@@ -188,7 +188,7 @@ pub(crate) fn add_told(
     alloc: Global,
     transaction: &Transaction,
 ) -> Result<(), Memory>
-    ensures { IfOk result (λ _. Adds (TellsOf transaction.now)
+    ensures { IfOk result (λ _. AddsText (TellsOf transaction.now)
         (string_bytes text.old) (string_bytes text.new)) }
 {
     if transaction.is_asked() {

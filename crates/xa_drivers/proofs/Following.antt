@@ -12,7 +12,7 @@ use Rattle.xa_drivers.proofs.Paths.{Path, Path.Alone, Path.Here, Path.Step, same
 use Rattle.xa_drivers.proofs.Steps.{StepAlone, StepBy, StepByAnswer, broken_shut}
 use Rattle.xa_drivers.proofs.Waiting.{AllWait, Elsewhere, MovedUp, all_wait, lost_wait, told_wait, waits_behind, waits_elsewhere, waits_on}
 use Rattle.xa_drivers.specs.Deeds.{AnswersByTable, Deeds, Deeds.Ended, Deeds.Made, Deeds.Did, Deeds.Severed, Deeds.Told, Deeds.ToldLost, IsAnswer, ObeyTable, seen_of, stands}
-use Rattle.xa_drivers.specs.Faithful.{IsLostNext, IsLostNext.FirstMade, IsLostNext.NoneMade, IsNext, Keeps, Keeps.Begins, Keeps.Ends, Keeps.Loses, Keeps.Makes, Keeps.Does, Keeps.Tells, Keeps.TellsLoss, MayMake, Untold, Untold.ALoss, Untold.AnAnswer, begins, is_open, open_on}
+use Rattle.xa_drivers.specs.Faithful.{IsLostNext, IsLostNext.FirstMade, IsLostNext.NoneMade, IsToldNext, DrivesByRules, DrivesByRules.Begins, DrivesByRules.Ends, DrivesByRules.Loses, DrivesByRules.Makes, DrivesByRules.Does, DrivesByRules.Tells, DrivesByRules.TellsLoss, MayMakeCall, Untold, Untold.ALoss, Untold.AnAnswer, begins_branch, is_open_branch, open_on}
 use Rattle.xa_model.specs.Facts.Standings.{moved_by}
 use Rattle.xa_model.specs.Trace.{Answer, Branch, Call, Code, Happening, How, Line, Origin, line_eq, line_of}
 use Rattle.xa_monitor.proofs.UntoldCalls.{one_if}
@@ -35,7 +35,7 @@ module _ (o : Origin) (mine : Branch → Bool) (from : Branch → Standing) wher
   -- ** a call
 
   by_table : (q : Option (Kind × Branch)) (l : Line) (a : Code) (f : Branch → Standing) → AnswersByTable mine f q a
-      → ((k : Kind) (b : Branch) → q ≡ Some (k, b) → (begins k || is_open (f b)) ≡ true → l ≡ line_of b)
+      → ((k : Kind) (b : Branch) → q ≡ Some (k, b) → (begins_branch k || is_open_branch (f b)) ≡ true → l ≡ line_of b)
       → (b : Branch) → mine b ≡ true → StepByAnswer q l a b (f b) (moved_by q a b (f b))
   by_table None l a f answers own b is = (refl, tt)
   by_table (Some (k, d)) l a f answers own b is =
@@ -55,7 +55,7 @@ module _ (o : Origin) (mine : Branch → Bool) (from : Branch → Standing) wher
             moves = refl;
           }
 
-  made : (ds : Deeds) (us : List Untold) (l : Line) (c : Call) (a : Answer) → MayMake o from ds us l c → ObeyTable mine from (Made ds l c a)
+  made : (ds : Deeds) (us : List Untold) (l : Line) (c : Call) (a : Answer) → MayMakeCall o from ds us l c → ObeyTable mine from (Made ds l c a)
       → Follows o mine from ds us → Follows o mine from (Made ds l c a) (AnAnswer l c a ∷ us)
   made ds us l c a may obey r = record {
     mid = r.mid;
@@ -77,7 +77,7 @@ module _ (o : Origin) (mine : Branch → Bool) (from : Branch → Standing) wher
     mid = r.mid;
     comes = r.comes;
     path = Step (ALoss l (open_on (stands from ds) l)) us (stands from ds) (stands from (Severed ds l)) r.path tt
-        (λ b is. (refl, λ on none. broken_shut (stands from ds b) (shut (line_eq l (line_of b)) (is_open (stands from ds b)) on none)));
+        (λ b is. (refl, λ on none. broken_shut (stands from ds b) (shut (line_eq l (line_of b)) (is_open_branch (stands from ds b)) on none)));
     waits = r.waits;
   }
     where
@@ -114,7 +114,7 @@ module _ (o : Origin) (mine : Branch → Bool) (from : Branch → Standing) wher
   explained l c (Ret code) b f g s = s.0
   explained l c (Page names) b f g s = s
 
-  told : (ds : Deeds) (us rest : List Untold) (l : Line) (c : Call) (a : Answer) → IsNext (AnAnswer l c a) us rest → Follows o mine from ds us
+  told : (ds : Deeds) (us rest : List Untold) (l : Line) (c : Call) (a : Answer) → IsToldNext (AnAnswer l c a) us rest → Follows o mine from ds us
       → Follows o mine from (Told ds l c a) rest
   told ds us rest l c a next r =
       let t = take_next mine r.mid (AnAnswer l c a) us rest (stands from ds) r.path next in
@@ -180,7 +180,7 @@ module _ (o : Origin) (mine : Branch → Bool) (from : Branch → Standing) wher
   }
 
   -- all of them
-  pub follows : (ds : Deeds) (us : List Untold) → Keeps o from ds us → ObeyTable mine from ds → Follows o mine from ds us
+  pub follows : (ds : Deeds) (us : List Untold) → DrivesByRules o from ds us → ObeyTable mine from ds → Follows o mine from ds us
   follows _ _ Begins obey = record { mid = from; comes = λ b is. refl; path = Here from (λ b is. refl); waits = tt }
   follows _ _ (Does ds us e keeps is) obey = read ds us e is (follows ds us keeps obey)
   follows _ _ (Makes ds us l c a keeps may) obey = made ds us l c a may obey (follows ds us keeps obey.0)

@@ -18,7 +18,7 @@ use Rattle.xa_base.specs.declared.vote.Vote.TheVariants.{No, ReadOnly, Yes}
 use Rattle.xa_base.specs.HeldBranch.{new_branch}
 use Rattle.xa_drivers.proofs.Refused.{start}
 use Rattle.xa_drivers.specs.Deeds.{Deeds.Made, Deeds.Nothing, Deeds.Severed, Deeds.Told, Deeds.ToldLost}
-use Rattle.xa_drivers.specs.Worked.{CoordinatorsAreMisled, IsMisled, asked, ending, first, listing, recover, vote, xa_commit}
+use Rattle.xa_drivers.specs.Worked.{CoordinatorsAreMisled, IsMisled, asked, ending, first, listing, recover, prepare_call, commit_call}
 use Rattle.xa_model.proofs.Keys.{line_eq-refl}
 use Rattle.xa_model.specs.Trace.{Branch, How, Line, Name.Ours, Origin, line_eq, line_of}
 use Rattle.xa_monitor.specs.Agreement.{MayAllStand, MayAllStand.AsTold, MayAllStand.CutOff, MayAllStand.EndedAlone, MayAllStand.UnderWay}
@@ -106,7 +106,7 @@ module _ (b : Branch) where
         cc;
   }
 
-  gone : IsMisled (λ x. Idle) (Told (Made (Severed (asked ((l, vote b) ∷ [])) l) l (vote b) (Ret NotAnXid)) l (vote b) (Ret NotAnXid))
+  gone : IsMisled (λ x. Idle) (Told (Made (Severed (asked ((l, prepare_call b) ∷ [])) l) l (prepare_call b) (Ret NotAnXid)) l (prepare_call b) (Ret NotAnXid))
   gone = record {
     obey = (
       tt,
@@ -133,7 +133,7 @@ module _ (b : Branch) where
 
   order :
       IsMisled (λ x. Active)
-      (Told (Made (Made (asked ((l, vote b) ∷ (l, ending b) ∷ [])) l (ending b) (Ret Success)) l (vote b) (Ret Success)) l (vote b) (Ret Success))
+      (Told (Made (Made (asked ((l, prepare_call b) ∷ (l, ending b) ∷ [])) l (ending b) (Ret Success)) l (prepare_call b) (Ret Success)) l (prepare_call b) (Ret Success))
   order = record {
     obey = (
       (tt, (λ i. refl), λ i. (Yes, (0, refl))),
@@ -159,8 +159,8 @@ module _ (b : Branch) where
   connected :
       IsMisled (λ x. Active)
       (Told (Made (Made (Made
-      (ToldLost (asked ((first b, xa_commit b) ∷ (l, vote b) ∷ (l, ending b) ∷ [])) l (Some (ending b))) l (ending b) (Ret Success)) l
-      (vote b) (Ret Success)) (first b) (xa_commit b) (Ret Success)) (first b) (xa_commit b) (Ret Success))
+      (ToldLost (asked ((first b, commit_call b) ∷ (l, prepare_call b) ∷ (l, ending b) ∷ [])) l (Some (ending b))) l (ending b) (Ret Success)) l
+      (prepare_call b) (Ret Success)) (first b) (commit_call b) (Ret Success)) (first b) (commit_call b) (Ret Success))
   connected = record {
     obey = (
       (
@@ -179,8 +179,8 @@ module _ (b : Branch) where
 
   two_made :
       IsMisled (λ x. Active)
-      (Told (Made (ToldLost (Severed (Made (Made (asked ((first b, xa_commit b) ∷ (l, vote b) ∷ (l, ending b) ∷ [])) l (ending b)
-      (Ret Success)) l (vote b) (Ret Success)) l) l (Some (ending b))) (first b) (xa_commit b) (Ret Success)) (first b) (xa_commit b) (Ret Success))
+      (Told (Made (ToldLost (Severed (Made (Made (asked ((first b, commit_call b) ∷ (l, prepare_call b) ∷ (l, ending b) ∷ [])) l (ending b)
+      (Ret Success)) l (prepare_call b) (Ret Success)) l) l (Some (ending b))) (first b) (commit_call b) (Ret Success)) (first b) (commit_call b) (Ret Success))
   two_made = record {
     obey = (
       (
@@ -210,7 +210,7 @@ module _ (b : Branch) where
 
   page :
       IsMisled (λ x. Idle)
-      (Told (Made (Made (asked ((first b, recover) ∷ (l, vote b) ∷ [])) l (vote b) (Ret Success)) (first b) recover (listing b)) (first b) recover (listing b))
+      (Told (Made (Made (asked ((first b, recover) ∷ (l, prepare_call b) ∷ [])) l (prepare_call b) (Ret Success)) (first b) recover (listing b)) (first b) recover (listing b))
   page = record {
     obey = (
       (tt, (λ i. refl), λ i. (Yes, (0, refl))),
@@ -229,8 +229,8 @@ module _ (b : Branch) where
 
   answer_so :
       IsMisled (λ x. Idle)
-      (Told (Made (Told (Made (asked ((first b, xa_commit b) ∷ (l, vote b) ∷ [])) l (vote b) (Ret (VotedNo Rollback))) l (vote b) (Ret Success)) (first b) (xa_commit b) (Ret NotAnXid))
-      (first b) (xa_commit b) (Ret NotAnXid))
+      (Told (Made (Told (Made (asked ((first b, commit_call b) ∷ (l, prepare_call b) ∷ [])) l (prepare_call b) (Ret (VotedNo Rollback))) l (prepare_call b) (Ret Success)) (first b) (commit_call b) (Ret NotAnXid))
+      (first b) (commit_call b) (Ret NotAnXid))
   answer_so = record {
     obey = (
       (tt, (λ i. absurd (let never : ⊥ = cc in never)), λ i. (No Rollback, (0, refl))),

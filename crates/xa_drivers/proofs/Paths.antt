@@ -6,7 +6,7 @@ use Rattle.std.proofs.lemmas.Bool.{true≢false}
 use Rattle.xa_base.specs.declared.state.Standing.{Standing}
 use Rattle.xa_base.specs.declared.state.Standing.TheVariants.{Unstarted}
 use Rattle.xa_drivers.proofs.Steps.{StepAlone, StepBy, absorb, behind, names_it, swap}
-use Rattle.xa_drivers.specs.Faithful.{AreApart, IsNext, IsNext.Before, IsNext.Newest, Untold, Untold.ALoss, Untold.AnAnswer}
+use Rattle.xa_drivers.specs.Faithful.{AreUnrelated, IsToldNext, IsToldNext.Before, IsToldNext.Newest, Untold, Untold.ALoss, Untold.AnAnswer}
 use Rattle.xa_model.specs.Trace.{Branch, How}
 use Rattle.xa_monitor.specs.Seen.{HasAnswer}
 
@@ -53,7 +53,7 @@ module _ (mine : Branch → Bool) (mid : Branch → Standing) (u : Untold) where
   abbrev Steps : (from to : Branch → Standing) → Type 0
   Steps from to = (b : Branch) → mine b ≡ true → StepBy u b (from b) (to b)
 
-  take_first : (us : List Untold) (from to : Branch → Standing) → Path mine mid us from → All (AreApart u) us → IsSound u → Steps from to
+  take_first : (us : List Untold) (from to : Branch → Standing) → Path mine mid us from → All (AreUnrelated u) us → IsSound u → Steps from to
       → TakenFirst us to
   take_first _ _ to (Here from same) apart sound steps = record {
     next = to;
@@ -63,8 +63,8 @@ module _ (mine : Branch → Bool) (mid : Branch → Standing) (u : Untold) where
   }
   take_first _ _ to (Step v us f g p s st) apart sound steps =
       let m = choose mine (λ b x. StepBy u b (f b) x × StepBy v b x (to b))
-      (λ b is. let w = swap u v (All-head (AreApart u) v us apart) b (f b) (g b) (to b) (st b is) (steps b is) in (w.0, (w.1, w.2))) in
-      let t = take_first us f m.at p (All-tail (AreApart u) v us apart) sound (λ b is. (m.so b is).0) in
+      (λ b is. let w = swap u v (All-head (AreUnrelated u) v us apart) b (f b) (g b) (to b) (st b is) (steps b is) in (w.0, (w.1, w.2))) in
+      let t = take_first us f m.at p (All-tail (AreUnrelated u) v us apart) sound (λ b is. (m.so b is).0) in
       record { next = t.next; sound = t.sound; step = t.step; path = Step v us m.at to t.path s (λ b is. (m.so b is).1) }
   take_first us _ to (Alone _ d how f g p is_mine st) apart sound steps = by (names_it u d) refl (λ m st. take_first us f m p apart sound st)
     where
@@ -77,7 +77,7 @@ module _ (mine : Branch → Bool) (mid : Branch → Standing) (u : Untold) where
           record { next = t.next; sound = t.sound; step = t.step; path = Alone us d how m.at to t.path is_mine (λ b is. (m.so b is).1) }
 
   -- so is what is told next
-  pub take_next : (us rest : List Untold) (to : Branch → Standing) → Path mine mid us to → IsNext u us rest → TakenFirst rest to
+  pub take_next : (us rest : List Untold) (to : Branch → Standing) → Path mine mid us to → IsToldNext u us rest → TakenFirst rest to
   take_next _ rest to (Here _ same) next = elim next [ ]
   take_next _ _ to (Step _ _ f g p s st) (Newest us apart) = take_first us f to p apart s st
   take_next _ _ to (Step _ _ f g p s st) (Before v us rest next) =

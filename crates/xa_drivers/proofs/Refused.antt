@@ -11,7 +11,7 @@ use Rattle.xa_base.specs.declared.code.Code.TheVariants.{Success}
 use Rattle.xa_base.specs.declared.state.Standing.{Standing}
 use Rattle.xa_base.specs.declared.state.Standing.TheVariants.{Unstarted}
 use Rattle.xa_drivers.specs.Deeds.{Deeds, Deeds.Did, Deeds.Ended, Deeds.Made, Deeds.Nothing, Deeds.Severed, Deeds.Told, Deeds.ToldLost, stands}
-use Rattle.xa_drivers.specs.Faithful.{AreApart, IsFaithful, IsLostNext, IsLostNext.FirstMade, IsLostNext.NoneMade, IsNext, IsNext.Before, IsNext.Newest, Keeps, Keeps.Begins, Keeps.Ends, Keeps.Loses, Keeps.Makes, Keeps.Does, Keeps.Tells, Keeps.TellsLoss, MayMake, Untold, Untold.ALoss, Untold.AnAnswer, is_open, is_severed, line_on, open_on}
+use Rattle.xa_drivers.specs.Faithful.{AreUnrelated, IsFaithful, IsLostNext, IsLostNext.FirstMade, IsLostNext.NoneMade, IsToldNext, IsToldNext.Before, IsToldNext.Newest, DrivesByRules, DrivesByRules.Begins, DrivesByRules.Ends, DrivesByRules.Loses, DrivesByRules.Makes, DrivesByRules.Does, DrivesByRules.Tells, DrivesByRules.TellsLoss, MayMakeCall, Untold, Untold.ALoss, Untold.AnAnswer, is_open_branch, is_severed, line_on, open_on}
 use Rattle.xa_drivers.specs.Worked.{RulesRefuse, RulesRefuseOthers, asked, listing, recover}
 use Rattle.xa_model.proofs.Keys.{line_eq-refl}
 use Rattle.xa_model.specs.Facts.{fits}
@@ -25,14 +25,14 @@ module _ (o : Origin) (from : Branch → Standing) where
 
   abbrev LastOf : Deeds → List Untold → Type 0
   LastOf Nothing us = us ≡ []
-  LastOf (Did ds e) us = Keeps o from ds us
-  LastOf (Made ds l c a) us = (vs : List Untold) × Keeps o from ds vs × MayMake o from ds vs l c × (us ≡ AnAnswer l c a ∷ vs)
-  LastOf (Severed ds l) us = (vs : List Untold) × Keeps o from ds vs × (us ≡ ALoss l (open_on (stands from ds) l) ∷ vs)
-  LastOf (Ended ds b how) us = Keeps o from ds us
-  LastOf (Told ds l c a) us = (vs : List Untold) × Keeps o from ds vs × IsNext (AnAnswer l c a) vs us
-  LastOf (ToldLost ds l c) us = (vs : List Untold) × Keeps o from ds vs × IsLostNext l c vs us
+  LastOf (Did ds e) us = DrivesByRules o from ds us
+  LastOf (Made ds l c a) us = (vs : List Untold) × DrivesByRules o from ds vs × MayMakeCall o from ds vs l c × (us ≡ AnAnswer l c a ∷ vs)
+  LastOf (Severed ds l) us = (vs : List Untold) × DrivesByRules o from ds vs × (us ≡ ALoss l (open_on (stands from ds) l) ∷ vs)
+  LastOf (Ended ds b how) us = DrivesByRules o from ds us
+  LastOf (Told ds l c a) us = (vs : List Untold) × DrivesByRules o from ds vs × IsToldNext (AnAnswer l c a) vs us
+  LastOf (ToldLost ds l c) us = (vs : List Untold) × DrivesByRules o from ds vs × IsLostNext l c vs us
 
-  last_of : (ds : Deeds) (us : List Untold) → Keeps o from ds us → LastOf ds us
+  last_of : (ds : Deeds) (us : List Untold) → DrivesByRules o from ds us → LastOf ds us
   last_of _ _ Begins = refl
   last_of _ _ (Does ds us e k is) = k
   last_of _ _ (Makes ds us l c a k may) = (us, k, may, refl)
@@ -42,19 +42,19 @@ module _ (o : Origin) (from : Branch → Standing) where
   last_of _ _ (TellsLoss ds us rest l c k next) = (us, k, next)
 
   -- where calls were issued alone, there is nothing to tell
-  none_made_yet : (cs : List (Line × Call)) (us : List Untold) → Keeps o from (asked cs) us → us ≡ []
+  none_made_yet : (cs : List (Line × Call)) (us : List Untold) → DrivesByRules o from (asked cs) us → us ≡ []
   none_made_yet [] us k = last_of Nothing us k
   none_made_yet ((l, c) ∷ cs) us k = none_made_yet cs us (last_of (Did (asked cs) (Issued l c)) us k)
 
   module _ (cs : List (Line × Call)) where
     -- one call was made
-    one_made : (l : Line) (c : Call) (a : Answer) (us : List Untold) → Keeps o from (Made (asked cs) l c a) us → us ≡ AnAnswer l c a ∷ []
+    one_made : (l : Line) (c : Call) (a : Answer) (us : List Untold) → DrivesByRules o from (Made (asked cs) l c a) us → us ≡ AnAnswer l c a ∷ []
     one_made l c a us k =
         let m = last_of (Made (asked cs) l c a) us k in
         m.3 ∙ ap (λ z. AnAnswer l c a ∷ z) (none_made_yet cs m.0 m.1)
 
     -- two were
-    two_made : (l m : Line) (c d : Call) (a x : Answer) (us : List Untold) → Keeps o from (Made (Made (asked cs) l c a) m d x) us
+    two_made : (l m : Line) (c d : Call) (a x : Answer) (us : List Untold) → DrivesByRules o from (Made (Made (asked cs) l c a) m d x) us
         → us ≡ AnAnswer m d x ∷ AnAnswer l c a ∷ []
     two_made l m c d a x us k =
         let n = last_of (Made (Made (asked cs) l c a) m d x) us k in
@@ -66,13 +66,13 @@ module _ (o : Origin) (from : Branch → Standing) where
   -- one
   abbrev NextOf : Untold → List Untold → List Untold → Type 0
   NextOf u [] rest = ⊥
-  NextOf u (v ∷ vs) rest = ((v ≡ u) × All (AreApart u) vs × (rest ≡ vs)) ⊎ ((ws : List Untold) × (rest ≡ v ∷ ws) × NextOf u vs ws)
+  NextOf u (v ∷ vs) rest = ((v ≡ u) × All (AreUnrelated u) vs × (rest ≡ vs)) ⊎ ((ws : List Untold) × (rest ≡ v ∷ ws) × NextOf u vs ws)
 
-  next_of : (u : Untold) (us rest : List Untold) → IsNext u us rest → NextOf u us rest
+  next_of : (u : Untold) (us rest : List Untold) → IsToldNext u us rest → NextOf u us rest
   next_of u _ _ (Newest us apart) = inl (refl, apart, refl)
   next_of u _ _ (Before v us rest next) = inr (rest, refl, next_of u us rest next)
 
-  same_line : (l : Line) (u v : Untold) → line_on u ≡ l → line_on v ≡ l → AreApart u v → ⊥
+  same_line : (l : Line) (u v : Untold) → line_on u ≡ l → line_on v ≡ l → AreUnrelated u v → ⊥
   same_line l u v e f apart =
       true≢false (sym (line_eq-refl l) ∙ (ap (λ z. line_eq z l) (sym e) ∙ (ap (line_eq (line_on u)) (sym f) ∙ apart.lines)))
 
@@ -98,7 +98,7 @@ module _ (o : Origin) (from : Branch → Standing) where
       let is : is_severed m.0 l ≡ true = ap (λ z. is_severed z l) s.2 ∙ ap (λ z. z || is_severed s.0 l) (line_eq-refl l) in
       true≢false (sym is ∙ m.2.connected)
 
-  elsewhere : (ds : Deeds) (l : Line) (b : Branch) (a : Answer) → is_open (stands from ds b) ≡ true → l ≢ line_of b
+  elsewhere : (ds : Deeds) (l : Line) (b : Branch) (a : Answer) → is_open_branch (stands from ds b) ≡ true → l ≢ line_of b
       → IsFaithful o from (Made ds l (Calls.Rollback b) a) → ⊥
   elsewhere ds l b a opens other f =
       let m = last_of (Made ds l (Calls.Rollback b) a) f.untold f.keeps in
@@ -106,14 +106,14 @@ module _ (o : Origin) (from : Branch → Standing) where
 
   order : (cs : List (Line × Call)) (l : Line) (c d : Call) (a x : Answer) → c ≢ d → IsFaithful o from (Told (Made (Made (asked cs) l c a) l d x) l d x) → ⊥
   order cs l c d a x differ f = by (next_of (AnAnswer l d x) (AnAnswer l d x ∷ AnAnswer l c a ∷ []) f.untold
-      (subst (λ z. IsNext (AnAnswer l d x) z f.untold) (two_made cs l l c d a x m.0 m.1) m.2))
+      (subst (λ z. IsToldNext (AnAnswer l d x) z f.untold) (two_made cs l l c d a x m.0 m.1) m.2))
     where
       m : LastOf (Told (Made (Made (asked cs) l c a) l d x) l d x) f.untold
       m = last_of (Told (Made (Made (asked cs) l c a) l d x) l d x) f.untold f.keeps
 
       by : NextOf (AnAnswer l d x) (AnAnswer l d x ∷ AnAnswer l c a ∷ []) f.untold → ⊥
       by (inl (same, apart, rest)) =
-          same_line l (AnAnswer l d x) (AnAnswer l c a) refl refl (All-head (AreApart (AnAnswer l d x)) (AnAnswer l c a) [] apart)
+          same_line l (AnAnswer l d x) (AnAnswer l c a) refl refl (All-head (AreUnrelated (AnAnswer l d x)) (AnAnswer l c a) [] apart)
       by (inr (ws, rest, inl (same, apart, e))) = differ (let e : c ≡ d = cc in e)
       by (inr (ws, rest, inr (vs, e, never))) = never
 
@@ -123,12 +123,12 @@ module _ (o : Origin) (from : Branch → Standing) where
   HasLoss l (AnAnswer m c a ∷ us) = HasLoss l us
   HasLoss l (ALoss m lost ∷ us) = (m ≡ l) ⊎ HasLoss l us
 
-  has_loss : (l : Line) (lost : Branch → Bool) (us rest : List Untold) → IsNext (ALoss l lost) us rest → HasLoss l us
+  has_loss : (l : Line) (lost : Branch → Bool) (us rest : List Untold) → IsToldNext (ALoss l lost) us rest → HasLoss l us
   has_loss l lost _ _ (Newest us apart) = inl refl
   has_loss l lost _ _ (Before (AnAnswer m c a) us rest next) = has_loss l lost us rest next
   has_loss l lost _ _ (Before (ALoss m other) us rest next) = inr (has_loss l lost us rest next)
 
-  loss_before : (l : Line) (c : Call) (a : Answer) (us rest : List Untold) → IsNext (AnAnswer l c a) us rest → HasLoss l rest → HasLoss l us
+  loss_before : (l : Line) (c : Call) (a : Answer) (us rest : List Untold) → IsToldNext (AnAnswer l c a) us rest → HasLoss l rest → HasLoss l us
   loss_before l c a _ _ (Newest us apart) has = has
   loss_before l c a _ _ (Before (AnAnswer m d x) us rest next) has = loss_before l c a us rest next has
   loss_before l c a _ _ (Before (ALoss m lost) us rest next) (inl e) = inl e
@@ -151,7 +151,7 @@ module _ (o : Origin) (from : Branch → Standing) where
     the_vote = AnAnswer l (Calls.Prepare b) (Ret Success)
 
     vote_first : (rest : List Untold) → NextOf the_page (the_page ∷ the_vote ∷ []) rest → ⊥
-    vote_first rest (inl (same, apart, e)) = (All-head (AreApart the_page) the_vote [] apart).branches b (0, refl) refl
+    vote_first rest (inl (same, apart, e)) = (All-head (AreUnrelated the_page) the_vote [] apart).branches b (0, refl) refl
     vote_first rest (inr (ws, e, inl (same, apart, i))) = let never : ⊥ = cc in never
     vote_first rest (inr (ws, e, inr (vs, i, never))) = never
 
@@ -159,12 +159,12 @@ module _ (o : Origin) (from : Branch → Standing) where
       → IsFaithful o from (Told (Made (Made (asked cs) l (Calls.Prepare b) (Ret Success)) m recover (listing b)) m recover (listing b)) → ⊥
   page cs l m b f =
       let n = last_of (Told (Made (Made (asked cs) l (Calls.Prepare b) (Ret Success)) m recover (listing b)) m recover (listing b)) f.untold f.keeps in
-      let next = subst (λ z. IsNext (the_page l m b) z f.untold) (two_made cs l m (Calls.Prepare b) recover (Ret Success) (listing b) n.0 n.1) n.2 in
+      let next = subst (λ z. IsToldNext (the_page l m b) z f.untold) (two_made cs l m (Calls.Prepare b) recover (Ret Success) (listing b) n.0 n.1) n.2 in
       vote_first l m b f.untold (next_of (the_page l m b) (the_page l m b ∷ the_vote l m b ∷ []) f.untold next)
 
   answer : (cs : List (Line × Call)) (l : Line) (c : Call) (a x : Answer) → a ≢ x → IsFaithful o from (Told (Made (asked cs) l c a) l c x) → ⊥
   answer cs l c a x differ f = by (next_of (AnAnswer l c x) (AnAnswer l c a ∷ []) f.untold
-      (subst (λ z. IsNext (AnAnswer l c x) z f.untold) (one_made cs l c a m.0 m.1) m.2))
+      (subst (λ z. IsToldNext (AnAnswer l c x) z f.untold) (one_made cs l c a m.0 m.1) m.2))
     where
       m : LastOf (Told (Made (asked cs) l c a) l c x) f.untold
       m = last_of (Told (Made (asked cs) l c a) l c x) f.untold f.keeps
@@ -180,7 +180,7 @@ module _ (o : Origin) (from : Branch → Standing) where
 
     none_made : (other : Branch → Bool) (rest : List Untold) → NextOf (ALoss l other) three rest → ⊥
     none_made other rest (inl (same, apart, e)) =
-        same_line l (ALoss l other) (AnAnswer l d x) refl refl (All-head (AreApart (ALoss l other)) (AnAnswer l d x) (AnAnswer l c a ∷ []) apart)
+        same_line l (ALoss l other) (AnAnswer l d x) refl refl (All-head (AreUnrelated (ALoss l other)) (AnAnswer l d x) (AnAnswer l c a ∷ []) apart)
     none_made other rest (inr (ws, e, inl (same, apart, i))) = let never : ⊥ = cc in never
     none_made other rest (inr (ws, e, inr (vs, i, inl (same, apart, j)))) = let never : ⊥ = cc in never
     none_made other rest (inr (ws, e, inr (vs, i, inr (us, j, never)))) = never
@@ -189,25 +189,25 @@ module _ (o : Origin) (from : Branch → Standing) where
     second_left : (y : Answer) (mid : List Untold) → NextOf (AnAnswer l c y) three mid → mid ≡ ALoss l lost ∷ AnAnswer l d x ∷ []
     second_left y mid (inl (same, apart, e)) = let never : ⊥ = cc in absurd never
     second_left y mid (inr (ws, e, inl (same, apart, i))) =
-        absurd (same_line l (AnAnswer l c y) (AnAnswer l c a) refl refl (All-head (AreApart (AnAnswer l c y)) (AnAnswer l c a) [] apart))
+        absurd (same_line l (AnAnswer l c y) (AnAnswer l c a) refl refl (All-head (AreUnrelated (AnAnswer l c y)) (AnAnswer l c a) [] apart))
     second_left y mid (inr (ws, e, inr (vs, i, inl (same, apart, j)))) =
         e ∙ ap (λ z. ALoss l lost ∷ z) (i ∙ ap (λ z. AnAnswer l d x ∷ z) j)
     second_left y mid (inr (ws, e, inr (vs, i, inr (us, j, never)))) = absurd never
 
     still_made : (other : Branch → Bool) (rest : List Untold) → NextOf (ALoss l other) (ALoss l lost ∷ AnAnswer l d x ∷ []) rest → ⊥
     still_made other rest (inl (same, apart, e)) =
-        same_line l (ALoss l other) (AnAnswer l d x) refl refl (All-head (AreApart (ALoss l other)) (AnAnswer l d x) [] apart)
+        same_line l (ALoss l other) (AnAnswer l d x) refl refl (All-head (AreUnrelated (ALoss l other)) (AnAnswer l d x) [] apart)
     still_made other rest (inr (ws, e, inl (same, apart, i))) = let never : ⊥ = cc in never
     still_made other rest (inr (ws, e, inr (vs, i, never))) = never
 
     not_lost : (e : Option Call) (us rest : List Untold) → us ≡ three → e ≡ Some c → IsLostNext l e us rest → ⊥
     not_lost _ _ _ are is (NoneMade e other us rest next) =
-        none_made other rest (next_of (ALoss l other) three rest (subst (λ z. IsNext (ALoss l other) z rest) are next))
+        none_made other rest (next_of (ALoss l other) three rest (subst (λ z. IsToldNext (ALoss l other) z rest) are next))
     not_lost _ _ _ are is (FirstMade e y other us mid rest first next) =
         let same : e ≡ c = cc in
-        let took : IsNext (AnAnswer l c y) three mid = subst (λ z. IsNext (AnAnswer l z y) three mid) same (subst (λ z. IsNext (AnAnswer l e y) z mid) are first) in
+        let took : IsToldNext (AnAnswer l c y) three mid = subst (λ z. IsToldNext (AnAnswer l z y) three mid) same (subst (λ z. IsToldNext (AnAnswer l e y) z mid) are first) in
         let left = second_left y mid (next_of (AnAnswer l c y) three mid took) in
-        still_made other rest (next_of (ALoss l other) _ rest (subst (λ z. IsNext (ALoss l other) z rest) left next))
+        still_made other rest (next_of (ALoss l other) _ rest (subst (λ z. IsToldNext (ALoss l other) z rest) left next))
 
   both_made : (cs : List (Line × Call)) (l : Line) (c d : Call) (a x : Answer)
       → IsFaithful o from (ToldLost (Severed (Made (Made (asked cs) l c a) l d x) l) l (Some c)) → ⊥

@@ -14,7 +14,7 @@ use Rattle.xa_drivers.proofs.Paths.{Path, Path.Alone, Path.Here, Path.Step}
 use Rattle.xa_drivers.proofs.Steps.{StepBy}
 use Rattle.xa_drivers.proofs.Waiting.{AllWait}
 use Rattle.xa_drivers.specs.Deeds.{seen_of, stands}
-use Rattle.xa_drivers.specs.Sessions.{DriversSufficeFor, of_transaction}
+use Rattle.xa_drivers.specs.Sessions.{DriversSufficeFor, is_in_transaction}
 use Rattle.xa_drivers.specs.Faithful.{DriversSuffice, Untold, Untold.ALoss, Untold.AnAnswer, is_severed, made_on}
 use Rattle.xa_model.specs.Trace.{Answer, Branch, Call, Code, How, Line, Origin, line_eq, line_of}
 use Rattle.xa_server.specs.Transactions.{MayStandFor, MayStandFor.AsTold as AsToldFor, MayStandFor.CutOff as CutOffFor, MayStandFor.EndedAlone as EndedAloneFor, MayStandFor.UnderWay as UnderWayFor}
@@ -116,7 +116,7 @@ suffice o from ds faithful obey =
 
 pub suffice_for : DriversSufficeFor
 suffice_for g o from ds faithful obey =
-    let mine = of_transaction g in
+    let mine = is_in_transaction g in
     let is_mine = λ (b : Branch) (is : b.gtrid ≡ g). let e : gtrid_eq b.gtrid g ≡ true = subst (λ z. gtrid_eq z g ≡ true) (sym is) (gtrid_eq-refl g) in e in
     let r = follows o mine from ds faithful.untold faithful.keeps obey in
     let x = led mine o (seen_of ds) r.mid

@@ -12,7 +12,7 @@ use Rattle.xa_base.specs.declared.code.Code.TheVariants as Codes
 use Rattle.xa_base.specs.declared.state.Standing.{Standing}
 use Rattle.xa_base.specs.declared.state.Standing.TheVariants.{Active, Committed, Completed, Forgotten, Idle, Lost, Prepared, ReadOnly, RollbackOnly, RolledBack, Unstarted}
 use Rattle.xa_drivers.specs.Deeds.{asks_it}
-use Rattle.xa_drivers.specs.Faithful.{AreApart, Asks, IsAbout, Untold, Untold.ALoss, Untold.AnAnswer, begins, is_open, line_on}
+use Rattle.xa_drivers.specs.Faithful.{AreUnrelated, AsksOf, IsAbout, Untold, Untold.ALoss, Untold.AnAnswer, begins_branch, is_open_branch, line_on}
 use Rattle.xa_model.proofs.Keys.{line_eq-refl, line_eq-true}
 use Rattle.xa_model.specs.Protocol.{Lists}
 use Rattle.xa_model.specs.Trace.{Branch, Call, Code, How, Line, Name, Name.Ours, line_eq, line_of}
@@ -23,7 +23,7 @@ use Rattle.xa_monitor.specs.Standings.{Explains, ExplainsAsked, ExplainsIf}
 -- a branch that is open is called on its own line, and begun there
 abbrev pub OwnLine : Option (Kind × Branch) → Line → Branch → Standing → Type 0
 OwnLine None l b f = Unit
-OwnLine (Some (k, d)) l b f = d ≡ b → (begins k || is_open f) ≡ true → l ≡ line_of b
+OwnLine (Some (k, d)) l b f = d ≡ b → (begins_branch k || is_open_branch f) ≡ true → l ≡ line_of b
 
 -- the branch came from the one standing to the other by what was asked and answered so
 abbrev pub StepByAnswer : Option (Kind × Branch) → Line → Code → Branch → (from to : Standing) → Type 0
@@ -42,19 +42,19 @@ StepAlone d how b f g = (branch_eq d b ≡ true → f ≡ Prepared) × (g ≡ (i
 
 -- ** what a break leaves
 
-pub broken_shut : (f : Standing) → is_open f ≡ false → broken f ≡ f
+pub broken_shut : (f : Standing) → is_open_branch f ≡ false → broken f ≡ f
 broken_shut Active e = absurd (true≢false e)
 broken_shut Idle e = absurd (true≢false e)
 broken_shut RollbackOnly e = absurd (true≢false e)
 broken_shut f e = refl
 
-shut_of : (f : Standing) → broken f ≡ f → is_open f ≡ false
+shut_of : (f : Standing) → broken f ≡ f → is_open_branch f ≡ false
 shut_of Active e = absurd (cc)
 shut_of Idle e = absurd (cc)
 shut_of RollbackOnly e = absurd (cc)
 shut_of f e = refl
 
-shut_broken : (f : Standing) → is_open (broken f) ≡ false
+shut_broken : (f : Standing) → is_open_branch (broken f) ≡ false
 shut_broken Active = refl
 shut_broken Idle = refl
 shut_broken RollbackOnly = refl
@@ -87,31 +87,31 @@ or_true true y e = refl
 or_true false y e = e
 
 -- no call but an xa_start opens a branch
-commit_shut : (a : Code) → is_open (after_commit a) ≡ false
+commit_shut : (a : Code) → is_open_branch (after_commit a) ≡ false
 commit_shut Codes.Success = refl
 commit_shut _ = refl
 
-moved_shut : (f : Standing) (k : Kind) (a : Code) → (begins k || is_open f) ≡ false → is_open (moved f k a) ≡ false
+moved_shut : (f : Standing) (k : Kind) (a : Code) → (begins_branch k || is_open_branch f) ≡ false → is_open_branch (moved f k a) ≡ false
 moved_shut f Start a e = absurd (true≢false e)
-moved_shut Active k a e = absurd (true≢false (or_parts (begins k) true e).1)
-moved_shut Idle k a e = absurd (true≢false (or_parts (begins k) true e).1)
-moved_shut RollbackOnly k a e = absurd (true≢false (or_parts (begins k) true e).1)
+moved_shut Active k a e = absurd (true≢false (or_parts (begins_branch k) true e).1)
+moved_shut Idle k a e = absurd (true≢false (or_parts (begins_branch k) true e).1)
+moved_shut RollbackOnly k a e = absurd (true≢false (or_parts (begins_branch k) true e).1)
 moved_shut Prepared Commit a e = commit_shut a
 moved_shut f k a e = refl
 
-explained_shut : (f g : Standing) (k : Kind) (a : Code) → Explains f k a g → (begins k || is_open f) ≡ false → is_open g ≡ false
-explained_shut f g k a x e = subst (λ z. is_open z ≡ false) (sym x.moves) (by x.alone)
+explained_shut : (f g : Standing) (k : Kind) (a : Code) → Explains f k a g → (begins_branch k || is_open_branch f) ≡ false → is_open_branch g ≡ false
+explained_shut f g k a x e = subst (λ z. is_open_branch z ≡ false) (sym x.moves) (by x.alone)
   where
-    by : (x.as_called ≡ f) ⊎ ((f ≡ Prepared) × ((how : How) × (x.as_called ≡ Completed how))) → is_open (moved x.as_called k a) ≡ false
-    by (inl s) = moved_shut x.as_called k a (ap (λ z. begins k || is_open z) s ∙ e)
+    by : (x.as_called ≡ f) ⊎ ((f ≡ Prepared) × ((how : How) × (x.as_called ≡ Completed how))) → is_open_branch (moved x.as_called k a) ≡ false
+    by (inl s) = moved_shut x.as_called k a (ap (λ z. begins_branch k || is_open_branch z) s ∙ e)
     by (inr (p, (how, s))) =
         moved_shut x.as_called k a
-        (ap (λ z. begins k || is_open z) s ∙ (ap (λ z. begins k || is_open z) (sym p) ∙ e))
+        (ap (λ z. begins_branch k || is_open_branch z) s ∙ (ap (λ z. begins_branch k || is_open_branch z) (sym p) ∙ e))
 
 -- ** two steps in the other order
 
 -- what isn't about a branch leaves it
-left_by_answer : (q : Option (Kind × Branch)) (l : Line) (a : Code) (b : Branch) (f g : Standing) → StepByAnswer q l a b f g → (Asks q b → ⊥) → g ≡ f
+left_by_answer : (q : Option (Kind × Branch)) (l : Line) (a : Code) (b : Branch) (f g : Standing) → StepByAnswer q l a b f g → (AsksOf q b → ⊥) → g ≡ f
 left_by_answer None l a b f g s never = s.0
 left_by_answer (Some (k, d)) l a b f g s never = by (branch_eq d b) refl s.0
   where
@@ -133,7 +133,7 @@ left (ALoss l lost) b f g s never = by (line_eq l (line_of b)) refl s.0
     by false e x = x
 
 -- and may be done with it, if it isn't open and lies on the line that is lost
-stay_by_answer : (q : Option (Kind × Branch)) (l : Line) (a : Code) (b : Branch) (f : Standing) → (Asks q b → ⊥) → StepByAnswer q l a b f f
+stay_by_answer : (q : Option (Kind × Branch)) (l : Line) (a : Code) (b : Branch) (f : Standing) → (AsksOf q b → ⊥) → StepByAnswer q l a b f f
 stay_by_answer None l a b f never = (refl, tt)
 stay_by_answer (Some (k, d)) l a b f never = (by (branch_eq d b) refl, λ is opens. absurd (never is))
   where
@@ -163,23 +163,23 @@ apart_lines l m n apart on same =
     true≢false (sym (line_eq-refl l) ∙ (ap (λ z. line_eq l z) (same ∙ sym (line_eq-true m n on)) ∙ apart))
 
 -- an answer before what is older
-swap_answer : (q : Option (Kind × Branch)) (l : Line) (c : Call) (a : Code) (v : Untold) → asks_of c ≡ q → AreApart (AnAnswer l c (Ret a)) v
+swap_answer : (q : Option (Kind × Branch)) (l : Line) (c : Call) (a : Code) (v : Untold) → asks_of c ≡ q → AreUnrelated (AnAnswer l c (Ret a)) v
     → (b : Branch) (f g h : Standing) → StepBy v b f g → StepByAnswer q l a b g h
     → (m : Standing) × StepByAnswer q l a b f m × StepBy v b m h
 swap_answer None l c a v asks apart b f g h s t = (f, (refl, tt), subst (StepBy v b f) (sym t.0) s)
 swap_answer (Some (k, d)) l c a v asks apart b f g h s t = by (branch_eq d b) refl t.0
   where
     none : d ≡ b → IsAbout v b → ⊥
-    none is = apart.branches b (subst (λ z. Asks z b) (sym asks) is)
+    none is = apart.branches b (subst (λ z. AsksOf z b) (sym asks) is)
 
     shut : (v : Untold) → line_eq l (line_on v) ≡ false → StepBy v b f g → (IsAbout v b → ⊥) → d ≡ b → Explains f k a h → IsShutOn v b h
     shut (AnAnswer m o p) off s never is x = tt
-    shut (ALoss m lost) off s never is x = λ on. broken_shut h (explained_shut f h k a x (opens on (begins k || is_open f) refl))
+    shut (ALoss m lost) off s never is x = λ on. broken_shut h (explained_shut f h k a x (opens on (begins_branch k || is_open_branch f) refl))
       where
-        opens : line_eq m (line_of b) ≡ true → (t : Bool) → (begins k || is_open f) ≡ t → (begins k || is_open f) ≡ false
+        opens : line_eq m (line_of b) ≡ true → (t : Bool) → (begins_branch k || is_open_branch f) ≡ t → (begins_branch k || is_open_branch f) ≡ false
         opens on true e =
             absurd (apart_lines l m (line_of b) off on
-            (t.1 is (ap (λ z. begins k || is_open z) (left (ALoss m lost) b f g s never) ∙ e)))
+            (t.1 is (ap (λ z. begins_branch k || is_open_branch z) (left (ALoss m lost) b f g s never) ∙ e)))
         opens on false e = e
 
     by : (z : Bool) → branch_eq d b ≡ z → ExplainsIf z g k a h
@@ -195,7 +195,7 @@ swap_answer (Some (k, d)) l c a v asks apart b f g h s t = by (branch_eq d b) re
     by false e x = (f, (subst (λ z. ExplainsIf z f k a f) (sym e) refl, λ is o. absurd (true≢false (sym (subst (λ z. branch_eq d z ≡ true) is (branch_eq-refl d)) ∙ e))), subst (StepBy v b f) (sym x) s)
 
 -- a loss before what is older
-swap_loss : (l : Line) (lost : Branch → Bool) (v : Untold) → AreApart (ALoss l lost) v → (b : Branch) (f g h : Standing) → StepBy v b f g
+swap_loss : (l : Line) (lost : Branch → Bool) (v : Untold) → AreUnrelated (ALoss l lost) v → (b : Branch) (f g h : Standing) → StepBy v b f g
     → StepBy (ALoss l lost) b g h → Swapped (ALoss l lost) v b f h
 swap_loss l lost v apart b f g h s t = by (line_eq l (line_of b)) refl t.0
   where
@@ -207,11 +207,11 @@ swap_loss l lost v apart b f g h s t = by (line_eq l (line_of b)) refl t.0
       where
         on : (z : Bool) → branch_eq d b ≡ z → ExplainsIf z f k a g → broken f ≡ f
         on false i y = subst (λ z. broken z ≡ z) y e
-        on true i y = broken_shut f (opens (is_open f) refl)
+        on true i y = broken_shut f (opens (is_open_branch f) refl)
           where
-            opens : (z : Bool) → is_open f ≡ z → is_open f ≡ false
+            opens : (z : Bool) → is_open_branch f ≡ z → is_open_branch f ≡ false
             opens false j = j
-            opens true j = absurd (off (x.1 (branch_eq-true d b i) (or_true (begins k) (is_open f) j)))
+            opens true j = absurd (off (x.1 (branch_eq-true d b i) (or_true (begins_branch k) (is_open_branch f) j)))
 
     shut : (v : Untold) → line_eq l (line_on v) ≡ false → line_eq l (line_of b) ≡ true → StepBy v b f g → broken g ≡ g → broken f ≡ f
     shut (AnAnswer m c (Ret a)) off on x e =
@@ -247,7 +247,7 @@ swap_loss l lost v apart b f g h s t = by (line_eq l (line_of b)) refl t.0
             (f, (sym before ∙ ap (λ z. if z then broken f else f) (sym e), λ o j. before), subst (StepBy v b f) (sym (x ∙ behind)) s)
 
 -- a page before what is older
-page_swap : (l : Line) (c : Call) (names : List Name) (v : Untold) → AreApart (AnAnswer l c (Page names)) v → (b : Branch) (f g h : Standing)
+page_swap : (l : Line) (c : Call) (names : List Name) (v : Untold) → AreUnrelated (AnAnswer l c (Page names)) v → (b : Branch) (f g h : Standing)
     → StepBy v b f g → StepBy (AnAnswer l c (Page names)) b g h → Swapped (AnAnswer l c (Page names)) v b f h
 page_swap l c names v apart b f g h s t = (
   f,
@@ -255,7 +255,7 @@ page_swap l c names v apart b f g h s t = (
   subst (StepBy v b f) (sym t.0) s,
 )
 
-pub swap : (u v : Untold) → AreApart u v → (b : Branch) (f g h : Standing) → StepBy v b f g → StepBy u b g h → Swapped u v b f h
+pub swap : (u v : Untold) → AreUnrelated u v → (b : Branch) (f g h : Standing) → StepBy v b f g → StepBy u b g h → Swapped u v b f h
 swap (AnAnswer l c (Ret a)) v apart b f g h s t = swap_answer (asks_of c) l c a v refl apart b f g h s t
 swap (AnAnswer l c (Page names)) v apart b f g h s t = page_swap l c names v apart b f g h s t
 swap (ALoss l lost) v apart b f g h s t = swap_loss l lost v apart b f g h s t
@@ -281,7 +281,7 @@ absorb_answer (Some (k, e)) l a d how names b f g h s t = by (branch_eq d b) ref
   where
     by : (z : Bool) → branch_eq d b ≡ z → StepByAnswer (Some (k, e)) l a b f h
     by false i = let same : g ≡ f = alone_elsewhere d how b f g s i in subst (λ z. StepByAnswer (Some (k, e)) l a b z h) same t
-    by true i = (subst (λ z. ExplainsIf z f k a h) (sym on) explains, λ is o. t.1 is (ap (λ z. begins k || is_open z) ended ∙ (ap (λ z. begins k || is_open z) (sym was) ∙ o)))
+    by true i = (subst (λ z. ExplainsIf z f k a h) (sym on) explains, λ is o. t.1 is (ap (λ z. begins_branch k || is_open_branch z) ended ∙ (ap (λ z. begins_branch k || is_open_branch z) (sym was) ∙ o)))
       where
         was : f ≡ Prepared
         was = s.0 i

@@ -4,7 +4,7 @@ use Rattle.std.proofs.lemmas.Bool.{or_parts}
 use Rattle.std.proofs.lemmas.List.{append-nil}
 use Rattle.std.proofs.lemmas.List.Elements.{All-head, All-tail}
 use Rattle.std.specs.Prelude.{◌||◌, if◌then◌else◌, slice_get}
-use Rattle.xa_drivers.specs.Faithful.{AreApart, IsNext, IsNext.Before, IsNext.Newest, Untold, Untold.ALoss, Untold.AnAnswer, is_severed, line_on, made_on}
+use Rattle.xa_drivers.specs.Faithful.{AreUnrelated, IsToldNext, IsToldNext.Before, IsToldNext.Newest, Untold, Untold.ALoss, Untold.AnAnswer, is_severed, line_on, made_on}
 use Rattle.xa_model.specs.Facts.{issued, taken}
 use Rattle.xa_model.specs.Trace.{Answer, Branch, Call, Happening, Happening.Begun, Happening.Claimed, Happening.Decided, Happening.Done, Happening.Issued, Happening.Nothing, Happening.Resolved, Happening.ResolvedOpen, Happening.Took, Line, Origin, Trace, Trace.Then, line_eq}
 use Rattle.xa_monitor.proofs.Names.{alone_ran}
@@ -81,15 +81,15 @@ all_wait V W f (ALoss l lost ∷ us) all = all_wait V W f us all
 
 -- those on other lines do
 elsewhere : (V W : Line → ℕ → Call → Type 0) (u : Untold)
-    → ((m : Line) (n : ℕ) (c : Call) → line_eq (line_on u) m ≡ false → V m n c → W m n c) → (us : List Untold) → All (AreApart u) us
+    → ((m : Line) (n : ℕ) (c : Call) → line_eq (line_on u) m ≡ false → V m n c → W m n c) → (us : List Untold) → All (AreUnrelated u) us
     → AllWait V us → AllWait W us
 elsewhere V W u f [] apart all = tt
 elsewhere V W u f (AnAnswer l c a ∷ us) apart all =
-    (elsewhere V W u f us (All-tail (AreApart u) (AnAnswer l c a) us apart) all.0, all.1, f l (made_on us l) c (All-head (AreApart u) (AnAnswer l c a) us apart).lines all.2)
-elsewhere V W u f (ALoss l lost ∷ us) apart all = elsewhere V W u f us (All-tail (AreApart u) (ALoss l lost) us apart) all
+    (elsewhere V W u f us (All-tail (AreUnrelated u) (AnAnswer l c a) us apart) all.0, all.1, f l (made_on us l) c (All-head (AreUnrelated u) (AnAnswer l c a) us apart).lines all.2)
+elsewhere V W u f (ALoss l lost ∷ us) apart all = elsewhere V W u f us (All-tail (AreUnrelated u) (ALoss l lost) us apart) all
 
 -- an answer is told next: so many calls are left on each line, and the same connections are gone
-fewer : (l m : Line) (c : Call) (a : Answer) (us rest : List Untold) → IsNext (AnAnswer l c a) us rest → made_on us m ≡ one_if (line_eq l m) (made_on rest m)
+fewer : (l m : Line) (c : Call) (a : Answer) (us rest : List Untold) → IsToldNext (AnAnswer l c a) us rest → made_on us m ≡ one_if (line_eq l m) (made_on rest m)
 fewer l m c a _ _ (Newest us apart) = refl
 fewer l m c a _ _ (Before (AnAnswer k d x) us rest next) = by (line_eq k m) (line_eq l m) (fewer l m c a us rest next)
   where
@@ -101,7 +101,7 @@ fewer l m c a _ _ (Before (AnAnswer k d x) us rest next) = by (line_eq k m) (lin
     by false false e = e
 fewer l m c a _ _ (Before (ALoss k lost) us rest next) = fewer l m c a us rest next
 
-gone_still : (l m : Line) (c : Call) (a : Answer) (us rest : List Untold) → IsNext (AnAnswer l c a) us rest → is_severed us m ≡ is_severed rest m
+gone_still : (l m : Line) (c : Call) (a : Answer) (us rest : List Untold) → IsToldNext (AnAnswer l c a) us rest → is_severed us m ≡ is_severed rest m
 gone_still l m c a _ _ (Newest us apart) = refl
 gone_still l m c a _ _ (Before (AnAnswer k d x) us rest next) = gone_still l m c a us rest next
 gone_still l m c a _ _ (Before (ALoss k lost) us rest next) = ap (λ z. line_eq k m || z) (gone_still l m c a us rest next)
@@ -110,7 +110,7 @@ gone_still l m c a _ _ (Before (ALoss k lost) us rest next) = ap (λ z. line_eq 
 abbrev pub MovedUp : Line → (Line → ℕ → Call → Type 0) → Line → ℕ → Call → Type 0
 MovedUp l W m n c = W m (one_if (line_eq l m) n) c
 
-pub told_wait : (W : Line → ℕ → Call → Type 0) (l : Line) (c : Call) (a : Answer) (us rest : List Untold) → IsNext (AnAnswer l c a) us rest
+pub told_wait : (W : Line → ℕ → Call → Type 0) (l : Line) (c : Call) (a : Answer) (us rest : List Untold) → IsToldNext (AnAnswer l c a) us rest
     → AllWait W us → AllWait (MovedUp l W) rest
 told_wait W l c a _ _ (Newest us apart) all =
     elsewhere W (MovedUp l W) (AnAnswer l c a) (λ m n d off w. subst (λ t. W m (one_if t n) d) (sym off) w) us apart all.0
@@ -119,12 +119,12 @@ told_wait W l c a _ _ (Before (AnAnswer m d x) us rest next) all =
 told_wait W l c a _ _ (Before (ALoss m lost) us rest next) all = told_wait W l c a us rest next all
 
 -- a loss is told next: nothing that was made on the line is left
-kept : (l m : Line) (lost : Branch → Bool) (us rest : List Untold) → IsNext (ALoss l lost) us rest → made_on us m ≡ made_on rest m
+kept : (l m : Line) (lost : Branch → Bool) (us rest : List Untold) → IsToldNext (ALoss l lost) us rest → made_on us m ≡ made_on rest m
 kept l m lost _ _ (Newest us apart) = refl
 kept l m lost _ _ (Before (AnAnswer k d x) us rest next) = ap (λ z. if line_eq k m then suc z else z) (kept l m lost us rest next)
 kept l m lost _ _ (Before (ALoss k other) us rest next) = kept l m lost us rest next
 
-was_gone : (l m : Line) (lost : Branch → Bool) (us rest : List Untold) → IsNext (ALoss l lost) us rest → is_severed us m ≡ false
+was_gone : (l m : Line) (lost : Branch → Bool) (us rest : List Untold) → IsToldNext (ALoss l lost) us rest → is_severed us m ≡ false
     → (line_eq l m ≡ false) × (is_severed rest m ≡ false)
 was_gone l m lost _ _ (Newest us apart) e = or_parts (line_eq l m) (is_severed us m) e
 was_gone l m lost _ _ (Before (AnAnswer k d x) us rest next) e = was_gone l m lost us rest next e
@@ -136,7 +136,7 @@ was_gone l m lost _ _ (Before (ALoss k other) us rest next) e =
 abbrev pub Elsewhere : Line → (Line → ℕ → Call → Type 0) → Line → ℕ → Call → Type 0
 Elsewhere l W m n c = (line_eq l m ≡ false) × W m n c
 
-pub lost_wait : (W : Line → ℕ → Call → Type 0) (l : Line) (lost : Branch → Bool) (us rest : List Untold) → IsNext (ALoss l lost) us rest
+pub lost_wait : (W : Line → ℕ → Call → Type 0) (l : Line) (lost : Branch → Bool) (us rest : List Untold) → IsToldNext (ALoss l lost) us rest
     → AllWait W us → AllWait (Elsewhere l W) rest
 lost_wait W l lost _ _ (Newest us apart) all = elsewhere W (Elsewhere l W) (ALoss l lost) (λ m n d off w. (off, w)) us apart all
 lost_wait W l lost _ _ (Before (AnAnswer m d x) us rest next) all =

@@ -16,8 +16,8 @@ use Rattle.xa_base.specs.declared.step.Outcome.TheVariants as Outcomes
 use Rattle.xa_base.specs.declared.vote.Vote.TheVariants.{Yes}
 use Rattle.xa_drivers.proofs.Waiting.{waits_on}
 use Rattle.xa_drivers.specs.Deeds.{Deeds, Deeds.Did, Deeds.Made, Deeds.Nothing, Deeds.Severed, Deeds.Told, ObeyTable, seen_of, stands}
-use Rattle.xa_drivers.specs.Faithful.{AreApart, IsLostNext.NoneMade, IsNext.Newest, Keeps, Keeps.Begins, Keeps.Loses, Keeps.Makes, Keeps.Does, Keeps.Tells, Keeps.TellsLoss, Untold, Untold.ALoss, Untold.AnAnswer, begins, is_open, open_on}
-use Rattle.xa_drivers.specs.Worked.{FaithfulDriversAreThere, at, commit, decided, each, half_committed, votes}
+use Rattle.xa_drivers.specs.Faithful.{AreUnrelated, IsLostNext.NoneMade, IsToldNext.Newest, DrivesByRules, DrivesByRules.Begins, DrivesByRules.Loses, DrivesByRules.Makes, DrivesByRules.Does, DrivesByRules.Tells, DrivesByRules.TellsLoss, Untold, Untold.ALoss, Untold.AnAnswer, begins_branch, is_open_branch, open_on}
+use Rattle.xa_drivers.specs.Worked.{FaithfulDriversAreThere, at, commit, both_issued, calls_done, half_committed, votes}
 use Rattle.xa_model.proofs.Keys.{line_eq-refl, line_eq-true}
 use Rattle.xa_model.specs.Facts.{issued, taken}
 use Rattle.xa_model.specs.Trace.{Answer, Branch, Call, Gtrid, Happening.Begun, Happening.Decided, Happening.Issued, Line, Origin, Trace, Trace.Then, line_eq, line_of}
@@ -71,7 +71,7 @@ module _ (o : Origin) (seen : Seen) (quiet : IsQuiet o seen) (l : Line) (c : Cal
 -- ** one call
 
 abbrev IsOwn : (from : Branch → Standing) → Deeds → Line → Call → Type 0
-IsOwn from ds l c = (k : Kind) (b : Branch) → asks_of c ≡ Some (k, b) → (begins k || is_open (stands from ds b)) ≡ true → l ≡ line_of b
+IsOwn from ds l c = (k : Kind) (b : Branch) → asks_of c ≡ Some (k, b) → (begins_branch k || is_open_branch (stands from ds b)) ≡ true → l ≡ line_of b
 
 module _ (o : Origin) (g : Gtrid) (l : Line) (of : IsLineOf o l) where
   abbrev none : Branch → Standing
@@ -79,7 +79,7 @@ module _ (o : Origin) (g : Gtrid) (l : Line) (of : IsLineOf o l) where
 
   -- nothing is left to be told, and nothing waits
   record IsThere (ds : Deeds) : Type 0 where
-    keeps : Keeps o none ds []
+    keeps : DrivesByRules o none ds []
     quiet : IsQuiet o (seen_of ds)
 
   one : (ds : Deeds) (c : Call) (a : Answer) → ((k : Kind) (b : Branch) → asks_of c ≡ Some (k, b) → l ≡ line_of b) → IsThere ds
@@ -94,7 +94,7 @@ module _ (o : Origin) (g : Gtrid) (l : Line) (of : IsLineOf o l) where
           issued = waits_next o (seen_of ds) r.quiet l c;
           own_line = λ k b asks opens. own k b asks;
         }))
-        (Newest [] (All-nil (AreApart (AnAnswer l c a))));
+        (Newest [] (All-nil (AreUnrelated (AnAnswer l c a))));
     quiet = quiet_answered o (seen_of ds) r.quiet l c a;
   }
 
@@ -107,13 +107,13 @@ module _ (o : Origin) (g : Gtrid) (l : Line) (of : IsLineOf o l) where
   asked c k is j b e = ap line_asked (sym is ∙ e)
 
   abbrev opened : Deeds → Deeds
-  opened ds = each l (Calls.OpenRm ∷ []) ds
+  opened ds = calls_done l (Calls.OpenRm ∷ []) ds
 
   abbrev started : Deeds → Deeds
-  started ds = each l (Calls.OpenRm ∷ Calls.Start (at g l) false ∷ []) ds
+  started ds = calls_done l (Calls.OpenRm ∷ Calls.Start (at g l) false ∷ []) ds
 
   abbrev ended : Deeds → Deeds
-  ended ds = each l (Calls.OpenRm ∷ Calls.Start (at g l) false ∷ Calls.End (at g l) false ∷ []) ds
+  ended ds = calls_done l (Calls.OpenRm ∷ Calls.Start (at g l) false ∷ Calls.End (at g l) false ∷ []) ds
 
   voted : (ds : Deeds) → IsThere ds → IsThere (votes g l ds)
   voted ds r =
@@ -211,11 +211,11 @@ module _ (o : Origin) (g : Gtrid) (l m : Line) (apart : line_eq l m ≡ false) (
   decision = Did both_voted (Decided g Outcomes.Commit)
 
   abbrev first_made : Deeds
-  first_made = Made (decided g l m) l (commit g l) (Ret Success)
+  first_made = Made (both_issued g l m) l (commit g l) (Ret Success)
 
-  commit_made : Keeps o (λ b. Unstarted) first_made (AnAnswer l (commit g l) (Ret Success) ∷ [])
+  commit_made : DrivesByRules o (λ b. Unstarted) first_made (AnAnswer l (commit g l) (Ret Success) ∷ [])
   commit_made =
-      Makes (decided g l m) [] l (commit g l) (Ret Success)
+      Makes (both_issued g l m) [] l (commit g l) (Ret Success)
       (Does (Did decision (Issued l (commit g l))) [] (Issued m (commit g m)) (Does decision [] (Issued l (commit g l)) (Does both_voted [] (Decided g Outcomes.Commit) there.keeps tt) tt) tt)
       (record {
         of_session = of_l;
@@ -226,11 +226,11 @@ module _ (o : Origin) (g : Gtrid) (l m : Line) (apart : line_eq l m ≡ false) (
         own_line = λ k b asks opens. asked o g l of_l (commit g l) Commits refl k b asks;
       })
 
-  half : Keeps o (λ b. Unstarted) (half_committed g l m) (AnAnswer l (commit g l) (Ret Success) ∷ [])
+  half : DrivesByRules o (λ b. Unstarted) (half_committed g l m) (AnAnswer l (commit g l) (Ret Success) ∷ [])
   half =
       TellsLoss (Severed first_made m) _ _ m (Some (commit g m))
       (Loses first_made (AnAnswer l (commit g l) (Ret Success) ∷ []) m commit_made)
-      (NoneMade (Some (commit g m)) (open_on (stand first_made) m) _ _ (Newest _ (All-cons (AreApart loss) made [] clear (All-nil (AreApart loss)))))
+      (NoneMade (Some (commit g m)) (open_on (stand first_made) m) _ _ (Newest _ (All-cons (AreUnrelated loss) made [] clear (All-nil (AreUnrelated loss)))))
     where
       loss : Untold
       loss = ALoss m (open_on (stand first_made) m)
@@ -238,11 +238,11 @@ module _ (o : Origin) (g : Gtrid) (l m : Line) (apart : line_eq l m ≡ false) (
       made : Untold
       made = AnAnswer l (commit g l) (Ret Success)
 
-      clear : AreApart loss made
+      clear : AreUnrelated loss made
       clear = record {
         lines = back;
         branches = λ b open_there is.
-            true≢false (sym (subst (λ z. open_on (stand first_made) m z ≡ true) (sym is) open_there) ∙ ap (λ t. t && is_open (stand first_made (at g l))) back);
+            true≢false (sym (subst (λ z. open_on (stand first_made) m z ≡ true) (sym is) open_there) ∙ ap (λ t. t && is_open_branch (stand first_made (at g l))) back);
       }
 
   -- ** where both stand

@@ -15,15 +15,15 @@ use Rattle.xa_monitor.specs.Standings.{Comes}
 
 -- a branch that stands so is open: begun, and neither prepared nor over. It is lost with its
 -- connection
-abbrev pub is_open : Standing → Bool
-is_open Active = true
-is_open Idle = true
-is_open RollbackOnly = true
-is_open _ = false
+abbrev pub is_open_branch : Standing → Bool
+is_open_branch Active = true
+is_open_branch Idle = true
+is_open_branch RollbackOnly = true
+is_open_branch _ = false
 
 -- the branches that are open on a line
 abbrev pub open_on : (Branch → Standing) → Line → Branch → Bool
-open_on f l b = line_eq l (line_of b) && is_open (f b)
+open_on f l b = line_eq l (line_of b) && is_open_branch (f b)
 
 -- what was done on a line, and isn't told yet: the answer to a call; or the loss of the
 -- connection, with the branches that were open on it
@@ -36,33 +36,33 @@ line_on (AnAnswer l c a) = l
 line_on (ALoss l lost) = l
 
 -- the call asks this of the branch
-abbrev pub Asks : Option (Kind × Branch) → Branch → Type 0
-Asks (Some (k, c)) b = c ≡ b
-Asks None b = ⊥
+abbrev pub AsksOf : Option (Kind × Branch) → Branch → Type 0
+AsksOf (Some (k, c)) b = c ≡ b
+AsksOf None b = ⊥
 
 -- it is about the branch: the call names it, the page lists it, or it was lost
 abbrev pub IsAbout : Untold → Branch → Type 0
-IsAbout (AnAnswer l c (Ret a)) b = Asks (asks_of c) b
+IsAbout (AnAnswer l c (Ret a)) b = AsksOf (asks_of c) b
 IsAbout (AnAnswer l c (Page names)) b = Lists names (Ours b)
 IsAbout (ALoss l lost) b = lost b ≡ true
 
 -- they are about different branches, and on different lines
-pub record AreApart (u v : Untold) : Type 0 where
+pub record AreUnrelated (u v : Untold) : Type 0 where
   pub lines : line_eq (line_on u) (line_on v) ≡ false
   pub branches : (b : Branch) → IsAbout u b → IsAbout v b → ⊥
 
 -- Of what isn't told yet, the newest first, this is told next, and the rest isn't: whatever is
 -- older is on another line and about other branches.
-pub data IsNext (u : Untold) : List Untold → List Untold → Type 0 where
-  Newest : (us : List Untold) → All (AreApart u) us → IsNext u (u ∷ us) us
-  Before : (v : Untold) (us rest : List Untold) → IsNext u us rest → IsNext u (v ∷ us) (v ∷ rest)
+pub data IsToldNext (u : Untold) : List Untold → List Untold → Type 0 where
+  Newest : (us : List Untold) → All (AreUnrelated u) us → IsToldNext u (u ∷ us) us
+  Before : (v : Untold) (us rest : List Untold) → IsToldNext u us rest → IsToldNext u (v ∷ us) (v ∷ rest)
 
 -- The loss of the line is told next. At most one call was made on it whose answer isn't told, the
 -- one that waits first.
 pub data IsLostNext (l : Line) : Option Call → List Untold → List Untold → Type 0 where
-  NoneMade : (c : Option Call) (lost : Branch → Bool) (us rest : List Untold) → IsNext (ALoss l lost) us rest → IsLostNext l c us rest
+  NoneMade : (c : Option Call) (lost : Branch → Bool) (us rest : List Untold) → IsToldNext (ALoss l lost) us rest → IsLostNext l c us rest
   FirstMade :
-      (c : Call) (a : Answer) (lost : Branch → Bool) (us mid rest : List Untold) → IsNext (AnAnswer l c a) us mid → IsNext (ALoss l lost) mid rest
+      (c : Call) (a : Answer) (lost : Branch → Bool) (us mid rest : List Untold) → IsToldNext (AnAnswer l c a) us mid → IsToldNext (ALoss l lost) mid rest
       → IsLostNext l (Some c) us rest
 
 -- so many calls were made on the line whose answers aren't told
@@ -80,9 +80,9 @@ is_severed (ALoss m lost ∷ us) l = line_eq m l || is_severed us l
 -- ** the rules
 
 -- xa_start without TMJOIN
-abbrev pub begins : Kind → Bool
-begins Start = true
-begins _ = false
+abbrev pub begins_branch : Kind → Bool
+begins_branch Start = true
+begins_branch _ = false
 
 -- A call may be made:
 -- - `of_session`: on a line of the session,
@@ -90,11 +90,11 @@ begins _ = false
 -- - `issued`: once it is issued, and in turn: it waits after the calls that were made on the line
 --   and aren't told;
 -- - `own_line`: on the branch's own line, if it begins the branch or the branch is open.
-pub record MayMake (o : Origin) (from : Branch → Standing) (ds : Deeds) (us : List Untold) (l : Line) (c : Call) : Type 0 where
+pub record MayMakeCall (o : Origin) (from : Branch → Standing) (ds : Deeds) (us : List Untold) (l : Line) (c : Call) : Type 0 where
   pub of_session : IsLineOf o l
   pub connected : is_severed us l ≡ false
   pub issued : WaitsAt o (seen_of ds) l (made_on us l) (Some c)
-  pub own_line : (k : Kind) (b : Branch) → asks_of c ≡ Some (k, b) → (begins k || is_open (stands from ds b)) ≡ true → l ≡ line_of b
+  pub own_line : (k : Kind) (b : Branch) → asks_of c ≡ Some (k, b) → (begins_branch k || is_open_branch (stands from ds b)) ≡ true → l ≡ line_of b
 
 -- A driver keeps its rules, and this isn't told yet:
 -- - `Makes`: it makes a call only if it may;
@@ -104,27 +104,27 @@ pub record MayMake (o : Origin) (from : Branch → Standing) (ds : Deeds) (us : 
 --   after the answers to all calls that were made on the line but the one that waits first.
 -- The coordinator does what it does (`Does`), connections are severed (`Loses`) and branches are
 -- ended by their databases (`Ends`) at any moment.
-pub data Keeps (o : Origin) (from : Branch → Standing) : Deeds → List Untold → Type 0 where
-  Begins : Keeps o from Nothing []
-  Does : (ds : Deeds) (us : List Untold) (e : Happening) → Keeps o from ds us → IsManagers e → Keeps o from (Did ds e) us
+pub data DrivesByRules (o : Origin) (from : Branch → Standing) : Deeds → List Untold → Type 0 where
+  Begins : DrivesByRules o from Nothing []
+  Does : (ds : Deeds) (us : List Untold) (e : Happening) → DrivesByRules o from ds us → IsManagers e → DrivesByRules o from (Did ds e) us
   Makes :
-      (ds : Deeds) (us : List Untold) (l : Line) (c : Call) (a : Answer) → Keeps o from ds us → MayMake o from ds us l c
-      → Keeps o from (Made ds l c a) (AnAnswer l c a ∷ us)
+      (ds : Deeds) (us : List Untold) (l : Line) (c : Call) (a : Answer) → DrivesByRules o from ds us → MayMakeCall o from ds us l c
+      → DrivesByRules o from (Made ds l c a) (AnAnswer l c a ∷ us)
   Loses :
-      (ds : Deeds) (us : List Untold) (l : Line) → Keeps o from ds us
-      → Keeps o from (Severed ds l) (ALoss l (open_on (stands from ds) l) ∷ us)
-  Ends : (ds : Deeds) (us : List Untold) (b : Branch) (how : How) → Keeps o from ds us → Keeps o from (Ended ds b how) us
+      (ds : Deeds) (us : List Untold) (l : Line) → DrivesByRules o from ds us
+      → DrivesByRules o from (Severed ds l) (ALoss l (open_on (stands from ds) l) ∷ us)
+  Ends : (ds : Deeds) (us : List Untold) (b : Branch) (how : How) → DrivesByRules o from ds us → DrivesByRules o from (Ended ds b how) us
   Tells :
-      (ds : Deeds) (us rest : List Untold) (l : Line) (c : Call) (a : Answer) → Keeps o from ds us → IsNext (AnAnswer l c a) us rest
-      → Keeps o from (Told ds l c a) rest
+      (ds : Deeds) (us rest : List Untold) (l : Line) (c : Call) (a : Answer) → DrivesByRules o from ds us → IsToldNext (AnAnswer l c a) us rest
+      → DrivesByRules o from (Told ds l c a) rest
   TellsLoss :
-      (ds : Deeds) (us rest : List Untold) (l : Line) (c : Option Call) → Keeps o from ds us → IsLostNext l c us rest
-      → Keeps o from (ToldLost ds l c) rest
+      (ds : Deeds) (us rest : List Untold) (l : Line) (c : Option Call) → DrivesByRules o from ds us → IsLostNext l c us rest
+      → DrivesByRules o from (ToldLost ds l c) rest
 
 -- A driver is faithful in a session from this start, at which the branches stood so.
 pub record IsFaithful (o : Origin) (from : Branch → Standing) (ds : Deeds) : Type 0 where
   pub untold : List Untold
-  pub keeps : Keeps o from ds untold
+  pub keeps : DrivesByRules o from ds untold
 
 -- ** they suffice
 

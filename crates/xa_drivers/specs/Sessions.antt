@@ -76,8 +76,8 @@ DrivenSessionsGoOn {L} moment =
 -- ** one transaction alone
 
 -- the branches of this transaction
-abbrev pub of_transaction : Gtrid → Branch → Bool
-of_transaction g b = gtrid_eq b.gtrid g
+abbrev pub is_in_transaction : Gtrid → Branch → Bool
+is_in_transaction g b = gtrid_eq b.gtrid g
 
 -- The branches of one transaction stand where the theorem of one transaction supposes.
 pub record StandByToldFor (g : Gtrid) (o : Origin) (from : Branch → Standing) (ds : Deeds) : Type 0 where
@@ -88,7 +88,7 @@ pub record StandByToldFor (g : Gtrid) (o : Origin) (from : Branch → Standing) 
 -- So they do if the driver is faithful and the databases obey the table as far as its branches go.
 abbrev pub DriversSufficeFor : Type 0
 DriversSufficeFor =
-    (g : Gtrid) (o : Origin) (from : Branch → Standing) (ds : Deeds) → IsFaithful o from ds → ObeyTable (of_transaction g) from ds
+    (g : Gtrid) (o : Origin) (from : Branch → Standing) (ds : Deeds) → IsFaithful o from ds → ObeyTable (is_in_transaction g) from ds
     → StandByToldFor g o from ds
 
 -- Where the branches of one transaction stand after such sessions: `AreServedFor` of `xa_server`,
@@ -99,7 +99,7 @@ pub data AreDrivenFor {L : Type 0} (moment : L → Moment) (name : List ℕ) (g 
       (c d : Content) (from : Branch → Standing) (handed : L) (o : Origin) (told seen : Seen) (now left : Server L) (ds : Deeds)
       → AreDrivenFor moment name g c from → HoldsLeft moment c handed → IsSession moment name handed o told now
       → IsSessionLeft moment told now seen left → (moment (log_in left.session.manager)).is_honest → AreDeeds o from seen ds
-      → ObeyTable (of_transaction g) (at_start from) ds → LeavesContent moment left.session.manager d
+      → ObeyTable (is_in_transaction g) (at_start from) ds → LeavesContent moment left.session.manager d
       → AreDrivenFor moment name g d (stands (at_start from) ds)
   Between :
       (c : Content) (from to : Branch → Standing) (d : Branch) → AreDrivenFor moment name g c from → MayTurn (is_some (get c.decisions g)) (from d) (to d)

@@ -8,7 +8,7 @@ use Rattle.xa_base.specs.declared.state.Standing.{Standing}
 use Rattle.xa_base.specs.declared.state.Standing.TheVariants.{Active, Committed, Idle, Prepared, Unstarted}
 use Rattle.xa_base.specs.declared.step.Outcome.TheVariants as Outcomes
 use Rattle.xa_drivers.specs.Deeds.{Deeds, Deeds.Did, Deeds.Made, Deeds.Nothing, Deeds.Severed, Deeds.Told, Deeds.ToldLost, ObeyTable, stands}
-use Rattle.xa_drivers.specs.Faithful.{IsFaithful, StandByTold, is_open}
+use Rattle.xa_drivers.specs.Faithful.{IsFaithful, StandByTold, is_open_branch}
 use Rattle.xa_model.specs.Trace.{Answer, Branch, Call, Gtrid, Happening.Begun, Happening.Decided, Happening.Issued, Line, Name.Ours, Origin, line, line_eq, line_of}
 use Rattle.xa_monitor.specs.Agreement.{IsLineOf}
 use Rattle.xa_monitor.specs.Explained.{HasOnlyOlderRows}
@@ -20,27 +20,27 @@ abbrev pub at : Gtrid → Line → Branch
 at g l = record { gtrid = g; thread = l.thread; rm = l.rm }
 
 -- each of these calls is issued on the line, made, and answered XA_OK, which is told
-abbrev pub each : Line → List Call → Deeds → Deeds
-each l [] ds = ds
-each l (c ∷ cs) ds = each l cs (Told (Made (Did ds (Issued l c)) l c (Ret Success)) l c (Ret Success))
+abbrev pub calls_done : Line → List Call → Deeds → Deeds
+calls_done l [] ds = ds
+calls_done l (c ∷ cs) ds = calls_done l cs (Told (Made (Did ds (Issued l c)) l c (Ret Success)) l c (Ret Success))
 
 -- the calls on a branch up to its vote
 abbrev pub votes : Gtrid → Line → Deeds → Deeds
-votes g l ds = each l (Calls.OpenRm ∷ Calls.Start (at g l) false ∷ Calls.End (at g l) false ∷ Calls.Prepare (at g l) ∷ []) ds
+votes g l ds = calls_done l (Calls.OpenRm ∷ Calls.Start (at g l) false ∷ Calls.End (at g l) false ∷ Calls.Prepare (at g l) ∷ []) ds
 
 abbrev pub commit : Gtrid → Line → Call
 commit g l = Calls.Commit (at g l) false
 
 -- A branch on each of two lines votes. The transaction is decided to commit, and an xa_commit of
 -- each is issued.
-abbrev pub decided : Gtrid → (l m : Line) → Deeds
-decided g l m =
+abbrev pub both_issued : Gtrid → (l m : Line) → Deeds
+both_issued g l m =
     Did (Did (Did (votes g m (votes g l (Did Nothing (Begun g)))) (Decided g Outcomes.Commit)) (Issued l (commit g l))) (Issued m (commit g m))
 
 -- The one is committed, which isn't told yet. The other's connection is gone before its xa_commit
 -- was made, and that is told.
 abbrev pub half_committed : Gtrid → (l m : Line) → Deeds
-half_committed g l m = ToldLost (Severed (Made (decided g l m) l (commit g l) (Ret Success)) m) m (Some (commit g m))
+half_committed g l m = ToldLost (Severed (Made (both_issued g l m) l (commit g l) (Ret Success)) m) m (Some (commit g m))
 
 -- This driver is faithful over databases that obey the table, and one branch stands committed
 -- beside one that is prepared still.
@@ -81,7 +81,7 @@ pub record RulesRefuse (o : Origin) (from : Branch → Standing) : Type 0 where
   pub unissued : HasOnlyOlderRows o → (l : Line) (c : Call) (a : Answer) → IsFaithful o from (Made Nothing l c a) → ⊥
   pub gone : (ds : Deeds) (l : Line) (c : Call) (a : Answer) → IsFaithful o from (Made (Severed ds l) l c a) → ⊥
   pub elsewhere :
-      (ds : Deeds) (l : Line) (b : Branch) (a : Answer) → is_open (stands from ds b) ≡ true → l ≢ line_of b
+      (ds : Deeds) (l : Line) (b : Branch) (a : Answer) → is_open_branch (stands from ds b) ≡ true → l ≢ line_of b
       → IsFaithful o from (Made ds l (Calls.Rollback b) a) → ⊥
   pub order :
       (cs : List (Line × Call)) (l : Line) (c d : Call) (a x : Answer) → c ≢ d
@@ -108,14 +108,14 @@ pub record IsMisled (from : Branch → Standing) (ds : Deeds) : Type 0 where
   pub obey : ObeyTable (λ b. true) from ds
   pub unexplained : (o : Origin) → HasOnlyOlderRows o → StandByTold o from ds → ⊥
 
-abbrev pub vote : Branch → Call
-vote b = Calls.Prepare b
+abbrev pub prepare_call : Branch → Call
+prepare_call b = Calls.Prepare b
 
 abbrev pub ending : Branch → Call
 ending b = Calls.End b false
 
-abbrev pub xa_commit : Branch → Call
-xa_commit b = Calls.Commit b false
+abbrev pub commit_call : Branch → Call
+commit_call b = Calls.Commit b false
 
 -- the line of recoveries to the branch's resource manager
 abbrev pub first : Branch → Line
@@ -135,7 +135,7 @@ pub record BrokenRulesMislead (b : Branch) : Type 0 where
   pub unissued : IsMisled (λ x. Unstarted) (Made Nothing (line_of b) (Calls.Start b false) (Ret Success))
   pub gone :
       IsMisled (λ x. Idle)
-      (Told (Made (Severed (asked ((line_of b, vote b) ∷ [])) (line_of b)) (line_of b) (vote b) (Ret NotAnXid)) (line_of b) (vote b)
+      (Told (Made (Severed (asked ((line_of b, prepare_call b) ∷ [])) (line_of b)) (line_of b) (prepare_call b) (Ret NotAnXid)) (line_of b) (prepare_call b)
       (Ret NotAnXid))
   pub elsewhere :
       IsMisled (λ x. Idle)
@@ -143,28 +143,28 @@ pub record BrokenRulesMislead (b : Branch) : Type 0 where
       (line_of b) None) (first b) (Calls.Rollback b) (Ret Success))
   pub order :
       IsMisled (λ x. Active)
-      (Told (Made (Made (asked ((line_of b, vote b) ∷ (line_of b, ending b) ∷ [])) (line_of b) (ending b) (Ret Success)) (line_of b)
-      (vote b) (Ret Success)) (line_of b) (vote b) (Ret Success))
+      (Told (Made (Made (asked ((line_of b, prepare_call b) ∷ (line_of b, ending b) ∷ [])) (line_of b) (ending b) (Ret Success)) (line_of b)
+      (prepare_call b) (Ret Success)) (line_of b) (prepare_call b) (Ret Success))
   pub connected :
       IsMisled (λ x. Active)
       (Told (Made (Made (Made
-      (ToldLost (asked ((first b, xa_commit b) ∷ (line_of b, vote b) ∷ (line_of b, ending b) ∷ [])) (line_of b) (Some (ending b)))
-      (line_of b) (ending b) (Ret Success)) (line_of b) (vote b) (Ret Success)) (first b) (xa_commit b) (Ret Success)) (first b)
-      (xa_commit b) (Ret Success))
+      (ToldLost (asked ((first b, commit_call b) ∷ (line_of b, prepare_call b) ∷ (line_of b, ending b) ∷ [])) (line_of b) (Some (ending b)))
+      (line_of b) (ending b) (Ret Success)) (line_of b) (prepare_call b) (Ret Success)) (first b) (commit_call b) (Ret Success)) (first b)
+      (commit_call b) (Ret Success))
   pub two_made :
       IsMisled (λ x. Active)
       (Told (Made (ToldLost (Severed (Made (Made
-      (asked ((first b, xa_commit b) ∷ (line_of b, vote b) ∷ (line_of b, ending b) ∷ [])) (line_of b) (ending b) (Ret Success)) (line_of b)
-      (vote b) (Ret Success)) (line_of b)) (line_of b) (Some (ending b))) (first b) (xa_commit b) (Ret Success)) (first b) (xa_commit b)
+      (asked ((first b, commit_call b) ∷ (line_of b, prepare_call b) ∷ (line_of b, ending b) ∷ [])) (line_of b) (ending b) (Ret Success)) (line_of b)
+      (prepare_call b) (Ret Success)) (line_of b)) (line_of b) (Some (ending b))) (first b) (commit_call b) (Ret Success)) (first b) (commit_call b)
       (Ret Success))
   pub page :
       IsMisled (λ x. Idle)
-      (Told (Made (Made (asked ((first b, recover) ∷ (line_of b, vote b) ∷ [])) (line_of b) (vote b) (Ret Success)) (first b) recover
+      (Told (Made (Made (asked ((first b, recover) ∷ (line_of b, prepare_call b) ∷ [])) (line_of b) (prepare_call b) (Ret Success)) (first b) recover
       (listing b)) (first b) recover (listing b))
   pub answer :
       IsMisled (λ x. Idle)
-      (Told (Made (Told (Made (asked ((first b, xa_commit b) ∷ (line_of b, vote b) ∷ [])) (line_of b) (vote b)
-      (Ret (RolledBack Rollback))) (line_of b) (vote b) (Ret Success)) (first b) (xa_commit b) (Ret NotAnXid)) (first b) (xa_commit b)
+      (Told (Made (Told (Made (asked ((first b, commit_call b) ∷ (line_of b, prepare_call b) ∷ [])) (line_of b) (prepare_call b)
+      (Ret (RolledBack Rollback))) (line_of b) (prepare_call b) (Ret Success)) (first b) (commit_call b) (Ret NotAnXid)) (first b) (commit_call b)
       (Ret NotAnXid))
 
 abbrev pub CoordinatorsAreMisled : Type 0

@@ -7,7 +7,7 @@ use Rattle.xa_log.specs.Contract.{Moment}
 use Rattle.xa_model.specs.Protocol.{Lists}
 use Rattle.xa_model.specs.Trace.{Branch, How, Name, Name.Ours}
 use Rattle.xa_outcomes.specs.Outcomes.{IsEndedAs}
-use Rattle.xa_outcomes.specs.Recovered.{EndsRecovered, ServedRecoveriesComplete, TellsOver}
+use Rattle.xa_outcomes.specs.Recovered.{TellsEndsFound, ServedRecoveriesComplete, TellsOver}
 use Rattle.xa_outcomes.specs.Served.{ToldHeuristicEndsStay, WasToldEndedAlone}
 use Rattle.xa_server.specs.HeardEnds.{ServedEndsStay, WasToldEndServed}
 use Rattle.xa_server.specs.Sessions.{AreServed, AreServed.Between, AreServed.NoneYet, AreServed.OneMore}
@@ -21,7 +21,7 @@ module _ {L : Type 0} (moment : L → Moment) (name : List ℕ) where
       ⊎ (WasToldEndServed moment name b RolledBack last f served ⊎ ((how : How) × WasToldEndedAlone moment name b how last f served))
 
   was_over : (i rm : ℕ) (names : List Name) (last : Option (Server L)) (f : Branch → Standing) (served : AreServed moment name last f)
-      → EndsRecovered moment name i rm names last f served → (b : Branch) → b.gtrid.incarnation < i → Lists names (Ours b) → WasOver b last f served
+      → TellsEndsFound moment name i rm names last f served → (b : Branch) → b.gtrid.incarnation < i → Lists names (Ours b) → WasOver b last f served
   was_over i rm names _ _ NoneYet ends b older listed = absurd ends
   was_over i rm names _ _ (OneMore last from to handed o told seen now left done cut before handed_on is is_left honest may) ends b older listed =
       by (ends.1.ended b (subst (λ n. b.gtrid.incarnation < n) ends.0 older) listed)

@@ -18,7 +18,7 @@ use Rattle.xa_monitor.specs.Seen.{Seen, Seen.Answered}
 use Rattle.xa_monitor.specs.Sessions.{AfterSessions, AfterSessions.Between as Ends_between, AfterSessions.NoneYet as No_session, AfterSessions.OneMore as One_session, Finds, IsSession as Is_session, Log, Log.Empty, Log.LeftBy, MayFail, WasFoundDecided}
 use Rattle.xa_monitor.specs.Standings.{Comes}
 use Rattle.xa_outcomes.proofs.FailedRequests.{fails_as_asked}
-use Rattle.xa_outcomes.specs.Outcomes.{IsDecided, IsHandedOver, IsLeftDeciding, IsUndecidedSoFar, WasNeverDecided}
+use Rattle.xa_outcomes.specs.Outcomes.{IsSeenDecided, IsHandedOver, IsLeftDeciding, IsUndecidedSoFar, WasNeverDecided}
 use Rattle.xa_outcomes.specs.Parts.{IsOfSessions}
 use Rattle.xa_outcomes.specs.Served.{IsLeftCommitting, IsOfServed, IsUntoldSoFar, WasNeverToldDecided}
 use Rattle.xa_server.proofs.Failures.{IsFailedToHear, failed_in_answer}
@@ -101,7 +101,7 @@ module _ {L : Type 0} (moment : L → Moment) (name : List ℕ) where
       abbrev all : AreServed moment name (Some left) to
       all = OneMore last from to handed o told seen now left done cut before handed_on is is_left honest may
 
-      on : (kept : Seen) → (kept ≡ told) ⊎ (kept ≡ seen) → (Saw told → Saw kept) → (IsDecided g kept → IsDecided g told)
+      on : (kept : Seen) → (kept ≡ told) ⊎ (kept ≡ seen) → (Saw told → Saw kept) → (IsSeenDecided g kept → IsSeenDecided g told)
           → (IsHandedOver g kept → IsHandedOver g told) → (fails : Option Fault)
           → (IsLeftDeciding g fails → IsLeftCommitting moment g told now seen left is_left) → Is_session o kept fails → (done cut : List Line)
           → MayAllStand o kept (λ b. Comes kept b (broken (from b))) done cut to → (next : Origin) → Finds (LeftBy o kept fails) next

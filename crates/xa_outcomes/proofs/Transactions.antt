@@ -36,7 +36,7 @@ use Rattle.xa_outcomes.proofs.Decided.{row_of_prepared}
 use Rattle.xa_outcomes.proofs.Lasting.{on_alone, right_alone, some_lasts}
 use Rattle.xa_outcomes.proofs.OneHistory.{committed_by, gone_so}
 use Rattle.xa_outcomes.proofs.Reached.{IsOneHistory, reached}
-use Rattle.xa_outcomes.specs.Outcomes.{IsDecided, IsHandedOver}
+use Rattle.xa_outcomes.specs.Outcomes.{IsSeenDecided, IsHandedOver}
 use Rattle.xa_outcomes.specs.Transactions.{HandedOverIsAlone, IsCommitHeard, IsCommitRefused, IsRollbackDecided, MayStandCommitted, StandsCommitted, TellsCommit, TellsRollback, ToldCommitStands, ToldRollbackStands}
 
 -- ** a standing that stays
@@ -290,7 +290,7 @@ module _ (o : Outcome) (Made : Gtrid → Trace → Type 0) (step : (g : Gtrid) (
       (on_alone (Made g) (step g) p tr at alone right.0.0
       (made_so p from seen tr i (right_alone p tr at alone right.0.0) (lost seen l (Some c) t))))
 
-commit_now : (g : Gtrid) (seen : Seen) (e : Happening) → IsDecided g (Did seen e) → (e ≡ Decided g Outcomes.Commit) ⊎ IsDecided g seen
+commit_now : (g : Gtrid) (seen : Seen) (e : Happening) → IsSeenDecided g (Did seen e) → (e ≡ Decided g Outcomes.Commit) ⊎ IsSeenDecided g seen
 commit_now g seen (Decided h Outcomes.Commit) (inl t) = inl (ap (λ z. Decided z Outcomes.Commit) (gtrid_eq-true h g t))
 commit_now g seen (Decided h Outcomes.Commit) (inr t) = inr t
 commit_now g seen _ t = inr t
@@ -313,7 +313,7 @@ commit_step g tr e right (inr ended) = inr (stands_step Committed tt g tr e righ
 commit_so : (g : Gtrid) (p : Trace) (o : Origin) (seen : Seen) (told : Trace) → IsHistory o seen told → AllRight (continued_by p told) → TellsCommit g seen
     → IsCommit g (continued_by p told)
 commit_so g p o seen told i right (inl t) =
-    inl (made_so Outcomes.Commit IsCommitMade made_step commit_made g (IsDecided g) (λ t. t) (commit_now g) (λ seen l c a t. t) (λ seen l c t. t)
+    inl (made_so Outcomes.Commit IsCommitMade made_step commit_made g (IsSeenDecided g) (λ t. t) (commit_now g) (λ seen l c a t. t) (λ seen l c t. t)
     p o seen told i right t)
 commit_so g p o seen told i right (inr t) = inr (heard_so g p o seen told i right t)
 

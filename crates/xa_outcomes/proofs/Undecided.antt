@@ -16,7 +16,7 @@ use Rattle.xa_monitor.specs.Seen.{Alone, Alone.Ends, Alone.NoMore as AloneNoMore
 use Rattle.xa_monitor.specs.Sessions.{AfterSessions, AfterSessions.Between, AfterSessions.NoneYet, AfterSessions.OneMore, Log, failed_in, nothing_yet}
 use Rattle.xa_outcomes.proofs.OneHistory.{committed_so}
 use Rattle.xa_outcomes.proofs.Reached.{IsOneHistory, reached}
-use Rattle.xa_outcomes.specs.Outcomes.{IsDecided, IsHandedOver, IsLeftDeciding, IsUndecidedSoFar, NeverDecidedIsNeverCommitted, UndecidedIsUncommitted, WasNeverDecided}
+use Rattle.xa_outcomes.specs.Outcomes.{IsSeenDecided, IsHandedOver, IsLeftDeciding, IsUndecidedSoFar, NeverDecidedIsNeverCommitted, UndecidedIsUncommitted, WasNeverDecided}
 use Rattle.xa_outcomes.specs.Parts.{GoesOnUntold, GoesOnUntold.Goes, GoesOnUntold.NoMore, IsOfSessions, IsUntold}
 
 -- ** what commits a transaction
@@ -141,7 +141,7 @@ alone_some tr _ g (Ends now b how a p) r = alone_some tr now g a r
 
 -- the session saw it
 abbrev SawCommit : Gtrid → Seen → Type 0
-SawCommit g seen = IsDecided g seen ⊎ IsHandedOver g seen
+SawCommit g seen = IsSeenDecided g seen ⊎ IsHandedOver g seen
 
 saw_more : (g : Gtrid) (seen : Seen) (e : Happening) → SawCommit g seen → SawCommit g (Did seen e)
 saw_more g seen (Decided h Outcome.Commit) (inl d) = inl (inr d)

@@ -18,7 +18,7 @@ use Rattle.xa_monitor.specs.Seen.{Seen, Seen.Answered, Seen.Did, Seen.Start}
 use Rattle.xa_names.specs.Laws.{LinesStay}
 use Rattle.xa_outcomes.proofs.WorkedLines.{AskFor, AskForAll, AnswerTold, NoneWaits, answer_told, begin_asks, begin_request_is, commit_asks, decide_request_is, issue_told, no_fault_heard, no_fault_issued, none_answered, none_at_start, none_begun, one_asks, tells_answer, tells_issue, two_asks, waits_first}
 use Rattle.xa_outcomes.proofs.WorkedSessions.{ended_alone, stand_apart}
-use Rattle.xa_outcomes.specs.WorkedSessions.{AreMade, AreWorked, Commits, IsLeftInDecide, IsMade, LeavesDeciding, Spoken, TellThis, at_one, at_two, first_gtrid, lines_of_commit, lines_of_one, lines_of_two, made, told_second, votes_told}
+use Rattle.xa_outcomes.specs.WorkedSessions.{AreMade, AreWorkedOut, Commits, IsLeftInDecide, IsMade, LeavesDeciding, Spoken, TellThis, at_one, at_two, first_gtrid, lines_of_commit, lines_of_one, lines_of_two, made, told_second, votes_told}
 use Rattle.xa_requests.specs.declared.request.Request.{Request}
 use Rattle.xa_requests.specs.declared.request.Request.TheVariants as requests
 use Rattle.xa_requests.specs.declared.response.Response.{Response}
@@ -331,10 +331,10 @@ module _ {L : Type 0} (moment : L → Moment) (tracked : RepliesAreTracked momen
       honest_last = honest;
     }
 
-    are_worked : AreWorked moment last
+    are_worked : AreWorkedOut moment last
     are_worked = record { stand = stand_apart moment [] first_gtrid last tell; ended = ended_alone moment [] first_gtrid last tell }
 
   pub worked_so : (handed left : L) (last : Server L) → IsLeftInDecide moment handed left → Commits moment left last
-      → Honestly (moment handed) (moment (log_in last.session.manager)) (IsSomeAnd (moment handed).content IsEmptyLog → AreWorked moment last)
+      → Honestly (moment handed) (moment (log_in last.session.manager)) (IsSomeAnd (moment handed).content IsEmptyLog → AreWorkedOut moment last)
   worked_so handed left last one two order honest empty =
       are_worked handed left last one (subst (λ log. Commits moment log last) one.log_is two) order honest empty

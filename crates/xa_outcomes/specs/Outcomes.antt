@@ -18,12 +18,12 @@ use Rattle.xa_monitor.specs.Sessions.{AfterSessions, AfterSessions.Between, Afte
 -- ** what is seen of a transaction
 
 -- it was decided to commit
-abbrev pub IsDecided : Gtrid → Seen → Type 0
-IsDecided g Start = ⊥
-IsDecided g (Did seen (Decided h Outcomes.Commit)) = (gtrid_eq h g ≡ true) ⊎ IsDecided g seen
-IsDecided g (Did seen e) = IsDecided g seen
-IsDecided g (Answered seen l c a) = IsDecided g seen
-IsDecided g (Lost seen l c) = IsDecided g seen
+abbrev pub IsSeenDecided : Gtrid → Seen → Type 0
+IsSeenDecided g Start = ⊥
+IsSeenDecided g (Did seen (Decided h Outcomes.Commit)) = (gtrid_eq h g ≡ true) ⊎ IsSeenDecided g seen
+IsSeenDecided g (Did seen e) = IsSeenDecided g seen
+IsSeenDecided g (Answered seen l c a) = IsSeenDecided g seen
+IsSeenDecided g (Lost seen l c) = IsSeenDecided g seen
 
 -- an xa_commit in one phase was issued of a branch of it
 abbrev pub IsHandedOver : Gtrid → Seen → Type 0
@@ -74,7 +74,7 @@ TellsHeuristic b how (Lost seen l c) = TellsHeuristic b how seen
 abbrev pub WasNeverDecided : Gtrid → (log : Log) (f : Branch → Standing) → AfterSessions log f → Type 0
 WasNeverDecided g _ _ (NoneYet i) = Unit
 WasNeverDecided g _ _ (OneMore log from to o seen fails done cut before found session may) =
-    (IsDecided g seen → ⊥) × (IsHandedOver g seen → ⊥) × (IsLeftDeciding g fails → ⊥) × WasNeverDecided g log from before
+    (IsSeenDecided g seen → ⊥) × (IsHandedOver g seen → ⊥) × (IsLeftDeciding g fails → ⊥) × WasNeverDecided g log from before
 WasNeverDecided g _ _ (Between log from to d how before was final) = WasNeverDecided g log from before
 
 -- Then none of its branches is committed.
@@ -86,7 +86,7 @@ NeverDecidedIsNeverCommitted =
 abbrev pub IsUndecidedSoFar : Gtrid → (log : Log) (f : Branch → Standing) → AfterSessions log f → Type 0
 IsUndecidedSoFar g _ _ (NoneYet i) = Unit
 IsUndecidedSoFar g _ _ (OneMore log from to o seen fails done cut before found session may) =
-    (IsDecided g seen → ⊥) × (IsHandedOver g seen → ⊥) × WasNeverDecided g log from before
+    (IsSeenDecided g seen → ⊥) × (IsHandedOver g seen → ⊥) × WasNeverDecided g log from before
 IsUndecidedSoFar g _ _ (Between log from to d how before was final) = IsUndecidedSoFar g log from before
 
 -- Then none of its branches is committed yet.

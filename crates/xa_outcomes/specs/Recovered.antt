@@ -34,18 +34,18 @@ pub record TellsRecovery (o : Origin) (rm : ℕ) (names : List Name) (told : See
   pub ended : (b : Branch) → b.gtrid.incarnation < o.incarnation → Lists names (Ours b) → TellsOver b told
 
 -- The last of these sessions, which began in this incarnation, told it.
-abbrev pub EndsRecovered : {L : Type 0} (moment : L → Moment) (name : List ℕ) (incarnation rm : ℕ) (names : List Name) (last : Option (Server L))
+abbrev pub TellsEndsFound : {L : Type 0} (moment : L → Moment) (name : List ℕ) (incarnation rm : ℕ) (names : List Name) (last : Option (Server L))
     (f : Branch → Standing) → AreServed moment name last f → Type 0
-EndsRecovered moment name i rm names _ _ NoneYet = ⊥
-EndsRecovered moment name i rm names _ _ (OneMore last from to handed o told seen now left done cut before handed_on is is_left honest may) =
+TellsEndsFound moment name i rm names _ _ NoneYet = ⊥
+TellsEndsFound moment name i rm names _ _ (OneMore last from to handed o told seen now left done cut before handed_on is is_left honest may) =
     (i ≡ o.incarnation) × TellsRecovery o rm names told
-EndsRecovered moment name i rm names _ _ (Between last from to d how before was final) = EndsRecovered moment name i rm names last from before
+TellsEndsFound moment name i rm names _ _ (Between last from to d how before was final) = TellsEndsFound moment name i rm names last from before
 
 -- If that page left out no branch of an earlier start that is prepared still, none is prepared at
 -- the resource manager.
 abbrev pub ServedRecoveriesComplete : {L : Type 0} → (L → Moment) → Type 0
 ServedRecoveriesComplete {L} moment =
     (name : List ℕ) (last : Server L) (f : Branch → Standing) (c : Content) (served : AreServed moment name (Some last) f) (i rm : ℕ) (names : List Name)
-    → LeavesContent moment last.session.manager c → EndsRecovered moment name i rm names (Some last) f served
+    → LeavesContent moment last.session.manager c → TellsEndsFound moment name i rm names (Some last) f served
     → ((b : Branch) → b.rm ≡ rm → b.gtrid.incarnation < i → f b ≡ Prepared → Lists names (Ours b))
     → (b : Branch) → b.rm ≡ rm → f b ≡ Prepared → i ≤ b.gtrid.incarnation

@@ -16,7 +16,7 @@ use Rattle.xa_model.specs.Promises.Agreement.{IsUndone}
 use Rattle.xa_model.specs.Trace.{Branch, Fault, Happening.CompletedAlone, How, Origin, Trace, Trace.Then}
 use Rattle.xa_monitor.specs.Seen.{Seen}
 use Rattle.xa_monitor.specs.Sessions.{IsCommitting, nothing_yet}
-use Rattle.xa_outcomes.specs.Outcomes.{IsDecided, IsDecidedAfterVote, IsEndedAs, IsHandedOver, SaidYes, TellsHeuristic}
+use Rattle.xa_outcomes.specs.Outcomes.{IsSeenDecided, IsDecidedAfterVote, IsEndedAs, IsHandedOver, SaidYes, TellsHeuristic}
 use Rattle.xa_outcomes.specs.Parts.{IsPart}
 use Rattle.xa_requests.specs.declared.request.Request.{Request}
 use Rattle.xa_requests.specs.declared.request.Request.TheVariants as requests
@@ -83,7 +83,7 @@ abbrev pub WasNeverToldDecided : {L : Type 0} (moment : L → Moment) (name : Li
     → AreServed moment name last f → Type 0
 WasNeverToldDecided moment name g _ _ NoneYet = Unit
 WasNeverToldDecided moment name g _ _ (OneMore last from to handed o told seen now left done cut before handed_on is is_left honest may) =
-    (IsDecided g told → ⊥) × (IsHandedOver g told → ⊥) × (IsLeftCommitting moment g told now seen left is_left → ⊥)
+    (IsSeenDecided g told → ⊥) × (IsHandedOver g told → ⊥) × (IsLeftCommitting moment g told now seen left is_left → ⊥)
     × WasNeverToldDecided moment name g last from before
 WasNeverToldDecided moment name g _ _ (Between last from to d how before was final) = WasNeverToldDecided moment name g last from before
 
@@ -110,7 +110,7 @@ abbrev pub IsUntoldSoFar : {L : Type 0} (moment : L → Moment) (name : List ℕ
     → AreServed moment name last f → Type 0
 IsUntoldSoFar moment name g _ _ NoneYet = Unit
 IsUntoldSoFar moment name g _ _ (OneMore last from to handed o told seen now left done cut before handed_on is is_left honest may) =
-    (IsDecided g told → ⊥) × (IsHandedOver g told → ⊥) × WasNeverToldDecided moment name g last from before
+    (IsSeenDecided g told → ⊥) × (IsHandedOver g told → ⊥) × WasNeverToldDecided moment name g last from before
 IsUntoldSoFar moment name g _ _ (Between last from to d how before was final) = IsUntoldSoFar moment name g last from before
 
 -- Then none of its branches is committed yet; and if the log that is left has no row of it, these

@@ -13,7 +13,7 @@ use Rattle.xa_model.specs.Facts.{lists_row}
 use Rattle.xa_model.specs.Trace.{Branch, Happening.Decided, Origin}
 use Rattle.xa_monitor.specs.Seen.{Seen, Seen.Answered, Seen.Did, Seen.Lost, Seen.Start}
 use Rattle.xa_monitor.specs.Sessions.{AfterSessions, AfterSessions.Between, AfterSessions.NoneYet, AfterSessions.OneMore, Finds, IsCommitting, Log}
-use Rattle.xa_outcomes.specs.Outcomes.{IsDecided, IsHandedOver}
+use Rattle.xa_outcomes.specs.Outcomes.{IsSeenDecided, IsHandedOver}
 
 -- ** what is seen of it
 
@@ -43,7 +43,7 @@ IsCommitRefused g (Lost seen l c) = IsCommitRefused g seen
 
 -- the session told that it is committed
 abbrev pub TellsCommit : Gtrid → Seen → Type 0
-TellsCommit g seen = IsDecided g seen ⊎ IsCommitHeard g seen
+TellsCommit g seen = IsSeenDecided g seen ⊎ IsCommitHeard g seen
 
 -- or that it is rolled back
 abbrev pub TellsRollback : Gtrid → Seen → Type 0

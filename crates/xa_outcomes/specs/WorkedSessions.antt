@@ -202,6 +202,6 @@ module _ {L : Type 0} (moment : L → Moment) where
 -- Of a transaction of two branches, at two databases, the one is committed and the other prepared
 -- still after these two sessions, or its database has ended it by itself since: as they are
 -- sessions that a server served, the last of them left so.
-pub record AreWorked {L : Type 0} (moment : L → Moment) (last : Server L) : Type 0 where
+pub record AreWorkedOut {L : Type 0} (moment : L → Moment) (last : Server L) : Type 0 where
   pub stand : MayStandApart moment [] first_gtrid last
   pub ended : (how : How) → AreServed moment [] (Some last) (stand_at first_gtrid Committed (Completed how))

@@ -2,7 +2,7 @@
 
 ghost use Rattle.std.specs.Prelude.{◌≡◌, codes, true, IfOk, IsSomeAnd, OnOk};
 ghost use Rattle.xa_log.specs.Contract.{Honestly};
-ghost use Rattle.xa_outcomes.specs.WorkedSessions.{AreMade, AreWorked, Commits, IsLeftInDecide};
+ghost use Rattle.xa_outcomes.specs.WorkedSessions.{AreMade, AreWorkedOut, Commits, IsLeftInDecide};
 ghost use Rattle.xa_outcomes.specs.WorkedSessions.{IsMade, IsReplied, LeavesDeciding, first_gtrid};
 ghost use Rattle.xa_outcomes.specs.WorkedSessions.{is_issued, lines_of_commit, lines_of_one, lines_of_two};
 ghost use Rattle.xa_requests.specs.declared.response.Response.TheVariants as responses;
@@ -243,7 +243,7 @@ pub fn worked_sessions<L: DecisionLog + Drop>(
 ) -> Result<Server<L>, WorkedFault>
     ensures worked { IfOk result (λ last.
         Honestly (L.moment log) (L.moment (log_in last.session.manager))
-        (IsSomeAnd (L.moment log).content IsEmptyLog → AreWorked L.moment last)) }
+        (IsSomeAnd (L.moment log).content IsEmptyLog → AreWorkedOut L.moment last)) }
 {
     replies_are_tracked::<L>();
     starts_are_tracked::<L>();

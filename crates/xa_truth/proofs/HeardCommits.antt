@@ -28,7 +28,7 @@ use Rattle.xa_base.specs.declared.refusal.Refusal.TheVariants.{Memory}
 use Rattle.xa_base.specs.declared.step.Outcome.{Outcome}
 use Rattle.xa_base.specs.declared.step.Outcome.TheVariants as outcomes
 use Rattle.xa_conduct.specs.Acting.{is_done}
-use Rattle.xa_conduct.specs.Backing.{asks_at_once, is_commit, is_named_on, is_on, is_refused, loses, tells}
+use Rattle.xa_conduct.specs.Backing.{asks_at_once, says_committed, is_named_on, is_on, says_rolled_back, loses, tells_code}
 use Rattle.xa_conduct.specs.Decided.{is_commit_of, is_rollback_of, is_same}
 use Rattle.xa_conduct.specs.Plain.{is_gtrid}
 use Rattle.xa_line.specs.Histories.{known}
@@ -37,7 +37,7 @@ use Rattle.xa_model.specs.Facts.InDoubt.{name_by}
 use Rattle.xa_model.specs.Replies.Steps.{ours_of}
 use Rattle.xa_model.specs.Trace.{Answer, Call, Happening, Happening.Decided, Happening.Issued, Line, line}
 use Rattle.xa_monitor.specs.Seen.{Seen, Seen.Answered, Seen.Did, Seen.Lost}
-use Rattle.xa_outcomes.specs.Outcomes.{IsDecided}
+use Rattle.xa_outcomes.specs.Outcomes.{IsSeenDecided}
 use Rattle.xa_outcomes.specs.Transactions.{IsCommitHeard, IsCommitRefused, IsRollbackDecided}
 use Rattle.xa_requests.specs.declared.request.CallName.{CallName}
 use Rattle.xa_requests.specs.declared.request.Request.{Request}
@@ -111,7 +111,7 @@ module _ (o : Outcome) (g : Gtrid) (Saw : Seen → Type 0) (did : (seen : Seen) 
         | inr later ↦ one_decided hs (Did seen (Decided h o)) later
       ]
 
-pub commit_did : (g : Gtrid) (seen : Seen) (e : Happening) → IsDecided g seen → IsDecided g (Did seen e)
+pub commit_did : (g : Gtrid) (seen : Seen) (e : Happening) → IsSeenDecided g seen → IsSeenDecided g (Did seen e)
 commit_did g seen (Decided h outcomes.Commit) s = inr s
 commit_did g seen _ s = s
 
@@ -121,11 +121,11 @@ rollback_did g seen _ s = s
 
 module _ {L : Type 0} (moment : L → Moment) (n : ℕ) where
   pub commit_seen : (g : Gtrid) (request : Request) (reply : Response) (seen next : Seen) (old new : Server L) → Performs moment request old reply new
-      → is_done reply ≡ true → is_commit_of g request ≡ true → Tells n request reply seen next → IsDecided g next
+      → is_done reply ≡ true → is_commit_of g request ≡ true → Tells n request reply seen next → IsSeenDecided g next
   commit_seen g (requests.Decide gs outcomes.Commit) reply seen next old new performs done is told =
       let e = done_reply responses.Decided reply performs.does.result performs.does.told done in
-      subst (IsDecided g) (sym (subst (λ (r : Response). Tells n (requests.Decide gs outcomes.Commit) r seen next) e told))
-      (one_decided outcomes.Commit g (IsDecided g) (commit_did g) (λ seen l c a s. s) (λ seen l c s. s) (λ seen h same. inl same) gs seen is)
+      subst (IsSeenDecided g) (sym (subst (λ (r : Response). Tells n (requests.Decide gs outcomes.Commit) r seen next) e told))
+      (one_decided outcomes.Commit g (IsSeenDecided g) (commit_did g) (λ seen l c a s. s) (λ seen l c s. s) (λ seen h same. inl same) gs seen is)
   commit_seen g _ reply seen next old new performs done is told = absurd (false≢true is)
 
   pub rollback_seen : (g : Gtrid) (request : Request) (reply : Response) (seen next : Seen) (old new : Server L) → Performs moment request old reply new
@@ -223,7 +223,7 @@ record IsAnswered (b : Branch) (are_so : CallKind → Code → Bool) (next : See
 module _ {L : Type 0} (moment : L → Moment) (n : ℕ) (b : Branch) (are_so : CallKind → Code → Bool)
     (kind_is : (k : CallKind) (code : Code) → are_so k code ≡ true → k ≡ kinds.Commit) where
   answer_seen : (request : Request) (reply : Response) (seen next : Seen) (old new : Server L) → Performs moment request old reply new
-      → is_done reply ≡ true → tells are_so b request ≡ true → Tells n request reply seen next → IsAnswered b are_so next
+      → is_done reply ≡ true → tells_code are_so b request ≡ true → Tells n request reply seen next → IsAnswered b are_so next
   answer_seen (requests.Answer t r name (Ret code)) reply seen next old new performs done is told =
       let e = answer_told t r name (Ret code) old performs.mid reply performs.does done in
       let now = subst (λ (z : Response). Tells n (requests.Answer t r name (Ret code)) z seen next) e told in
@@ -242,11 +242,11 @@ module _ {L : Type 0} (moment : L → Moment) (n : ℕ) (b : Branch) (are_so : C
       }
   answer_seen _ reply seen next old new performs done is told = absurd (false≢true is)
 
-commit_kind_is : (k : CallKind) (code : Code) → is_commit k code ≡ true → k ≡ kinds.Commit
+commit_kind_is : (k : CallKind) (code : Code) → says_committed k code ≡ true → k ≡ kinds.Commit
 commit_kind_is kinds.Commit code e = refl
 commit_kind_is _ code e = absurd (false≢true e)
 
-refused_kind_is : (k : CallKind) (code : Code) → is_refused k code ≡ true → k ≡ kinds.Commit
+refused_kind_is : (k : CallKind) (code : Code) → says_rolled_back k code ≡ true → k ≡ kinds.Commit
 refused_kind_is kinds.Commit code e = refl
 refused_kind_is _ code e = absurd (false≢true e)
 
@@ -255,13 +255,13 @@ abbrev pub SawNamed : Branch → (Gtrid → Seen → Type 0) → Seen → Type 0
 SawNamed b Saw seen = (d : Branch) × (IsNamed b d × Saw d.gtrid seen)
 
 heard_success : (g : Gtrid) (seen : Seen) (l : Line) (c : Call) (d : Branch) (one_phase : Bool) (code : Code) → d.gtrid ≡ g → c ≡ Calls.Commit d one_phase
-    → is_commit kinds.Commit code ≡ true → IsCommitHeard g (Answered seen l c (Ret code))
+    → says_committed kinds.Commit code ≡ true → IsCommitHeard g (Answered seen l c (Ret code))
 heard_success g seen l c d one_phase codes.Success same is so =
     subst (λ z. IsCommitHeard g (Answered seen l z (Ret codes.Success))) (sym is) (inl (subst (λ h. gtrid_eq h g ≡ true) (sym same) (gtrid_eq-refl g)))
 heard_success g seen l c d one_phase _ same is so = absurd (false≢true so)
 
 heard_refusal : (g : Gtrid) (seen : Seen) (l : Line) (c : Call) (d : Branch) (one_phase : Bool) (code : Code) → d.gtrid ≡ g → c ≡ Calls.Commit d one_phase
-    → is_refused kinds.Commit code ≡ true → IsCommitRefused g (Answered seen l c (Ret code))
+    → says_rolled_back kinds.Commit code ≡ true → IsCommitRefused g (Answered seen l c (Ret code))
 heard_refusal g seen l c d one_phase (codes.RolledBack why) same is so =
     subst (λ z. IsCommitRefused g (Answered seen l z (Ret (codes.RolledBack why)))) (sym is)
     (inl (subst (λ h. gtrid_eq h g ≡ true) (sym same) (gtrid_eq-refl g)))
@@ -269,9 +269,9 @@ heard_refusal g seen l c d one_phase _ same is so = absurd (false≢true so)
 
 module _ {L : Type 0} (moment : L → Moment) (n : ℕ) (b : Branch) where
   pub success_seen : (request : Request) (reply : Response) (seen next : Seen) (old new : Server L) → Performs moment request old reply new
-      → is_done reply ≡ true → tells is_commit b request ≡ true → Tells n request reply seen next → SawNamed b IsCommitHeard next
+      → is_done reply ≡ true → tells_code says_committed b request ≡ true → Tells n request reply seen next → SawNamed b IsCommitHeard next
   success_seen request reply seen next old new performs done is told =
-      let a = answer_seen moment n b is_commit commit_kind_is request reply seen next old new performs done is told in
+      let a = answer_seen moment n b says_committed commit_kind_is request reply seen next old new performs done is told in
       let d = a.commit.branch in (
         d,
         (
@@ -281,9 +281,9 @@ module _ {L : Type 0} (moment : L → Moment) (n : ℕ) (b : Branch) where
       )
 
   pub refusal_seen : (request : Request) (reply : Response) (seen next : Seen) (old new : Server L) → Performs moment request old reply new
-      → is_done reply ≡ true → tells is_refused b request ≡ true → Tells n request reply seen next → SawNamed b IsCommitRefused next
+      → is_done reply ≡ true → tells_code says_rolled_back b request ≡ true → Tells n request reply seen next → SawNamed b IsCommitRefused next
   refusal_seen request reply seen next old new performs done is told =
-      let a = answer_seen moment n b is_refused refused_kind_is request reply seen next old new performs done is told in
+      let a = answer_seen moment n b says_rolled_back refused_kind_is request reply seen next old new performs done is told in
       let d = a.commit.branch in (
         d,
         (

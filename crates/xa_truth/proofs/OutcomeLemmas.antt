@@ -14,14 +14,14 @@ use Rattle.xa_base.specs.declared.step.Outcome.{Outcome}
 use Rattle.xa_base.specs.declared.step.Outcome.TheVariants as outcomes
 use Rattle.xa_conduct.proofs.MoveLemmas.{paired_weaker}
 use Rattle.xa_conduct.specs.Acting.{done_by, done_of, is_done}
-use Rattle.xa_conduct.specs.Backing.{IsBacked, OutcomeRests, Rests, WasAtOnce, asks_at_once, branch_at, is_backed, is_commit, is_refused, loses, tells}
+use Rattle.xa_conduct.specs.Backing.{IsBacked, OutcomeRests, TransactionRests, WasAtOnce, asks_at_once, branch_at_rm, is_backed, says_committed, says_rolled_back, loses, tells_code}
 use Rattle.xa_conduct.specs.Decided.{is_commit_of, is_rollback_of, is_same}
-use Rattle.xa_conduct.specs.Moves.{ArePaired, parts_of, thread_in}
+use Rattle.xa_conduct.specs.Moves.{ArePairedInOrder, parts_of, thread_in}
 use Rattle.xa_conduct.specs.Outcomes.{IsDecisionOf, OutcomesAreTrue, SaysDecided, WasDecided}
 use Rattle.xa_conduct.specs.Over.{has_calls}
 use Rattle.xa_conduct.specs.Places.{is_asked}
 use Rattle.xa_conduct.specs.Plain.{is_gtrid}
-use Rattle.xa_conduct.specs.Told.{HasFirst, IsReply, IsReplyTo, TellsCall, TellsOf, TellsSo, joined, verb_at, word_of}
+use Rattle.xa_conduct.specs.Told.{HasFirst, IsReply, IsReplyTo, TellsCall, TellsOf, TellsSo, joined_replies, verb_at, standing_word}
 use Rattle.xa_conduct.specs.declared.place.Place.{Place}
 use Rattle.xa_conduct.specs.declared.place.Place.TheVariants.{Working, Preparing, AtOnce, Prepared, Committing, RollingBack, Undoing, Refusing, Forgetting, Over, Owed}
 use Rattle.xa_conduct.specs.declared.transaction.Standing.{Standing as NotedStanding}
@@ -33,7 +33,7 @@ use Rattle.xa_model.specs.Promises.Agreement.{IsUndone}
 use Rattle.xa_model.specs.Trace.{Answer, Call, Happening, Happening.Issued, Line, Origin, line}
 use Rattle.xa_monitor.specs.Seen.{Seen, Seen.Answered, Seen.Did, Seen.Lost, Seen.Start}
 use Rattle.xa_outcomes.proofs.ServedTransactions.{heard_still, refused_still}
-use Rattle.xa_outcomes.specs.Outcomes.{IsDecided, IsHandedOver}
+use Rattle.xa_outcomes.specs.Outcomes.{IsSeenDecided, IsHandedOver}
 use Rattle.xa_outcomes.specs.ServedTransactions.{ServedCommitRowStays, ServedCommitStands, ServedHandedOverIsAlone, ServedRollbackStands, WasToldCommitServed, WasToldHandedOver, WasToldRollbackServed}
 use Rattle.xa_outcomes.specs.Transactions.{IsCommitHeard, IsCommitRefused, IsRollbackDecided, MayStandCommitted, TellsCommit, TellsRollback}
 use Rattle.xa_requests.specs.declared.request.Request.{Request}
@@ -79,9 +79,9 @@ module _ {L : Type 0} (moment : L → Moment) (name : List ℕ) (handed : L) (o 
   seen_of Saw did answered lost p here was =
       lines_seen Saw did answered lost moment o.threads p here (lines_read name is.lines) is.replies is.first now Start told is.replied is.no_fault is.told was
 
-  saw_decided : (g : Gtrid) → asked (is_commit_of g) ≡ true → IsDecided g told
+  saw_decided : (g : Gtrid) → asked (is_commit_of g) ≡ true → IsSeenDecided g told
   saw_decided g =
-      seen_of (IsDecided g) (commit_did g) (λ seen l c a s. s) (λ seen l c s. s) (is_commit_of g)
+      seen_of (IsSeenDecided g) (commit_did g) (λ seen l c a s. s) (λ seen l c s. s) (is_commit_of g)
       (λ request reply seen next old new. commit_seen moment o.threads g request reply seen next old new)
 
   saw_undone : (g : Gtrid) → asked (is_rollback_of g) ≡ true → IsRollbackDecided g told
@@ -89,15 +89,15 @@ module _ {L : Type 0} (moment : L → Moment) (name : List ℕ) (handed : L) (o 
       seen_of (IsRollbackDecided g) (rollback_did g) (λ seen l c a s. s) (λ seen l c s. s) (is_rollback_of g)
       (λ request reply seen next old new. rollback_seen moment o.threads g request reply seen next old new)
 
-  saw_heard : (b : Branch) → asked (tells is_commit b) ≡ true → SawNamed b IsCommitHeard told
+  saw_heard : (b : Branch) → asked (tells_code says_committed b) ≡ true → SawNamed b IsCommitHeard told
   saw_heard b =
       seen_of (SawNamed b IsCommitHeard) (λ seen e s. s) (λ seen l c a s. (s.0, (s.1.0, heard_still s.0.gtrid seen l c a s.1.1))) (λ seen l c s. s)
-      (tells is_commit b) (λ request reply seen next old new. success_seen moment o.threads b request reply seen next old new)
+      (tells_code says_committed b) (λ request reply seen next old new. success_seen moment o.threads b request reply seen next old new)
 
-  saw_refused : (b : Branch) → asked (tells is_refused b) ≡ true → SawNamed b IsCommitRefused told
+  saw_refused : (b : Branch) → asked (tells_code says_rolled_back b) ≡ true → SawNamed b IsCommitRefused told
   saw_refused b =
       seen_of (SawNamed b IsCommitRefused) (λ seen e s. s) (λ seen l c a s. (s.0, (s.1.0, refused_still s.0.gtrid seen l c a s.1.1))) (λ seen l c s. s)
-      (tells is_refused b) (λ request reply seen next old new. refusal_seen moment o.threads b request reply seen next old new)
+      (tells_code says_rolled_back b) (λ request reply seen next old new. refusal_seen moment o.threads b request reply seen next old new)
 
   saw_issued : (b : Branch) → asked (asks_at_once b) ≡ true → SawNamed b (λ g s. IsIssuedAtOnce g (line b.thread b.rm) s) told
   saw_issued b =
@@ -115,26 +115,26 @@ module _ {L : Type 0} (moment : L → Moment) (name : List ℕ) (handed : L) (o 
   saw_commit : (g : Gtrid) (t : ℕ) → OutcomeRests asked g t standings.Committed → SawOf g (λ h. TellsCommit h told)
   saw_commit g t (inl decided) = itself g (λ h. TellsCommit h told) (inl (saw_decided g decided))
   saw_commit g t (inr was) =
-      let heard = saw_heard (branch_at g t was.rm) was.heard in
+      let heard = saw_heard (branch_at_rm g t was.rm) was.heard in
       record {
         gtrid = heard.0.gtrid;
-        same = named_gtrid (branch_at g t was.rm) heard.0 heard.1.0;
+        same = named_gtrid (branch_at_rm g t was.rm) heard.0 heard.1.0;
         saw = inr heard.1.1;
       }
 
-  saw_rollback : (g : Gtrid) (t : ℕ) → (asked (is_rollback_of g) ≡ true) ⊎ WasAtOnce asked g t (tells is_refused) → SawOf g (λ h. TellsRollback h told)
+  saw_rollback : (g : Gtrid) (t : ℕ) → (asked (is_rollback_of g) ≡ true) ⊎ WasAtOnce asked g t (tells_code says_rolled_back) → SawOf g (λ h. TellsRollback h told)
   saw_rollback g t (inl decided) = itself g (λ h. TellsRollback h told) (inl (saw_undone g decided))
   saw_rollback g t (inr was) =
-      let refused = saw_refused (branch_at g t was.rm) was.heard in
+      let refused = saw_refused (branch_at_rm g t was.rm) was.heard in
       record {
         gtrid = refused.0.gtrid;
-        same = named_gtrid (branch_at g t was.rm) refused.0 refused.1.0;
+        same = named_gtrid (branch_at_rm g t was.rm) refused.0 refused.1.0;
         saw = inr refused.1.1;
       }
 
   saw_unknown : (g : Gtrid) (t : ℕ) → WasAtOnce asked g t loses → SawOf g (λ h. LeavesUnknown h told)
   saw_unknown g t was =
-      let b = branch_at g t was.rm in
+      let b = branch_at_rm g t was.rm in
       let issued = saw_issued b was.issued in
       record {
         gtrid = issued.0.gtrid;
@@ -216,7 +216,7 @@ module _ {L : Type 0} (moment : L → Moment) (name : List ℕ) (handed : L) (o 
   call_seen g b Owed text same is backed first = absurd (cc)
 
   -- by how it stands
-  standing_seen : (g : Gtrid) (t : ℕ) (standing : NotedStanding) (text : List ℕ) → OutcomeRests asked g t standing → HasFirst (word_of standing) text
+  standing_seen : (g : Gtrid) (t : ℕ) (standing : NotedStanding) (text : List ℕ) → OutcomeRests asked g t standing → HasFirst (standing_word standing) text
       → ReplySeen g text
   standing_seen g t standings.Committed text rests first =
       let saw = saw_commit g t rests in only_commit (codes "committed") text g saw.gtrid saw.same (refl, (refl, refl)) refl first saw.saw
@@ -224,16 +224,16 @@ module _ {L : Type 0} (moment : L → Moment) (name : List ℕ) (handed : L) (o 
       let saw = saw_rollback g t rests in only_rollback (codes "rolled-back") text g saw.gtrid saw.same (refl, refl) refl first saw.saw
   standing_seen g t standings.Unknown text rests first =
       let saw = saw_unknown g t rests in only_unknown (codes "unknown") text g saw.gtrid saw.same (refl, refl) (refl, (refl, refl)) first saw.saw
-  standing_seen g t standings.Idle text rests first = nothing_told (codes "joined") text g (refl, refl) (refl, (refl, refl)) refl first
-  standing_seen g t standings.Open text rests first = nothing_told (codes "joined") text g (refl, refl) (refl, (refl, refl)) refl first
-  standing_seen g t standings.Ready text rests first = nothing_told (codes "joined") text g (refl, refl) (refl, (refl, refl)) refl first
+  standing_seen g t standings.Idle text rests first = nothing_told (codes "joined_replies") text g (refl, refl) (refl, (refl, refl)) refl first
+  standing_seen g t standings.Open text rests first = nothing_told (codes "joined_replies") text g (refl, refl) (refl, (refl, refl)) refl first
+  standing_seen g t standings.Ready text rests first = nothing_told (codes "joined_replies") text g (refl, refl) (refl, (refl, refl)) refl first
 
-  told_seen : (t : Transaction) (text : List ℕ) → Rests asked t → TellsOf t text → ReplySeen t.gtrid text
+  told_seen : (t : Transaction) (text : List ℕ) → TransactionRests asked t → TellsOf t text → ReplySeen t.gtrid text
   told_seen t text rests told_of = by (has_calls t) told_of
     where
-      by : (calls : Bool) → MatchBool calls (TellsCall t.parts.items text) (HasFirst (word_of t.standing) text) → ReplySeen t.gtrid text
+      by : (calls : Bool) → MatchBool calls (TellsCall t.parts.items text) (HasFirst (standing_word t.standing) text) → ReplySeen t.gtrid text
       by true call =
-          call_seen t.gtrid (branch_at t.gtrid t.thread call.part.rm) call.part.place text refl call.asked
+          call_seen t.gtrid (branch_at_rm t.gtrid t.thread call.part.rm) call.part.place text refl call.asked
           (All-contains (IsBacked asked t.gtrid t.thread) t.parts.items call.part rests.parts call.among) call.first
       by false first = standing_seen t.gtrid t.thread t.standing text rests.outcome first
 
@@ -308,8 +308,8 @@ module _ {L : Type 0} (moment : L → Moment) (name : List ℕ) where
   record AreSeen (noted : List Transaction) (line text : List ℕ) (last : Option (Server L)) (f : Branch → Standing) (served : AreServed moment name last f)
       : Type 0 where
     replies : List (List ℕ)
-    are : text ≡ joined replies
-    each : ArePaired (WasSeen noted last f served) (parts_of line) replies
+    are : text ≡ joined_replies replies
+    each : ArePairedInOrder (WasSeen noted last f served) (parts_of line) replies
 
   were_seen : (noted : List Transaction) (line text : List ℕ) (last : Option (Server L)) (f : Branch → Standing) (served : AreServed moment name last f)
       → WasReplied moment name noted line text last f served → AreSeen noted line text last f served
@@ -371,7 +371,7 @@ module _ {L : Type 0} (moment : L → Moment) (name : List ℕ) where
 
   some_noted : (t : Transaction) (Saw : Seen → Type 0)
       → ((handed : L) (o : Origin) (told : Seen) (now : Server L) (is : IsSession moment name handed o told now)
-      → Rests (was_done (lines_read name is.lines) is.replies) t → Saw told)
+      → TransactionRests (was_done (lines_read name is.lines) is.replies) t → Saw told)
       → (last : Option (Server L)) (f : Branch → Standing) (served : AreServed moment name last f) → WasNoted moment name t last f served
       → InSome Saw last f served
   some_noted t Saw so _ _ NoneYet was = absurd was

@@ -7,7 +7,7 @@ use Rattle.std.specs.Prelude.{All}
 use Rattle.xa_conduct.proofs.BackingLemmas.{all_rest_more, rests_more}
 use Rattle.xa_conduct.proofs.MoveLemmas.{paired_weaker}
 use Rattle.xa_conduct.specs.Acting.{Acts, done_of}
-use Rattle.xa_conduct.specs.Backing.{Rests, was_asked}
+use Rattle.xa_conduct.specs.Backing.{TransactionRests, was_asked}
 use Rattle.xa_conduct.specs.Moves.{parts_of, thread_in}
 use Rattle.xa_conduct.specs.Told.{AreReplies, IsReply, IsReplyTo}
 use Rattle.xa_conduct.specs.declared.transaction.Transaction.{Transaction}
@@ -99,6 +99,6 @@ module _ {L : Type 0} (moment : L → Moment) (seen : ServedSessionsAreSeen mome
   notes_served threads rms handed first now c starts conducts going on =
       let done = conducts.done in
       let acts = on done first conducts.acts in
-      session_of threads rms handed first now done acts (λ lines replies. All (Rests (was_done lines replies)) c.notes.transactions.items) starts
+      session_of threads rms handed first now done acts (λ lines replies. All (TransactionRests (was_done lines replies)) c.notes.transactions.items) starts
       (all_rest_more (was_asked done []) (was_done acts.lines acts.replies) (lines_asked done acts.lines acts.replies acts.asked) c.notes.transactions.items
       (conducts.rest going))

@@ -7,10 +7,10 @@ use Rattle.xa_base.specs.declared.branch.Gtrid.{Gtrid}
 use Rattle.xa_base.specs.declared.state.Standing.{Standing}
 use Rattle.xa_base.specs.declared.state.Standing.TheVariants.{Prepared}
 use Rattle.xa_conduct.specs.Acting.{done_of}
-use Rattle.xa_conduct.specs.Backing.{Rests}
-use Rattle.xa_conduct.specs.Moves.{ArePaired, parts_of, thread_in}
+use Rattle.xa_conduct.specs.Backing.{TransactionRests}
+use Rattle.xa_conduct.specs.Moves.{ArePairedInOrder, parts_of, thread_in}
 use Rattle.xa_conduct.specs.Plain.{is_gtrid}
-use Rattle.xa_conduct.specs.Told.{AreReplies, joined}
+use Rattle.xa_conduct.specs.Told.{AreReplies, joined_replies}
 use Rattle.xa_conduct.specs.declared.transaction.Standing.{Standing as NotedStanding}
 use Rattle.xa_conduct.specs.declared.transaction.Standing.TheVariants as standings
 use Rattle.xa_conduct.specs.declared.transaction.Transaction.{Transaction}
@@ -64,7 +64,7 @@ module _ {L : Type 0} (moment : L → Moment) (name : List ℕ) where
   abbrev pub WasNoted : Transaction → (last : Option (Server L)) (f : Branch → Standing) → AreServed moment name last f → Type 0
   WasNoted t _ _ NoneYet = ⊥
   WasNoted t _ _ (OneMore last from to handed o told seen now left done cut before handed_on is is_left honest may) =
-      Rests (was_done (lines_read name is.lines) is.replies) t ⊎ WasNoted t last from before
+      TransactionRests (was_done (lines_read name is.lines) is.replies) t ⊎ WasNoted t last from before
   WasNoted t _ _ (Between last from to d how before was final) = WasNoted t last from before
 
   -- ** what is so
@@ -86,8 +86,8 @@ module _ {L : Type 0} (moment : L → Moment) (name : List ℕ) where
     -- their order
     pub record RepliesAreSo (noted : List Transaction) (line text : List ℕ) : Type 0 where
       pub replies : List (List ℕ)
-      pub are : text ≡ joined replies
-      pub each : ArePaired (ReplyIsSo noted) (parts_of line) replies
+      pub are : text ≡ joined_replies replies
+      pub each : ArePairedInOrder (ReplyIsSo noted) (parts_of line) replies
 
     -- and so is how it is noted that a transaction stands
     abbrev pub NoteIsSo : Gtrid → NotedStanding → Type 0

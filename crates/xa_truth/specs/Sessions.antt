@@ -3,7 +3,7 @@
 use Rattle.std.specs.Prelude.{◌≡◌, ℕ, false, All, List}
 use Rattle.std.specs.List.{list_any}
 use Rattle.xa_conduct.specs.Acting.{Acts, GoesOn}
-use Rattle.xa_conduct.specs.Backing.{Rests}
+use Rattle.xa_conduct.specs.Backing.{TransactionRests}
 use Rattle.xa_conduct.specs.Conducting.{Conducts, MovesNone, TurnsSo}
 use Rattle.xa_conduct.specs.Told.{AreReplies}
 use Rattle.xa_conduct.specs.declared.conductor.Conductor.{Conductor}
@@ -51,4 +51,4 @@ module _ {L : Type 0} (moment : L → Moment) where
   NotesAreServed =
       (threads rms : ℕ) (handed : L) (first now : Server L) (c : Conductor L) → StartsOver moment threads rms handed first → Conducts moment first c
       → c.notes.is_stopped ≡ false → GoesOn moment c.server now
-      → IsServedWith threads rms handed first now (λ lines replies. All (Rests (was_done lines replies)) c.notes.transactions.items)
+      → IsServedWith threads rms handed first now (λ lines replies. All (TransactionRests (was_done lines replies)) c.notes.transactions.items)

@@ -3,11 +3,11 @@
 ghost use Rattle.std.specs.Prelude.{◌≡◌, ◌==◌, ◌≤◌, ◌++◌, ◌∷◌, [], true, false, length};
 ghost use Rattle.std.specs.Prelude.{ℕ, All, Bool, IfOk, string_bytes};
 ghost use Rattle.std.specs.List.{list_any};
-ghost use Rattle.xa_conduct.specs.Backing.{KeepResting, KeepsRest, Rests};
+ghost use Rattle.xa_conduct.specs.Backing.{KeepResting, KeepsRest, TransactionRests};
 ghost use Rattle.xa_conduct.specs.Decided.{AsksNoLess, is_same};
-ghost use Rattle.xa_conduct.specs.Moves.{AreOnce, is_of};
+ghost use Rattle.xa_conduct.specs.Moves.{AreMovedOnce, is_reply_to};
 ghost use Rattle.xa_conduct.specs.Progress.{AllStep};
-ghost use Rattle.xa_conduct.specs.Told.{Adds, AreTold, IsBehindWord, IsSameAt, IsToldBy};
+ghost use Rattle.xa_conduct.specs.Told.{AddsText, AreRepliesTold, IsBehindWord, IsSameAt, IsToldBy};
 ghost use Rattle.xa_conduct.specs.Turns.{AllPass, IsSaid, Passes, SaysAll};
 ghost use Rattle.xa_conduct.specs.declared.notes.Reply.{Reply};
 ghost use Rattle.xa_conduct.specs.declared.notes.Reply.TheVariants as Replies;
@@ -143,15 +143,15 @@ impl Notes {
 
     /// The replies to the moves of a line.
     pub fn reply(&mut self, replies: &[Reply], nexts: &[Option<Gtrid>]) -> Result<String, Memory>
-        requires { AreOnce replies.now }
+        requires { AreMovedOnce replies.now }
         ensures rests { IfOk result (λ _. KeepsRest self.old.transactions.items
             self.new.transactions.items) }
         ensures passes { IfOk result (λ _. AllPass self.old.transactions.items
             self.new.transactions.items) }
         ensures said { IfOk result (λ text. SaysAll replies.now (string_bytes text)) }
         ensures tells { IfOk result (λ text. (asked : (Request → Bool) → Bool) →
-            All (Rests asked) self.old.transactions.items →
-            AreTold asked self.old.transactions.items replies.now (string_bytes text)) }
+            All (TransactionRests asked) self.old.transactions.items →
+            AreRepliesTold asked self.old.transactions.items replies.now (string_bytes text)) }
     {
         let mut text = String::new(self.alloc);
         let mut nexts = nexts.iter();
@@ -179,14 +179,14 @@ impl Notes {
             self.new.transactions.items) }
         ensures passes { IfOk result (λ _. AllPass self.old.transactions.items
             self.new.transactions.items) }
-        ensures said { IfOk result (λ _. Adds (IsSaid reply)
+        ensures said { IfOk result (λ _. AddsText (IsSaid reply)
             (string_bytes text.old) (string_bytes text.new)) }
-        ensures others { IfOk result (λ _. (t : ℕ) → is_of t reply ≡ false →
+        ensures others { IfOk result (λ _. (t : ℕ) → is_reply_to t reply ≡ false →
             IsSameAt t self.old.transactions.items self.new.transactions.items) }
         ensures tells { IfOk result (λ _. (asked : (Request → Bool) → Bool) →
-            All (Rests asked) self.old.transactions.items →
-            Adds (IsToldBy asked self.old.transactions.items reply)
-                (string_bytes text.old) (string_bytes text.new)) }
+            All (TransactionRests asked) self.old.transactions.items →
+            AddsText (IsToldBy asked self.old.transactions.items reply)
+            (string_bytes text.old) (string_bytes text.new)) }
     {
         match reply {
             Reply::Thread(thread) => self.add_thread(text, thread, next),
@@ -221,13 +221,13 @@ impl Notes {
         ensures passes { IfOk result (λ _. AllPass self.old.transactions.items
             self.new.transactions.items) }
         ensures said { IfOk result (λ _. (reply : Reply) → reply ≡ Replies.Thread thread →
-            Adds (IsSaid reply) (string_bytes text.old) (string_bytes text.new)) }
+            AddsText (IsSaid reply) (string_bytes text.old) (string_bytes text.new)) }
         ensures others { IfOk result (λ _. (t : ℕ) → (t == thread) ≡ false →
             IsSameAt t self.old.transactions.items self.new.transactions.items) }
         ensures tells { IfOk result (λ _. (asked : (Request → Bool) → Bool) →
-            All (Rests asked) self.old.transactions.items →
-            Adds (IsToldBy asked self.old.transactions.items (Replies.Thread thread))
-                (string_bytes text.old) (string_bytes text.new)) }
+            All (TransactionRests asked) self.old.transactions.items →
+            AddsText (IsToldBy asked self.old.transactions.items (Replies.Thread thread))
+            (string_bytes text.old) (string_bytes text.new)) }
     {
         let Some(transaction) = self.transactions.get_mut(thread as usize) else {
             text.push_str("error not now")?;
@@ -262,10 +262,10 @@ fn add_begun(
     next: Option<Gtrid>,
 ) -> Result<(), Memory>
     ensures rests { IfOk result (λ _. (asked : (Request → Bool) → Bool) →
-        Rests asked transaction.old → Rests asked transaction.new) }
+        TransactionRests asked transaction.old → TransactionRests asked transaction.new) }
     ensures passes { IfOk result (λ _. Passes transaction.old transaction.new) }
     ensures adds { IfOk result (λ _.
-        Adds IsBehindWord (string_bytes text.old) (string_bytes text.new)) }
+        AddsText IsBehindWord (string_bytes text.old) (string_bytes text.new)) }
 {
     if !transaction.is_over() {
         return Ok(());

@@ -4,8 +4,8 @@ use Rattle.xa_requests.specs.declared.request.Request.{Request}
 use Rattle.xa_conduct.proofs.ConductLemmas.{moves_told, ok_all, rest_stays, stops_told}
 use Rattle.xa_conduct.proofs.MoveLemmas.{line_replied}
 use Rattle.xa_conduct.proofs.TurnLemmas.{line_steps}
-use Rattle.xa_conduct.specs.Backing.{Rests, was_asked}
-use Rattle.xa_conduct.specs.Told.{AreTold}
+use Rattle.xa_conduct.specs.Backing.{TransactionRests, was_asked}
+use Rattle.xa_conduct.specs.Told.{AreRepliesTold}
 use Rattle.xa_conduct.specs.Turns.{SaysAll}
 use Rattle.xa_conduct.specs.declared.notes.Reply.{Reply}
 use Rattle.xa_conduct.proofs.conductor.Conductor.move_threads.Goals as goal
@@ -25,7 +25,7 @@ returns-clause-rests g c = λ line read.
     let text = string_bytes c.in_ok-text.text in
     moves_told g.L.DecisionLog.moment s _ begun.plan.requests.items begun.self.transactions.items line text c.requires.going
     (λ past rest.
-    let first = subst (λ (plan : List Request). All (Rests (was_asked past plan)) s.notes.transactions.items) (sym c.new-plan.ensures) rest in
+    let first = subst (λ (plan : List Request). All (TransactionRests (was_asked past plan)) s.notes.transactions.items) (sym c.new-plan.ensures) rest in
     rest_stays past finished.plan.requests.items begun.plan.requests.items finished.self.transactions.items begun.self.transactions.items
     c.in_ok-nexts.ensures.more (ap (λ v. v.items) c.begin_next.ensures.same)
     (rest_stays past decided.plan.requests.items finished.plan.requests.items decided.self.transactions.items finished.self.transactions.items
@@ -35,7 +35,7 @@ returns-clause-rests g c = λ line read.
     (λ asked rest.
     line_replied asked s.notes.transactions.items begun.self.transactions.items line text c.args.moves.now told read c.in_ok-replies.ensures.threads
     c.in_ok-replies.ensures.once steps
-    (subst (λ (rs : List Reply). AreTold asked begun.self.transactions.items rs text) c.as_slice-4.ensures.value
+    (subst (λ (rs : List Reply). AreRepliesTold asked begun.self.transactions.items rs text) c.as_slice-4.ensures.value
     (c.in_ok-text.ensures.tells asked rest)))
     (c.ask_all.ensures.done (search rules))
 

@@ -1,8 +1,8 @@
 use Rattle.std.proofs.Common.{Bool, subst, sym}
 use Rattle.std.specs.Prelude.{All, IfOk, string_bytes}
 use Rattle.xa_requests.specs.declared.request.Request.{Request}
-use Rattle.xa_conduct.specs.Backing.{Rests}
-use Rattle.xa_conduct.specs.Told.{Adds, IsToldBy}
+use Rattle.xa_conduct.specs.Backing.{TransactionRests}
+use Rattle.xa_conduct.specs.Told.{AddsText, IsToldBy}
 use Rattle.xa_conduct.specs.declared.notes.Reply.{Reply}
 use Rattle.xa_conduct.proofs.notes.Notes.add_reply.Goals as goal
 
@@ -13,6 +13,6 @@ returns-in-Thread-clause-tells c =
     (λ (reply : Reply).
     IfOk c.add_thread.result
     (λ x.
-    (asked : (Request → Bool) → Bool) → All (Rests asked) ts
-    → Adds (IsToldBy asked ts reply) (string_bytes c.args.text.now) (string_bytes c.add_thread.new.text)))
+    (asked : (Request → Bool) → Bool) → All (TransactionRests asked) ts
+    → AddsText (IsToldBy asked ts reply) (string_bytes c.args.text.now) (string_bytes c.add_thread.new.text)))
     (sym c.in-Thread.is) c.add_thread.ensures.tells

@@ -5,22 +5,22 @@ use Rattle.xa_requests.specs.declared.request.Request.{Request}
 use Rattle.xa_conduct.proofs.BackingLemmas.{rest_begun}
 use Rattle.xa_conduct.proofs.ToldLemmas.{told_thread}
 use Rattle.xa_conduct.proofs.TurnLemmas.{all_pass_set, passes_moved, said_thread}
-use Rattle.xa_conduct.specs.Backing.{Rests}
+use Rattle.xa_conduct.specs.Backing.{TransactionRests}
 use Rattle.xa_conduct.specs.declared.transaction.Transaction.{Transaction}
 use Rattle.xa_conduct.proofs.notes.Notes.add_thread.Goals as goal
 
 pub returns-clause-rests : goal.returns-clause-rests
 returns-clause-rests c = λ asked rest.
     let t = c.in-Some.transaction.now in
-    let here : Rests asked t =
-    subst (Rests asked) (sym c.in-Some.ensures.value) (rest c.args.thread t (omega (arith, c.in-Some.ensures.variant.0 refl))) in
+    let here : TransactionRests asked t =
+    subst (TransactionRests asked) (sym c.in-Some.ensures.value) (rest c.args.thread t (omega (arith, c.in-Some.ensures.variant.0 refl))) in
     rest_begun asked c.args.self.now.transactions.items c.args.thread c.add_begun.new.transaction (c.in_ok-add_begun.ensures.rests asked here) rest
 
 pub returns-clause-tells : goal.returns-clause-tells
 returns-clause-tells c = λ asked rest.
     let t = c.in-Some.transaction.now in
-    let here : Rests asked t =
-    subst (Rests asked) (sym c.in-Some.ensures.value) (rest c.args.thread t (omega (arith, c.in-Some.ensures.variant.0 refl))) in
+    let here : TransactionRests asked t =
+    subst (TransactionRests asked) (sym c.in-Some.ensures.value) (rest c.args.thread t (omega (arith, c.in-Some.ensures.variant.0 refl))) in
     let ts = c.args.self.now.transactions.items in
     let within : c.args.thread < length ts = omega (arith, c.in-Some.ensures.variant.0 refl) in
     let told = record t { has_moved = false } in

@@ -2,7 +2,7 @@ use Rattle.std.proofs.Common.{[], arith, refl, rules, subst, sym}
 use Rattle.std.specs.Prelude.{All}
 use Rattle.xa_conduct.proofs.BackingLemmas.{rest_more_asked, rest_moved, rest_same}
 use Rattle.xa_conduct.proofs.ProgressLemmas.{all_step_both, all_step_none, all_step_set, steps_none}
-use Rattle.xa_conduct.specs.Backing.{Rests, was_asked}
+use Rattle.xa_conduct.specs.Backing.{TransactionRests, was_asked}
 use Rattle.xa_conduct.specs.Decided.{is_commit_of}
 use Rattle.xa_conduct.specs.Progress.{AllStep}
 use Rattle.xa_conduct.specs.declared.notes.Notes.{Notes}
@@ -53,7 +53,7 @@ loop-reply-preserved c =
         more = ready.more;
         rests =
             λ past rest.
-            let P : Notes → Type 0 = λ n. All (Rests (was_asked past plan)) n.transactions.items in
+            let P : Notes → Type 0 = λ n. All (TransactionRests (was_asked past plan)) n.transactions.items in
             let same =
             rest_same (was_asked past plan) c.loop-reply.self.transactions.items c.in-Thread.thread w.in-Some.transaction.now
             (omega (arith, w.in-Some.ensures.variant.0 refl)) w.in-Some.ensures.value (ready.rests past rest) in

@@ -1,9 +1,9 @@
 use Rattle.std.proofs.Common.{Bool}
 use Rattle.std.specs.Prelude.{All}
 use Rattle.xa_requests.specs.declared.request.Request.{Request}
-use Rattle.xa_conduct.specs.Backing.{Rests}
+use Rattle.xa_conduct.specs.Backing.{TransactionRests}
 use Rattle.xa_conduct.proofs.notes.Notes.new.Given as goal
 
 -- nothing is noted of any transaction
 abbrev pub invariant-loop-thread : goal.invariant-loop-thread
-invariant-loop-thread l = (asked : (Request → Bool) → Bool) → All (Rests asked) l.transactions.items
+invariant-loop-thread l = (asked : (Request → Bool) → Bool) → All (TransactionRests asked) l.transactions.items

@@ -24,8 +24,7 @@ loop-reply-preserved c = record {
       told_more asked c.args.self.now.transactions.items _ _ _ c.loop-reply.is_first (string_bytes c.loop-reply.text)
       (string_bytes c.add_semicolon.new.text) (string_bytes c.add_reply.new.text)
       (take_more c.args.replies.now c.loop-reply.reply-index _ (omega arith)) c.in_ok-add_semicolon.ensures.first c.in_ok-add_semicolon.ensures.other
-      (c.loop-reply.invariant.tells asked rest)
-      (
+      (c.loop-reply.invariant.tells asked rest) (
         told.0,
         told.1,
         told_as_was asked c.args.replies.now c.loop-reply.reply-index _ c.args.self.now.transactions.items c.loop-reply.self.transactions.items told.0

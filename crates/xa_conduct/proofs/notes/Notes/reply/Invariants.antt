@@ -4,8 +4,8 @@ use Rattle.std.specs.Prelude.{All, string_bytes}
 use Rattle.xa_requests.specs.declared.request.Request.{Request}
 use Rattle.xa_conduct.proofs.MoveLemmas.{ToldSoFar}
 use Rattle.xa_conduct.proofs.TurnLemmas.{SaidSoFar}
-use Rattle.xa_conduct.specs.Backing.{KeepsRest, Rests}
-use Rattle.xa_conduct.specs.Moves.{is_of}
+use Rattle.xa_conduct.specs.Backing.{KeepsRest, TransactionRests}
+use Rattle.xa_conduct.specs.Moves.{is_reply_to}
 use Rattle.xa_conduct.specs.Told.{IsSameAt}
 use Rattle.xa_conduct.specs.Turns.{AllPass}
 use Rattle.xa_conduct.proofs.notes.Notes.reply.Given as goal
@@ -16,8 +16,8 @@ invariant-loop-reply l = record {
   rests : KeepsRest l.fn.self.transactions.items l.self.transactions.items;
   passes : AllPass l.fn.self.transactions.items l.self.transactions.items;
   said : SaidSoFar (take l.reply-index l.replies) l.is_first (string_bytes l.text);
-  others : (t : ℕ) → list_any (is_of t) (take l.reply-index l.replies) ≡ false → IsSameAt t l.fn.self.transactions.items l.self.transactions.items;
+  others : (t : ℕ) → list_any (is_reply_to t) (take l.reply-index l.replies) ≡ false → IsSameAt t l.fn.self.transactions.items l.self.transactions.items;
   tells :
-      (asked : (Request → Bool) → Bool) → All (Rests asked) l.fn.self.transactions.items
+      (asked : (Request → Bool) → Bool) → All (TransactionRests asked) l.fn.self.transactions.items
       → ToldSoFar asked l.fn.self.transactions.items (take l.reply-index l.replies) l.is_first (string_bytes l.text);
 }

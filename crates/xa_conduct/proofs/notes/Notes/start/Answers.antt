@@ -2,7 +2,7 @@ use Rattle.std.proofs.Common.{Bool, [], ◌∷◌, ap, subst, sym}
 use Rattle.std.specs.Prelude.{All}
 use Rattle.xa_requests.specs.declared.request.Request.{Request}
 use Rattle.xa_conduct.proofs.BackingLemmas.{rest_begun, rest_more_asked}
-use Rattle.xa_conduct.specs.Backing.{Rests, was_asked}
+use Rattle.xa_conduct.specs.Backing.{TransactionRests, was_asked}
 use Rattle.xa_conduct.specs.Progress.{AllStep}
 use Rattle.xa_conduct.specs.declared.notes.Notes.{Notes}
 use Rattle.xa_conduct.specs.declared.notes.Reply.TheVariants.{Started}
@@ -14,9 +14,9 @@ pub returns-clause-rests : goal.returns-clause-rests
 returns-clause-rests c = λ past rest.
     let before = c.next-gtrid.new.self.transactions.items in
     let asked : (Request → Bool) → Bool = was_asked past c.begin-2.new.self.requests.items in
-    let P : Notes → Type 0 = λ n. All (Rests asked) n.transactions.items in
-    let here : All (Rests asked) before =
-    subst (All (Rests asked)) (sym (ap (λ v. v.items) c.next-gtrid.ensures))
+    let P : Notes → Type 0 = λ n. All (TransactionRests asked) n.transactions.items in
+    let here : All (TransactionRests asked) before =
+    subst (All (TransactionRests asked)) (sym (ap (λ v. v.items) c.next-gtrid.ensures))
     (rest_more_asked past c.args.plan.now.requests.items c.begin-2.new.self.requests.items c.args.self.now.transactions.items c.in_ok-begin.ensures rest) in
     elim c.match-get_mut.branch [
       | in-Some-get_mut w ↦ subst P (sym w.self-is) (rest_begun asked before c.args.thread _ (w.begin.ensures.rests asked) here)

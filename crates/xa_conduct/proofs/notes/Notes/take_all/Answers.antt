@@ -3,7 +3,7 @@ use Rattle.std.proofs.lemmas.List.{length_push}
 use Rattle.std.specs.Prelude.{Option, None}
 use Rattle.xa_conduct.proofs.MoveLemmas.{apart_move, none_moves, of_move, once_push, paired_more}
 use Rattle.xa_conduct.proofs.ProgressLemmas.{all_step_both, all_step_no_move, all_step_refused}
-use Rattle.xa_conduct.specs.Moves.{AreOnce, ArePaired, IsReplyOf, is_of}
+use Rattle.xa_conduct.specs.Moves.{AreMovedOnce, ArePairedInOrder, IsReplyOf, is_reply_to}
 use Rattle.xa_conduct.specs.Progress.{AllStep}
 use Rattle.xa_conduct.specs.declared.notes.Reply.{Reply}
 use Rattle.xa_conduct.proofs.notes.Notes.take_all.Goals as goal
@@ -25,7 +25,7 @@ loop-asked-preserved c =
             (of_move c.args.moves.now c.loop-asked.asked-index c.asked-item.result w.in-Some-2.asked w.in_ok-reply-in-Some-2.reply reply c.asked-item.is
             w.in-Some-2.is w.reply-is w.in_ok-reply-in-Some-2.ensures.thread);
         once =
-            subst AreOnce (sym c.in_ok-push.ensures.items)
+            subst AreMovedOnce (sym c.in_ok-push.ensures.items)
             (once_push told reply before.once
             (apart_move told w.as_slice.result.now c.asked-item.result w.in-Some-2.asked w.in-Some.asked w.thread.result w.has_moved.result
             w.in_ok-reply-in-Some-2.reply reply w.in-Some-2.is w.in-Some.is w.thread.ensures w.as_slice.ensures.value w.has_moved.ensures
@@ -46,8 +46,8 @@ loop-asked-preserved c =
             paired_more IsReplyOf c.args.moves.now told c.push.new.self.items c.loop-asked.asked-index None reply (omega arith) c.in_ok-push.ensures.items
             before.threads (subst (λ (r : Reply). IsReplyOf (get_or c.args.moves.now c.loop-asked.asked-index None) r) (sym w.reply-is) tt);
         once =
-            subst AreOnce (sym c.in_ok-push.ensures.items)
-            (once_push told reply before.once (none_moves told reply (λ t. ap (is_of t) w.reply-is)));
+            subst AreMovedOnce (sym c.in_ok-push.ensures.items)
+            (once_push told reply before.once (none_moves told reply (λ t. ap (is_reply_to t) w.reply-is)));
         steps =
             subst (λ (rs : List Reply). AllStep rs c.args.self.now.transactions.items c.loop-asked.self.transactions.items)
             (sym c.in_ok-push.ensures.items)
@@ -64,8 +64,8 @@ loop-asked-preserved c =
             paired_more IsReplyOf c.args.moves.now told c.push.new.self.items c.loop-asked.asked-index None reply (omega arith) c.in_ok-push.ensures.items
             before.threads (subst (λ (r : Reply). IsReplyOf (get_or c.args.moves.now c.loop-asked.asked-index None) r) (sym w.reply-is) tt);
         once =
-            subst AreOnce (sym c.in_ok-push.ensures.items)
-            (once_push told reply before.once (none_moves told reply (λ t. ap (is_of t) w.reply-is)));
+            subst AreMovedOnce (sym c.in_ok-push.ensures.items)
+            (once_push told reply before.once (none_moves told reply (λ t. ap (is_reply_to t) w.reply-is)));
         steps =
             subst (λ (rs : List Reply). AllStep rs c.args.self.now.transactions.items c.loop-asked.self.transactions.items)
             (sym c.in_ok-push.ensures.items)

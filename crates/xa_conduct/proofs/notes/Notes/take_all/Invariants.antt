@@ -1,7 +1,7 @@
 use Rattle.std.proofs.Common.{◌≡◌, length, take}
 use Rattle.xa_conduct.specs.Backing.{KeepResting}
 use Rattle.xa_conduct.specs.Decided.{AsksNoLess}
-use Rattle.xa_conduct.specs.Moves.{AreOnce, ArePaired, IsReplyOf}
+use Rattle.xa_conduct.specs.Moves.{AreMovedOnce, ArePairedInOrder, IsReplyOf}
 use Rattle.xa_conduct.specs.Progress.{AllStep}
 use Rattle.xa_conduct.proofs.notes.Notes.take_all.Given as goal
 
@@ -9,8 +9,8 @@ use Rattle.xa_conduct.proofs.notes.Notes.take_all.Given as goal
 abbrev pub invariant-loop-asked : goal.invariant-loop-asked
 invariant-loop-asked l = record {
   count : length l.replies.items ≡ l.asked-index;
-  threads : ArePaired IsReplyOf (take l.asked-index l.moves) l.replies.items;
-  once : AreOnce l.replies.items;
+  threads : ArePairedInOrder IsReplyOf (take l.asked-index l.moves) l.replies.items;
+  once : AreMovedOnce l.replies.items;
   steps : AllStep l.replies.items l.fn.self.transactions.items l.self.transactions.items;
   more : AsksNoLess l.fn.plan.requests.items l.plan.requests.items;
   rests : KeepResting l.fn.plan.requests.items l.plan.requests.items l.fn.self.transactions.items l.self.transactions.items;
