@@ -1,4 +1,6 @@
+mod ContentLemmas
 mod DecisionLemmas
 mod HeadingLemmas
 mod LineLemmas
+mod NamedLemmas
 mod RestoreLemmas

@@ -9,10 +9,12 @@ mod decision_line;
 mod faults;
 mod heading;
 mod log_lines;
+mod named_log;
 mod restore;
 mod spelling;
 
 pub use faults::{LineFault, RestoreFault};
 pub use heading::{Heading, is_rm_name, read_heading};
 pub use log_lines::{LogLines, MOST_STARTS, read_log};
+pub use named_log::{NamedLog, read_lines, read_text, restored_logs_hold_what_is_said};
 pub use restore::restore_log;
