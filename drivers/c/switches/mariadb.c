@@ -61,9 +61,9 @@ static bool is_connected(struct connection *c, const struct words *words)
     if (c->link == NULL)
         return false;
     mysql_options(c->link, MYSQL_OPT_CONNECT_TIMEOUT, &seconds);
-    mysql_options(c->link, MYSQL_OPT_NONBLOCK, NULL);
-    if (mysql_real_connect(c->link, or_null(words->host), words->user, words->password, or_null(words->db), (unsigned)atoi(words->port),
-            or_null(words->socket), 0)
+    if (mysql_options(c->link, MYSQL_OPT_NONBLOCK, NULL) == 0
+        && mysql_real_connect(c->link, or_null(words->host), words->user, words->password, or_null(words->db), (unsigned)atoi(words->port),
+               or_null(words->socket), 0)
             != NULL
         && (c->label[0] == '\0' || is_lock_taken(c)) && is_timeout_set(c, words->lock_timeout)
         && (!c->held.is_dynamic || is_done(c->link, "SET SESSION TRANSACTION READ ONLY")))
