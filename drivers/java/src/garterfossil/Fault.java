@@ -7,6 +7,12 @@ public abstract class Fault extends Exception {
         super(text, cause);
     }
 
+    /** An exception with its cause, if its class has no constructor for that. */
+    public static <E extends Exception> E caused(E error, Throwable cause) {
+        error.initCause(cause);
+        return error;
+    }
+
     /** The coordinator has ended, or its log failed: the session is over. */
     public static final class Gone extends Fault {
         /** The status that the program ended with; 0 where that isn't known. */

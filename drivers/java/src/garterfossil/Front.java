@@ -29,7 +29,17 @@ public final class Front {
         return face.cast(of(List.of(face), handler));
     }
 
-    /** Has a call made at what lies behind, and throws what that throws. */
+    /** Has a call made at its target, if the gate is open. */
+    public static Object through(Gate gate, Gate.Work work, Object target, Method method, Object[] words) throws Throwable {
+        gate.enter(work);
+        try {
+            return direct(target, method, words);
+        } finally {
+            gate.leave();
+        }
+    }
+
+    /** Has a call made at its target, and throws what that throws. */
     public static Object direct(Object target, Method method, Object[] words) throws Throwable {
         try {
             return method.invoke(target, words);

@@ -60,7 +60,7 @@ final class KeptLog {
     static KeptLog of(Path log, Coordinator.Starter starter, String program, String given, List<Resource> resources) throws Fault {
         KeptLog kept = isThere(log) ? read(log, starter, program) : drawn(log, given, resources);
         kept.seeManager(log, given);
-        kept.add(resources.stream().map(Resource::name).collect(Collectors.toList()), log);
+        kept.add(resources.stream().map(Resource::name).toList(), log);
         return kept;
     }
 
@@ -126,13 +126,9 @@ final class KeptLog {
             throw new Fault.Unavailable("the log " + log + " is new, and the name " + given + " too long: it has at most "
                 + (LONGEST - 1 - DRAWN) + " letters, since " + DRAWN + " are drawn after it");
         }
-        SecureRandom random = new SecureRandom();
-        StringBuilder name = new StringBuilder(given.isEmpty() ? "" : given + "-");
-        int length = Math.max(name.length() + DRAWN, given.isEmpty() ? LONGEST - 4 : 0);
-        while (name.length() < length) {
-            name.append(LETTERS.charAt(random.nextInt(LETTERS.length())));
-        }
-        return new KeptLog(name.toString(), resources.stream().map(Resource::name).collect(Collectors.toList()), 0, false);
+        String drawn = new SecureRandom().ints(given.isEmpty() ? LONGEST - 4 : DRAWN, 0, LETTERS.length()).mapToObj(LETTERS::charAt)
+            .map(String::valueOf).collect(Collectors.joining());
+        return new KeptLog(given.isEmpty() ? drawn : given + "-" + drawn, resources.stream().map(Resource::name).toList(), 0, false);
     }
 
     // ** what the program prints
@@ -148,10 +144,10 @@ final class KeptLog {
             String[] words = line.split(" ", -1);
             try {
                 switch (words[0]) {
-                    case "name": manager = words[1]; break;
-                    case "rm": resources.add(words[2]); break;
-                    case "incarnation": incarnation = Long.parseLong(words[1]); break;
-                    default: rows.add(line);
+                    case "name" -> manager = words[1];
+                    case "rm" -> resources.add(words[2]);
+                    case "incarnation" -> incarnation = Long.parseLong(words[1]);
+                    default -> rows.add(line);
                 }
             } catch (IndexOutOfBoundsException | NumberFormatException error) {
                 throw new Fault.Unavailable("what " + program + " prints of the log " + log + " isn't what xatm log prints: " + line);

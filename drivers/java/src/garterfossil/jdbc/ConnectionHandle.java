@@ -157,7 +157,10 @@ final class ConnectionHandle {
         });
     }
 
-    /** Whether a thing has an interface, or what does: work on what lies under it passes the gate by. */
+    /**
+     * Whether a thing has an interface, or what has it. Work on what lies under it goes past the
+     * gate.
+     */
     private Object face(Object it, Object target, Method method, Object[] words) throws Throwable {
         Class<?> wanted = (Class<?>) words[0];
         if (method.getName().equals("isWrapperFor")) {
@@ -198,17 +201,12 @@ final class ConnectionHandle {
     /** Has work done, if the gate is open. */
     private Object through(Object target, Method method, Object[] words, Gate.Work work) throws Throwable {
         try {
-            gate.enter(work);
+            return Front.through(gate, work, target, method, words);
         } catch (Fault.Unavailable fault) {
             throw new SQLException(fault.getMessage(), "25000", fault);
-        }
-        try {
-            return Front.direct(target, method, words);
         } catch (SQLException error) {
             link.suspect();
             throw error;
-        } finally {
-            gate.leave();
         }
     }
 }

@@ -1,5 +1,6 @@
 package garterfossil.jdbc;
 
+import garterfossil.Fault;
 import garterfossil.OwnedXaResource;
 import garterfossil.Resource;
 import java.sql.Connection;
@@ -117,9 +118,7 @@ class JdbcXaResource implements OwnedXaResource {
     }
 
     static XAException failed(int code, SQLException cause) {
-        XAException error = new XAException(code);
-        error.initCause(cause);
-        return error;
+        return Fault.caused(new XAException(code), cause);
     }
 
     @Override

@@ -1,6 +1,7 @@
 package garterfossil.jms;
 
 import garterfossil.BranchXid;
+import garterfossil.Fault;
 import java.lang.reflect.InvocationTargetException;
 import java.nio.charset.StandardCharsets;
 import java.util.Enumeration;
@@ -103,7 +104,7 @@ final class BrokerIdentity {
                 }
             }
         } catch (XAException error) {
-            throw JmsLink.caused(new JMSException("the broker can't be asked which one it is"), error);
+            throw Fault.caused(new JMSException("the broker can't be asked which one it is"), error);
         }
     }
 

@@ -58,11 +58,6 @@ final class JmsLink implements Link {
         }
     }
 
-    static <E extends Exception> E caused(E error, Throwable cause) {
-        error.initCause(cause);
-        return error;
-    }
-
     /** An error was met on it: it isn't used again. */
     void fail() {
         isFailed = true;

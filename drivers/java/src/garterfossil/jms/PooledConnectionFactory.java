@@ -94,7 +94,7 @@ record PooledConnectionFactory(Manager manager, JmsResource resource, Connection
                 GlobalTransaction.Enlisted branch = transaction.enlist(resource);
                 return SessionHandle.of(manager, (JmsLink) branch.link(), branch.gate(), transaction);
             } catch (Fault fault) {
-                throw JmsLink.caused(new JMSException(fault.getMessage()), fault);
+                throw Fault.caused(new JMSException(fault.getMessage()), fault);
             }
         }
 

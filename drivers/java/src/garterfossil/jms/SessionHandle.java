@@ -131,17 +131,12 @@ final class SessionHandle {
                 + ", which the thread has: make one now that this has begun");
         }
         try {
-            gate.enter(work);
+            return Front.through(gate, work, target, method, words);
         } catch (Fault.Unavailable fault) {
-            throw JmsLink.caused(new IllegalStateException(fault.getMessage()), fault);
-        }
-        try {
-            return Front.direct(target, method, words);
+            throw Fault.caused(new IllegalStateException(fault.getMessage()), fault);
         } catch (JMSException error) {
             link.fail();
             throw error;
-        } finally {
-            gate.leave();
         }
     }
 }

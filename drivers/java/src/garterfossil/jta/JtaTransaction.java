@@ -55,12 +55,12 @@ public final class JtaTransaction implements Transaction {
         try {
             inner.commit();
         } catch (Fault.RolledBack fault) {
-            throw caused(new RollbackException(fault.getMessage()), fault.getCause() == null ? fault : fault.getCause());
+            throw Fault.caused(new RollbackException(fault.getMessage()), fault.getCause() == null ? fault : fault.getCause());
         } catch (Fault.Heuristic fault) {
             if (fault.isAllRolledBack) {
-                throw caused(new HeuristicRollbackException(fault.getMessage()), fault);
+                throw Fault.caused(new HeuristicRollbackException(fault.getMessage()), fault);
             }
-            throw caused(new HeuristicMixedException(fault.getMessage()), fault);
+            throw Fault.caused(new HeuristicMixedException(fault.getMessage()), fault);
         } catch (Fault fault) {
             throw system(fault);
         } finally {
@@ -174,11 +174,6 @@ public final class JtaTransaction implements Transaction {
             throw new IllegalStateException(fault.getMessage(), fault);
         }
         return JtaTransactionManager.system(fault);
-    }
-
-    static <E extends Exception> E caused(E error, Throwable cause) {
-        error.initCause(cause);
-        return error;
     }
 
     @Override

@@ -126,7 +126,7 @@ public final class JtaTransactionManager implements TransactionManager, UserTran
     }
 
     static SystemException system(Fault fault) {
-        return JtaTransaction.caused(new SystemException(fault.getMessage()), fault);
+        return Fault.caused(new SystemException(fault.getMessage()), fault);
     }
 
     static int status(Outcome outcome) {
