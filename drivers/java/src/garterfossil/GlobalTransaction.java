@@ -361,7 +361,7 @@ public final class GlobalTransaction {
             seeFate(hands, gone);
             return;
         }
-        outcome = told.outcome();
+        outcome = told.outcome;
         seePlain(told, hands);
         seeCommitted(told, hands);
     }
@@ -380,7 +380,7 @@ public final class GlobalTransaction {
         boolean isCommitted = outcome == Outcome.COMMITTED;
         long rolledBack = codes.stream().filter(code -> code == Code.HEURRB).count();
         String text = this + (isCommitted ? " is committed" : " is rolled back") + ", but not everywhere: " + how + ". See xatm log";
-        throw new Fault.Heuristic(text, isCommitted && rolledBack == hands.rows(), !isCommitted || codes.contains(Code.HEURHAZ));
+        throw new Fault.Heuristic(text, isCommitted && rolledBack == hands.rows, !isCommitted || codes.contains(Code.HEURHAZ));
     }
 
     private void seeCommitted(Told told, Hands hands) throws Fault {
@@ -402,12 +402,12 @@ public final class GlobalTransaction {
      * branches, too.
      */
     private void seeFate(Hands hands, Fault.Gone gone) throws Fault {
-        if (hands.sure() == null) {
+        if (hands.sure == null) {
             // Whoever begins the next session needn't wait for this thread, which waits for that.
             isGivenUp = true;
             branches.abandon("the coordinator ended");
         }
-        Outcome fate = hands.sure() != null ? hands.sure() : manager.fateOf(branches.gtrid());
+        Outcome fate = hands.sure != null ? hands.sure : manager.fateOf(branches.gtrid());
         outcome = fate;
         if (fate == Outcome.UNKNOWN) {
             throw new Fault.OutcomeUnknown(this + ": " + gone.getMessage() + ". The next session ends it everywhere alike", gone);

@@ -20,9 +20,9 @@ final class Hands {
     private final Session.Slot slot;
     private final Manager manager;
     // What becomes of the transaction if the coordinator ends now; null if the next session knows.
-    private Outcome sure = Outcome.ROLLED_BACK;
+    Outcome sure = Outcome.ROLLED_BACK;
     // How many branches were to be committed, as the log has them.
-    private int rows;
+    int rows;
 
     Hands(GlobalTransaction transaction, List<Branch> begun, Session session, Session.Slot slot, Manager manager) {
         this.transaction = transaction;
@@ -49,23 +49,11 @@ final class Hands {
         }
     }
 
-    /**
-     * What becomes of the transaction now that the coordinator has ended; null if the next session
-     * knows.
-     */
-    Outcome sure() {
-        return sure;
-    }
-
-    int rows() {
-        return rows;
-    }
-
     private Told conduct(Told first, boolean isApart) throws Fault {
         Told told = first;
         // The first calls are at all branches: else the coordinator doesn't know of one.
         seeExpected(told, told.rms.size() == branches.size());
-        while (seen(told).outcome() == null) {
+        while (seen(told).outcome == null) {
             List<Branch> called = told.rms.stream().map(this::at).toList();
             make(told, called, isApart);
             String answers = called.stream().map(branch -> " " + branch.answer()).collect(Collectors.joining());
@@ -76,7 +64,7 @@ final class Hands {
             }
             told = tell(answers, told.verb.equals("prepare"));
         }
-        slot.over(told);
+        slot.next = told.next;
         return over(told);
     }
 
@@ -102,9 +90,9 @@ final class Hands {
 
     /** The same: an outcome, or calls, of which each branch is one of the transaction's. */
     private Told seen(Told told) throws Fault.Refused {
-        boolean isCall = told.outcome() == null;
-        seeExpected(told, isCall ? !told.rms.isEmpty() && (told.stage() != null || told.verb.equals("forget"))
-            : told.outcome() != Outcome.UNKNOWN || !told.owed.isEmpty());
+        boolean isCall = told.outcome == null;
+        seeExpected(told, isCall ? !told.rms.isEmpty() && (told.stage != null || told.verb.equals("forget"))
+            : told.outcome != Outcome.UNKNOWN || !told.owed.isEmpty());
         List<Integer> named = new ArrayList<>(told.owed);
         for (int at = 0; at < told.mixed.size(); at += 2) {
             named.add(told.mixed.get(at));
@@ -121,8 +109,8 @@ final class Hands {
     }
 
     private void make(Told told, List<Branch> called, boolean isApart) {
-        if (told.stage() != null) {
-            transaction.become(told.stage());
+        if (told.stage != null) {
+            transaction.become(told.stage);
         }
         if (told.verb.equals("commit")) {
             sure = Outcome.COMMITTED;

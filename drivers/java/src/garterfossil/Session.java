@@ -33,7 +33,7 @@ final class Session {
         final int number;
         // The thread's next transaction; or the reply that has it, after an end of this outcome.
         // Neither before its first.
-        private String next;
+        String next;
         private Coordinator.Reply last, joined;
         private Outcome expected;
 
@@ -55,7 +55,7 @@ final class Session {
             String told;
             try {
                 Told found = coordinator.told(asked);
-                if (found.outcome() == expected && found.next != null) {
+                if (found.outcome == expected && found.next != null) {
                     return found.next;
                 }
                 told = found.reply;
@@ -107,11 +107,6 @@ final class Session {
         void tellLast(String answers, Outcome outcome) {
             last = coordinator.post("tell " + number + answers);
             expected = outcome;
-        }
-
-        /** The transaction is over, and this was told. */
-        void over(Told told) {
-            next = told.next;
         }
     }
 

@@ -33,12 +33,18 @@ final class Told {
     final List<Integer> owed = new ArrayList<>(), mixed = new ArrayList<>();
     /** The thread's next transaction, or null. */
     final String next;
+    /** The outcome; null if calls are to be made. */
+    final Outcome outcome;
+    /** How a transaction stands while these calls are made; null if they don't say so. */
+    final Outcome stage;
 
     private Told(String reply) {
         this.reply = reply;
         int end = (reply + " ").indexOf(NEXT);
         String[] words = (end < 0 ? reply : reply.substring(0, end)).split(" ", -1);
         verb = words[0];
+        outcome = OUTCOMES.get(verb);
+        stage = STAGES.get(verb);
         next = end < 0 ? null : reply.substring(Math.min(reply.length(), end + NEXT.length()));
         List<Integer> list = rms;
         for (int at = 1; at < words.length; at++) {
@@ -63,15 +69,5 @@ final class Told {
         } catch (IllegalArgumentException error) {
             throw new IllegalArgumentException("the coordinator replied: " + reply);
         }
-    }
-
-    /** The outcome; null if calls are to be made. */
-    Outcome outcome() {
-        return OUTCOMES.get(verb);
-    }
-
-    /** How a transaction stands while these calls are made; null if they don't say so. */
-    Outcome stage() {
-        return STAGES.get(verb);
     }
 }
