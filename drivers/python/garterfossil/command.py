@@ -12,7 +12,7 @@ from . import __version__
 from .codes import Code
 from .configuration import Configuration
 from .coordinator import Coordinator, serve_command
-from .doubt import IN_USE, Listing, call_for, listings_of, logs_of, manager_of_log, objection, place_of, settled_listings_of
+from .doubt import IN_USE, Listing, call_for, listings_of, logs_of, objection, place_of, settled_listings_of
 from .errors import LogInUse, SetupError, XaError
 from .failover import fail_over
 from .logs import Log, Names, logs_of_workers
@@ -102,7 +102,7 @@ def _status(configuration: Configuration, form: str) -> int:
 
 def _shown(configuration: Configuration, logs: Mapping[str, Log], found: List[Listing]) -> Dict[str, Any]:
     """The same as objects, for programs."""
-    by_manager = {manager_of_log(log): log for log in logs.values()}
+    by_manager = {log.manager: log for log in logs.values()}
 
     def branch(one: Listing, xid: Xid) -> Dict[str, Any]:
         log = by_manager[xid.manager]
@@ -113,7 +113,7 @@ def _shown(configuration: Configuration, logs: Mapping[str, Log], found: List[Li
         "logs": [
             {
                 "path": path,
-                "manager": manager_of_log(log) or None,
+                "manager": log.manager or None,
                 "decided": sorted(log.decisions),
                 "heuristics": list(log.heuristics),
                 "incarnation": log.incarnation or None,
@@ -163,7 +163,7 @@ def _lines(configuration: Configuration, logs: Mapping[str, Log], found: List[Li
     """What is in doubt, for a reader."""
     for path, log in logs.items():
         yield from _lines_of_log(path, log)
-    by_manager = {manager_of_log(log): log for log in logs.values()}
+    by_manager = {log.manager: log for log in logs.values()}
     for rm, one in enumerate(found):
         yield f"database {rm}, {configuration.label(rm)}: {one.fault or f'{len(one.own)} in doubt'}"
         for xid in one.own:
@@ -179,7 +179,7 @@ def _lines(configuration: Configuration, logs: Mapping[str, Log], found: List[Li
 
 
 def _lines_of_log(path: str, log: Log) -> Iterator[str]:
-    whose = f"log {path}, of the manager {manager_of_log(log)}" if manager_of_log(log) else f"log {path}"
+    whose = f"log {path}, of the manager {log.manager}" if log.manager else f"log {path}"
     if log.fault == IN_USE:
         yield f"{whose}: {IN_USE}: it ends its branches by itself, so stop it before anything is ended by hand"
     else:
@@ -228,7 +228,7 @@ def _end(configuration: Configuration, text: str, is_sure: bool) -> int:
     path, log = _log_of(logs, _branch(text))
     if log.fault is not None:
         raise SetupError(f"the log {path} can't be read, so nothing is ended: {log.fault}")
-    rm, xid = _database_and_branch(configuration, text, [manager_of_log(log)])
+    rm, xid = _database_and_branch(configuration, text, [log.manager])
     call = Call(call_for(log, xid), xid)
     print(f"database {rm}: {configuration.databases[rm].by_hand(call)}")
     with _held(configuration, path, log) as incarnation:
@@ -243,7 +243,7 @@ def _end_left(configuration: Configuration, given: argparse.Namespace) -> int:
     """Ends a branch of a manager that is gone for good, and its log with it, as an operator says."""
     if given.outcome is None:
         raise SetupError("--left-by needs --outcome commit or --outcome rollback: no log says how it ends")
-    own = {manager_of_log(log) for log in logs_of(configuration).values()}
+    own = {log.manager for log in logs_of(configuration).values()}
     if given.left_by in own:
         raise SetupError(f"{given.left_by or 'the manager without a name'} is the manager of this file: its log says how its branches end")
     rm, xid = _database_and_branch(configuration, given.branch, [given.left_by])
@@ -278,7 +278,7 @@ def _branch(text: str) -> Xid:
 def _log_of(logs: Mapping[str, Log], xid: Xid) -> Tuple[str, Log]:
     """The log of the manager of a branch: the only one, or the worker's."""
     for path, log in logs.items():
-        if len(logs) == 1 or manager_of_log(log) == xid.manager:
+        if len(logs) == 1 or log.manager == xid.manager:
             return path, log
     raise SetupError(f"none of the logs is that of {xid.manager or 'a manager without a name'}, whose branch {xid} is")
 

@@ -35,11 +35,6 @@ def call_for(log: Log, xid: Xid) -> str:
     return "xa_commit" if gtrid in log.decisions or was_committed(log.path, gtrid) else "xa_rollback"
 
 
-def manager_of_log(log: Log) -> str:
-    """The name of the manager of a log, if it has one."""
-    return "" if log.names is None else log.names.manager
-
-
 def _log_at(configuration: Configuration, path: str) -> Log:
     """What is in the log at a path, or why nobody knows. Of one that isn't there only the name is known that is given."""
     try:
@@ -102,8 +97,8 @@ def settled_listings_of(configuration: Configuration, logs: Mapping[str, Log], s
     """The same, without what a program that has its log is about to end: what stands between its votes and its decision is listed, too. A
     branch is left out unless it has been prepared for so many seconds: where the database doesn't tell since when, it is looked at for
     as long as that."""
-    managers = list(map(manager_of_log, logs.values()))
-    busy = {manager_of_log(log) for log in logs.values() if log.fault == IN_USE}
+    managers = [log.manager for log in logs.values()]
+    busy = {log.manager for log in logs.values() if log.fault == IN_USE}
     begun = time.monotonic()
     found = listings_of(configuration, managers)
     while True:

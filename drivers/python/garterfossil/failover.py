@@ -4,13 +4,12 @@ from __future__ import annotations
 
 import os
 import re
-import subprocess
 from typing import Dict, Iterator, Mapping, Optional, Tuple
 
 from .adapters.base import Database
 from .configuration import Configuration
 from .errors import SetupError
-from .logs import WORKER
+from .logs import WORKER, run_log
 from .mirror import Mirrored, Tables, managers_in
 
 
@@ -62,10 +61,6 @@ def _take_over(mirror: Database, name: str, patience: float) -> Mirrored:
 
 def make_log(program: str, path: str, found: Mirrored) -> None:
     """Makes a log of what a mirror holds."""
-    text = "".join(f"{line}\n" for line in found.lines())
-    try:
-        done = subprocess.run([program, "log", "--make", path], input=text, capture_output=True, text=True, check=False)
-    except OSError as error:
-        raise SetupError(f"the program {program} can't be run: {error.strerror}") from error
+    done = run_log(program, path, "--make", text="".join(f"{line}\n" for line in found.lines()), seconds=None)
     if done.returncode != 0:
         raise SetupError(f"the log {path} can't be made: {done.stderr.strip() or f'status {done.returncode}'}")

@@ -8,7 +8,7 @@ import functools
 import logging
 import re
 import time
-from typing import TYPE_CHECKING, Callable, Dict, Iterable, List, Mapping, NamedTuple, Optional, Sequence, Set, Tuple
+from typing import TYPE_CHECKING, Dict, Iterable, List, Mapping, NamedTuple, Optional, Sequence, Set, Tuple
 
 from .adapters.base import Connection, Options
 from .aside import side_by_side
@@ -186,40 +186,36 @@ class Hands:
         self._joined: Set[int] = set()
         # Where a branch was ended otherwise than it was decided, if the coordinator tells no more.
         self._odd: Dict[int, Code] = {}
-        self._reply: Optional[Reply] = None
+        self._reply: Reply
 
-    def join(self) -> None:
+    def join(self, least: int = 2) -> None:
         """Says which branches have begun, once there are two: so the calls of the first phase are
         told while the work goes on."""
-        if len(self.parts) > 1:
-            self._say_joined()
+        new = [rm for rm, part in self.parts.items() if rm not in self._joined and not part.is_lost]
+        if new and len(self.parts) >= least:
+            self._joined.update(new)
+            self._move("join", *map(str, new))
 
     def commit(self) -> Told:
         """The work is over. Raises OutcomeUnknown; or CoordinatorGone, and it is rolled back."""
-        return self._do(lambda: None if len(self._joined) > 1 else self._move("commit", is_asked=True))
+        return self._end("commit")
 
     def roll_back(self) -> Told:
         """It is to be rolled back. Raises CoordinatorGone, and it is."""
-        return self._do(lambda: self._move("rollback", is_asked=True))
-
-    def _say_joined(self) -> None:
-        new = [rm for rm, part in self.parts.items() if rm not in self._joined and not part.is_lost]
-        if new:
-            self._joined.update(new)
-            self._move("join", *map(str, new))
+        return self._end("rollback")
 
     def _move(self, verb: str, *words: str, is_asked: bool = False, is_later: bool = False) -> None:
         number = self._thread.number
         self._reply = self._session.coordinator.post(" ".join([verb, str(number), *words]), number, is_asked, is_later)
 
-    def _do(self, first: Callable[[], None]) -> Told:
+    def _end(self, verb: str) -> Told:
         """Does what the coordinator tells until it tells the outcome. Whatever comes in between,
         the coordinator is never left without an answer in a session that goes on."""
         try:
-            self._say_joined()
-            first()
+            self.join(1)
+            if verb == "rollback" or len(self._joined) < 2:
+                self._move(verb, is_asked=True)
             told = self._finish()
-            assert self._reply is not None
             self._session.note_told(self._gtrid, self._thread, self._reply, told, self.parts)
         except CoordinatorGone as gone:
             if self.fate is not Outcome.COMMITTED:
@@ -243,7 +239,6 @@ class Hands:
 
     def _finish(self) -> Told:
         while True:
-            assert self._reply is not None
             told, verb, parts = self._understood(self._session.coordinator.wait(self._reply), self._reply.move)
             if told is not None:
                 self.fate = told.outcome

@@ -78,6 +78,11 @@ class Log:
     #: Its path. Empty, if there is no log.
     path: str = ""
 
+    @property
+    def manager(self) -> str:
+        """The name of its manager, if it has one."""
+        return "" if self.names is None else self.names.manager
+
     @classmethod
     def at(cls, program: str, path: str) -> Log:
         """What is in the log at a path. A look changes nothing. Raises LogInUse or SetupError."""
@@ -96,16 +101,22 @@ class Log:
         return cls(int(heads["incarnation "][0]), decisions, [line for line in rows if ":" in line], names, is_in_use, path=path)
 
 
-def _printed(program: str, path: str, *options: str) -> Tuple[List[str], str]:
-    """What `xatm log` prints of the log at a path, and what it says beside it."""
+def run_log(
+    program: str, path: str, *options: str, text: str = "", seconds: Optional[float] = LONGEST_LOOK
+) -> subprocess.CompletedProcess[str]:
+    """Runs `xatm log` over the log at a path, for so many seconds at most. Raises SetupError if that can't be done."""
     try:
-        done = subprocess.run(
-            [program, "log", *options, path], stdin=subprocess.DEVNULL, capture_output=True, text=True, check=False, timeout=LONGEST_LOOK
-        )
+        words = [program, "log", *options, path]
+        return subprocess.run(words, input=text, capture_output=True, text=True, check=False, timeout=seconds)
     except OSError as error:
         raise SetupError(f"the program {program} can't be run, which program= may give: {error.strerror}") from error
     except subprocess.TimeoutExpired as error:
-        raise SetupError(f"{program} says nothing of the log {path} for {LONGEST_LOOK} seconds") from error
+        raise SetupError(f"{program} says nothing of the log {path} for {seconds} seconds") from error
+
+
+def _printed(program: str, path: str, *options: str) -> Tuple[List[str], str]:
+    """What `xatm log` prints of the log at a path, and what it says beside it."""
+    done = run_log(program, path, *options)
     if done.returncode < 0:
         # It may have printed only a part.
         raise LookKilled(f"{program} was ended by the signal {-done.returncode}, while it read the log {path}")

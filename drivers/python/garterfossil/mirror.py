@@ -7,6 +7,7 @@ import contextlib
 import logging
 import os
 import threading
+from concurrent.futures import Future
 from dataclasses import dataclass
 from typing import Dict, Iterator, List, Mapping, Optional, Sequence, Set, Tuple
 
@@ -147,15 +148,6 @@ def _as_gone() -> Iterator[None]:
         raise CoordinatorGone(f"the mirror can't be used now: {error}") from error
 
 
-class _Decision:
-    """A decision that a thread has told, and waits for."""
-
-    def __init__(self, gtrid: str, xids: Sequence[Xid]):
-        self.gtrid, self.xids = gtrid, xids
-        self.is_over = False
-        self.error: Optional[CoordinatorGone] = None
-
-
 class Mirror:
     """The mirror of one session. A decision is in it before any xa_commit of it is made, and so a log that is made of it lacks no
     decision of which a database has heard."""
@@ -169,7 +161,7 @@ class Mirror:
         self._removing = Tables(database, names.manager, patience)
         self._lock, self._turn, self._taking = threading.Lock(), threading.Lock(), threading.Lock()
         # Decisions that are yet to be told, and transactions whose rows may leave.
-        self._asked: List[_Decision] = []
+        self._asked: List[Tuple[str, Sequence[Xid], Future[None]]] = []
         self._left: List[str] = []
         self._incarnation = 0
         # Of what the mirror holds and the log doesn't, what is surely over.
@@ -261,31 +253,32 @@ class Mirror:
         """The transaction is decided to commit: those of several threads that come together are by one
         commit of the mirror's database. Raises CoordinatorGone, and the session is over, if nobody
         knows whether it is there: it stands all the same, as the log has it."""
-        mine = _Decision(gtrid, xids)
+        mine: Future[None] = Future()
         with self._lock:
-            self._asked.append(mine)
+            self._asked.append((gtrid, xids, mine))
         with self._turn:
-            if not mine.is_over:
+            if not mine.done():
                 with self._lock:
                     some, self._asked = self._asked, []
-                self._add_all(some)
-        if mine.error is not None:
-            raise mine.error
+                error = self._add_all([decision[:2] for decision in some])
+                for *_, told in some:
+                    if error is None:
+                        told.set_result(None)
+                    else:
+                        told.set_exception(error)
+        mine.result()
 
-    def _add_all(self, some: List[_Decision]) -> None:
-        error: Optional[CoordinatorGone] = CoordinatorGone("a decision was told to the mirror, and that was interrupted")
+    def _add_all(self, some: Sequence[Tuple[str, Sequence[Xid]]]) -> Optional[CoordinatorGone]:
+        """Adds decisions: why nobody knows whether they are there, if so."""
         try:
             with self._adding.at_work() as connection:
-                count = self._adding.insert(connection, [(one.gtrid, one.xids) for one in some], self._incarnation)
-            error = None
-            if count != len(some):
-                error = CoordinatorGone("the mirror is in a later session of this manager: another machine has taken over")
-        except Exception as raised:
+                count = self._adding.insert(connection, some, self._incarnation)
+        except BaseException as raised:
+            # Other threads wait for it as well.
             error = CoordinatorGone(f"decisions can't be told to the mirror: {raised}")
             error.__cause__ = raised
-        finally:
-            for one in some:
-                one.error, one.is_over = error, True
+            return error
+        return None if count == len(some) else CoordinatorGone("the mirror is in a later session of this manager: another machine has taken over")
 
     def over(self, gtrid: str) -> None:
         """Each branch of the transaction has acknowledged, or is known to be over: its row may leave, with those of some others."""

@@ -4,7 +4,7 @@ from __future__ import annotations
 
 import enum
 import threading
-from typing import TYPE_CHECKING, Dict, Set
+from typing import TYPE_CHECKING, Counter, Dict, Set
 
 if TYPE_CHECKING:
     from .coordinator import Coordinator
@@ -47,25 +47,24 @@ class Outcomes:
         self._told: Dict[str, Outcome] = {}
         # How many began, and ended each way; of how many a branch ended otherwise, or was found so by a recovery; for how many
         # seconds they were open; and for which reasons they were rolled back.
-        self._begun = self._heuristic = 0
-        self._ended = dict.fromkeys((Outcome.COMMITTED, Outcome.ROLLED_BACK, Outcome.UNKNOWN), 0)
+        self._counts = Counter(begun=0, committed=0, rolled_back=0, unknown=0, heuristic=0)
         self._seconds = 0.0
-        self._codes: Dict[str, int] = {}
+        self._codes: Counter[str] = Counter()
 
     def begin(self) -> None:
         """A transaction has begun."""
         with self._lock:
-            self._begun += 1
+            self._counts["begun"] += 1
 
     def end(self, transaction: Transaction, seconds: float) -> None:
         """It was told how it ended, and was open for so many seconds."""
         outcome = transaction.outcome
         with self._lock:
-            self._ended[outcome] += 1
-            self._heuristic += transaction.is_heuristic
+            self._counts[outcome.name.lower()] += 1
+            self._counts["heuristic"] += transaction.is_heuristic
             self._seconds += seconds
-            for code in transaction.codes if outcome is Outcome.ROLLED_BACK else ():
-                self._codes[code.name] = self._codes.get(code.name, 0) + 1
+            if outcome is Outcome.ROLLED_BACK:
+                self._codes.update(code.name for code in transaction.codes)
             if outcome is not Outcome.UNKNOWN:
                 self._told[transaction.gtrid] = outcome
                 if len(self._told) > MOST_TOLD:
@@ -75,14 +74,13 @@ class Outcomes:
         """A recovery found a branch that somebody else had ended, of a transaction that was told
         its outcome before."""
         with self._lock:
-            self._heuristic += 1
+            self._counts["heuristic"] += 1
 
     def counts(self) -> Dict[str, float]:
         """The counts by their names."""
         with self._lock:
-            ended = {outcome.value.replace(" ", "_"): count for outcome, count in self._ended.items()}
-            running = self._begun - sum(self._ended.values())
-            return {"begun": self._begun, "open": running, **ended, "heuristic": self._heuristic, "seconds": self._seconds}
+            ended = sum(self._counts[how] for how in ("committed", "rolled_back", "unknown"))
+            return {**self._counts, "open": self._counts["begun"] - ended, "seconds": self._seconds}
 
     def rolled_back(self) -> Dict[str, int]:
         """How many were rolled back for each reason that has a code."""

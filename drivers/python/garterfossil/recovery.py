@@ -37,38 +37,34 @@ def recover(session: Session, rm: ResourceManager) -> None:
     """Ends what is in doubt at a database: what it lists of earlier sessions, and what is owed
     there. Transactions go on meanwhile. Raises ConnectionLost where it can't be done now."""
     with rm.is_recovered:
-        _recover(session, rm)
-
-
-def _recover(session: Session, rm: ResourceManager) -> None:
-    connection = rm.connect()
-    try:
-        rm.see_no_strays(connection)
-        # What is noted from now on is for the next recovery.
-        rm.is_recovery_due = False
-        put_off, owed = rm.put_off_now(), session.owed_at(rm)
-        listed, forgotten = look(session, rm, connection)
-        hands = Recovery(session, rm, connection, listed - put_off - forgotten)
-        end = hands.run()
-        if end.startswith("strange "):
-            raise stop(session, f"{rm.label} lists {end.split(' ')[1]}, which no session over this log began")
-        if end == "later":
-            if isinstance(hands.error, SetupError):
-                raise hands.error
-            raise ConnectionLost(f"{rm.label} can't be recovered now: {hands.error}")
-    except BaseException:
-        rm.is_recovery_due = True
-        rm.drop(connection)
-        raise
-    rm.release(connection)
-    if end == "recovered":
-        session.settle(owed)
-    if forgotten or put_off or end != "recovered":
-        rm.is_recovery_due = True
-    if forgotten:
-        begin_anew(session, rm, forgotten)
-    if put_off or end != "recovered":
-        raise ConnectionLost(f"{rm.label} has a branch that can't be ended now: {hands.error or sorted(put_off)[0]}")
+        connection = rm.connect()
+        try:
+            rm.see_no_strays(connection)
+            # What is noted from now on is for the next recovery.
+            rm.is_recovery_due = False
+            put_off, owed = rm.put_off_now(), session.owed_at(rm)
+            listed, forgotten = look(session, rm, connection)
+            hands = Recovery(session, rm, connection, listed - put_off - forgotten)
+            end = hands.run()
+            if end.startswith("strange "):
+                raise stop(session, f"{rm.label} lists {end.split(' ')[1]}, which no session over this log began")
+            if end == "later":
+                if isinstance(hands.error, SetupError):
+                    raise hands.error
+                raise ConnectionLost(f"{rm.label} can't be recovered now: {hands.error}")
+        except BaseException:
+            rm.is_recovery_due = True
+            rm.drop(connection)
+            raise
+        rm.release(connection)
+        if end == "recovered":
+            session.settle(owed)
+        if forgotten or put_off or end != "recovered":
+            rm.is_recovery_due = True
+        if forgotten:
+            begin_anew(session, rm, forgotten)
+        if put_off or end != "recovered":
+            raise ConnectionLost(f"{rm.label} has a branch that can't be ended now: {hands.error or sorted(put_off)[0]}")
 
 
 def begin_anew(session: Session, rm: ResourceManager, forgotten: Set[Xid]) -> None:

@@ -13,17 +13,7 @@ from .adapters.base import Options
 from .aside import aside
 from .branch import Branch
 from .codes import Code
-from .errors import (
-    PASSING,
-    ConnectionLost,
-    CoordinatorGone,
-    HeuristicEnd,
-    OutcomeUnknown,
-    RolledBack,
-    TimedOut,
-    TransactionOver,
-    XaError,
-)
+from .errors import PASSING, ConnectionLost, CoordinatorGone, HeuristicEnd, OutcomeUnknown, RolledBack, TimedOut, TransactionOver, XaError
 from .hands import Hands, Part, Told
 from .outcomes import Outcome
 from .recovery import stop

@@ -428,9 +428,9 @@ class Connection(abc.ABC):
         """Does a statement for the program's own ends, outside of any branch. Errors of the database are raised as they are, but
         ConnectionLost where the connection is lost."""
 
-    @abc.abstractmethod
     def _work(self, statement: str, parameters: Parameters) -> Result:
         """Does a statement in the branch."""
+        return self.run(statement, parameters)
 
     def _is_lost(self, error: Exception) -> bool:
         """Whether an error of the module says that the connection is lost."""

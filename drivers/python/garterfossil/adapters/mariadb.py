@@ -186,9 +186,6 @@ class MariaDBConnection(Connection):
 
     # ** work
 
-    def _work(self, statement: str, parameters: Parameters) -> Result:
-        return self.run(statement, parameters)
-
     def _vote_of(self, error: Exception) -> Optional[Code]:
         """MariaDB would prepare what is left of the branch, except after a deadlock."""
         if not isinstance(error, self.errors.MySQLError) or not isinstance(error.args[0], int):

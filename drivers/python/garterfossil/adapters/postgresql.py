@@ -212,9 +212,6 @@ class PostgreSQLConnection(Connection):
             return str(statement.as_string(self.link))
         return super().text_of(statement)
 
-    def _work(self, statement: str, parameters: Parameters) -> Result:
-        return self.run(statement, parameters)
-
     def _vote_of(self, error: Exception) -> Optional[Code]:
         return vote_of(error) if isinstance(error, self.errors.Error) else None
 
