@@ -15,7 +15,7 @@ from .aside import side_by_side
 from .branch import Branch
 from .codes import Code
 from .coordinator import Reply
-from .errors import ConnectionLost, CoordinatorGone, OutcomeUnknown, Unanswered, XaError
+from .errors import ConnectionLost, CoordinatorGone, Unanswered, XaError
 from .threads import Line, Thread
 from .outcomes import TOLD, Outcome
 from .resource_manager import ResourceManager
@@ -61,6 +61,8 @@ class Told(NamedTuple):
     #: Where a branch is yet to be ended, and where the database had ended it otherwise.
     owed: Sequence[int] = ()
     mixed: Mapping[int, Code] = {}
+    #: Why the coordinator didn't tell it, if so.
+    error: Optional[CoordinatorGone] = None
 
     @classmethod
     def parse(cls, reply: str) -> Told:
@@ -197,11 +199,11 @@ class Hands:
             self._move("join", *map(str, new))
 
     def commit(self) -> Told:
-        """The work is over. Raises OutcomeUnknown; or CoordinatorGone, and it is rolled back."""
+        """The work is over."""
         return self._end("commit")
 
     def roll_back(self) -> Told:
-        """It is to be rolled back. Raises CoordinatorGone, and it is."""
+        """It is to be rolled back."""
         return self._end("rollback")
 
     def _move(self, verb: str, *words: str, is_asked: bool = False, is_later: bool = False) -> None:
@@ -218,24 +220,20 @@ class Hands:
             told = self._finish()
             self._session.note_told(self._gtrid, self._thread, self._reply, told, self.parts)
         except CoordinatorGone as gone:
-            if self.fate is not Outcome.COMMITTED:
-                self._ask_later()
-                if self.fate is not Outcome.ROLLED_BACK:
-                    raise OutcomeUnknown(f"{self._gtrid}: {gone}", self._gtrid) from gone
-                raise
-            log.warning("%s is committed, and ended by the next session: %s", self._gtrid, gone)
-            told = Told(Outcome.COMMITTED, mixed=self._odd)
+            told = Told(self._known(), mixed=self._odd, error=gone)
         except BaseException:
             self._session.coordinator.kill()
-            self._ask_later()
+            self._known()
             raise
         for part in self.parts.values():
             part.end_read(told.outcome is Outcome.COMMITTED)
         return told
 
-    def _ask_later(self) -> None:
+    def _known(self) -> Outcome:
+        """What is known of the outcome if the coordinator tells no more. If the next session knows it, that is asked."""
         if self.fate is None:
             self._session.outcomes.ask(self._gtrid)
+        return self.fate or Outcome.UNKNOWN
 
     def _finish(self) -> Told:
         while True:
@@ -273,9 +271,7 @@ class Hands:
             # Before a database hears of it.
             self._session.note_decision(self._gtrid, [part.xid for part in parts])
             self.fate = Outcome.COMMITTED
-        elif verb in ("rollback", "undo"):
-            self.fate = Outcome.ROLLED_BACK
-        else:
+        elif verb in ("prepare", "commit-at-once"):
             # What nobody would end isn't begun.
             coordinator.see_up()
             self.fate = Outcome.UNKNOWN if verb == "commit-at-once" else self.fate

@@ -13,7 +13,7 @@ from .adapters.base import Options
 from .aside import aside
 from .branch import Branch
 from .codes import Code
-from .errors import PASSING, ConnectionLost, CoordinatorGone, HeuristicEnd, OutcomeUnknown, RolledBack, TimedOut, TransactionOver, XaError
+from .errors import PASSING, ConnectionLost, HeuristicEnd, OutcomeUnknown, RolledBack, TimedOut, TransactionOver, XaError
 from .hands import Hands, Part, Told
 from .outcomes import Outcome
 from .recovery import stop
@@ -145,9 +145,6 @@ class Transaction:
                 raise self._with_odd(refusal)
             try:
                 told = self._hands.commit()
-            except CoordinatorGone as error:
-                self._note_end(Told(Outcome.ROLLED_BACK))
-                raise RolledBack(str(error)) from error
             except BaseException:
                 self.outcome = self._hands.fate or Outcome.UNKNOWN
                 raise
@@ -156,7 +153,8 @@ class Transaction:
 
     def _raise_unless_committed(self, told: Told) -> None:
         if told.outcome is Outcome.UNKNOWN:
-            reason = next((part.error for part in self._hands.parts.values() if part.error is not None), None)
+            errors = [told.error, *(part.error for part in self._hands.parts.values())]
+            reason = next((error for error in errors if error is not None), None)
             raise OutcomeUnknown(f"{self.gtrid}: {reason or 'nobody knows how it ended'}", self.gtrid) from reason
         if told.outcome is Outcome.ROLLED_BACK:
             raise self._with_odd(self._no(told))
@@ -238,7 +236,9 @@ class Transaction:
     def _no(self, told: Told) -> RolledBack:
         """What is raised if the coordinator tells that it is rolled back."""
         if told.rm is None or told.code is None:
-            return RolledBack(f"{self.gtrid} is rolled back")
+            error = RolledBack(str(told.error or f"{self.gtrid} is rolled back"))
+            error.__cause__ = told.error
+            return error
         part = self._hands.parts[told.rm]
         label = part.line.rm.label
         text = f"{label} voted {told.code.name}" if part.error is None else f"the connection to {label} was lost"
@@ -255,16 +255,13 @@ class Transaction:
             self.codes.add(Code.RBCOMMFAIL)
         if self._is_late:
             self.codes.add(Code.RBTIMEOUT)
-        try:
-            told = self._hands.roll_back()
-        except CoordinatorGone as error:
-            log.warning("%s, which is rolled back: %s", self.gtrid, error)
-            told = Told(Outcome.ROLLED_BACK)
-        self._note_end(told)
+        self._note_end(self._hands.roll_back())
 
     def _note_end(self, told: Told) -> None:
         """Notes how it ended, and whether a branch has ended otherwise, or may have."""
         self.outcome = told.outcome
+        if told.error is not None:
+            log.warning("%s, as far as is known: %s: %s", self.gtrid, self.outcome.value, told.error)
         if told.code is not None:
             self.codes.add(told.code)
         if self._session.coordinator.is_gone and told.outcome is Outcome.ROLLED_BACK:

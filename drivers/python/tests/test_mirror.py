@@ -146,8 +146,8 @@ class Mirrors(Case):
         with self.manager() as xa:
             self.assertEqual(self.mirror.decided(), [bytes(16).hex()])
             self.right.prepared[Xid(7, xa.name.encode() + bytes(16), (1).to_bytes(8, "big"))] = ["give"]
-            self.right.is_up = True
             with self.assertLogs("garterfossil", "ERROR") as logged:
+                self.right.is_up = True
                 for _ in range(100):
                     if any("knows nothing" in line for line in logged.output):
                         break
