@@ -8,7 +8,7 @@ import functools
 import logging
 import re
 import time
-from typing import TYPE_CHECKING, Dict, Iterable, List, Mapping, NamedTuple, Optional, Sequence, Set, Tuple
+from typing import TYPE_CHECKING, Dict, List, Mapping, NamedTuple, Optional, Sequence, Set, Tuple
 
 from .adapters.base import Connection, Options
 from .aside import side_by_side
@@ -16,10 +16,9 @@ from .branch import Branch
 from .codes import Code
 from .coordinator import Reply
 from .errors import ConnectionLost, CoordinatorGone, Unanswered, XaError
-from .threads import Line, Thread
 from .outcomes import TOLD, Outcome
-from .resource_manager import ResourceManager
-from .xid import Call, Xid
+from .threads import Line, Thread
+from .xid import Xid
 
 if TYPE_CHECKING:
     from .session import Session
@@ -41,14 +40,19 @@ NOT_ODD = (Code.OK, Code.RETRY, Code.HEURCOM, None)
 ODD = {Code.NOTA: Code.HEURHAZ, **{code: code for code in HEURISTIC}}
 #: How a transaction ended: why, at which databases a branch is owed its end, and where it ended otherwise.
 ENDED = re.compile(r"([a-z-]+)(?: (\d+) (\d+))?(?: owed((?: \d+)+))?(?: mixed((?: \d+ \d+)+))?(?: next .*)?")
-#: A recovery tells so many identifiers at a time, and makes a call that has no answer now again for
-#: so many seconds.
-PAGE, STUCK, PAUSE = 32, 1.0, 0.05
 
 
-def is_answer(verb: str, code: Code) -> bool:
-    """Whether there is such an answer to a call."""
-    return code in ANSWERS[verb] or code.is_rollback and verb != "forget"
+def answer_of(connection: Connection, verb: str, xid: Xid) -> Code:
+    """Makes a call: how it is answered. Raises ConnectionLost for what is no answer to it, and what `Connection.do` does."""
+    code = connection.do(verb, xid)
+    if code in ANSWERS[verb] or code.is_rollback and verb != "forget":
+        return code
+    raise ConnectionLost(f"{verb} of {xid} was answered {code.name}")
+
+
+def word_of(code: Optional[Code]) -> str:
+    """How a call was answered, as the coordinator is told it. None if it wasn't."""
+    return "lost" if code is None else str(int(code))
 
 
 class Told(NamedTuple):
@@ -126,15 +130,13 @@ class Part:
         try:
             if self.is_lost:
                 raise ConnectionLost(f"the connection to {self.line.rm.label} was lost")
-            code = self.connection.do(verb, self.xid)
-            if not is_answer(verb, code):
-                raise ConnectionLost(f"{verb} of {self.xid} was answered {code.name}")
+            code = answer_of(self.connection, verb, self.xid)
             self._note(verb, code)
             self.line.rm.note_call(time.monotonic() - self._sent)
             return code
         except BaseException as error:
             # What was never committed ends with its connection.
-            is_undone = verb == "commit-at-once" and self.connection.is_at_work
+            is_undone = verb == "commit-at-once" and self.connection.is_active(self.xid)
             self._lose(error)
             if not isinstance(error, Exception):
                 raise
@@ -244,8 +246,7 @@ class Hands:
             answers = self._make(verb, parts)
             # Nothing else can be told after these. So nobody waits for it, and it goes with what is said next.
             is_over = verb in ("commit", "commit-at-once") and all(code is Code.OK for code in answers)
-            said = ["lost" if code is None else str(int(code)) for code in answers]
-            self._move("tell", *said, is_asked=not is_over, is_later=is_over)
+            self._move("tell", *map(word_of, answers), is_asked=not is_over, is_later=is_over)
             if is_over:
                 return Told(Outcome.COMMITTED)
 
@@ -286,77 +287,3 @@ class Hands:
         elif verb == "commit-at-once" and answers[0] is not None:
             self.fate = Outcome.COMMITTED if answers[0] is Code.OK else Outcome.ROLLED_BACK
         return answers
-
-
-class Recovery:
-    """The same for what is in doubt at a database, over a connection of its own. Of what is listed
-    there the coordinator hears."""
-
-    def __init__(self, session: Session, rm: ResourceManager, connection: Connection, listed: Iterable[Xid]):
-        self._session, self._rm, self._connection, self._listed = session, rm, connection, sorted(listed)
-        #: Why something can't be ended now.
-        self.error: Optional[Exception] = None
-        # Branches of decided transactions that aren't there any more.
-        self._missing: List[Xid] = []
-
-    def run(self) -> str:
-        """Does what the coordinator tells, until it says how that ended."""
-        ask, number = self._session.coordinator.ask, self._rm.number
-        reply = ask(f"recover {number}")
-        while True:
-            verb, *words = reply.split(" ")
-            if verb == "recover":
-                page, self._listed = self._listed[:PAGE], self._listed[PAGE:]
-                reply = ask(" ".join([f"page {number}", *map(str, page)]))
-            elif verb in ("xa_commit", "xa_rollback", "xa_forget"):
-                code = self._made(self._call(reply))
-                reply = ask(f"end {number} {'lost' if code is None else int(code)}")
-            elif verb in ("recovered", "later") or verb == "strange" and words:
-                if self._missing:
-                    how = "%s has %d branches no more that are decided to commit, as %s: an earlier session has ended them, or somebody else"
-                    log.warning(how, self._rm.label, len(self._missing), self._missing[0])
-                return reply
-            else:
-                raise self._session.coordinator.not_understood(reply, f"a recovery of {number}")
-
-    def _call(self, reply: str) -> Call:
-        verb, _, xid = reply.partition(" ")
-        try:
-            return Call(verb, Xid.parse(xid))
-        except ValueError as error:
-            raise self._session.coordinator.not_understood(reply, f"a recovery of {self._rm.number}") from error
-
-    def _made(self, call: Call) -> Optional[Code]:
-        """Makes a call: how it is answered, or None. One that can't be made now is made again for a
-        moment; then a commit is put off, and a rollback left out for a while, so that they hold up
-        no others."""
-        until = time.monotonic() + STUCK
-        verb = call.name[3:]
-        while True:
-            try:
-                code = self._connection.do(verb, call.xid)
-                if not is_answer(verb, code):
-                    raise ConnectionLost(f"{call} was answered {code.name}")
-                log.info("recovery of %s: %s answered %s", self._rm.label, call, code.name)
-                self._note(call, code)
-                return code
-            except Exception as error:
-                self.error = error
-                if not isinstance(error, Unanswered) or verb != "commit" and time.monotonic() >= until:
-                    self._rm.put_off(call.xid)
-                    return None
-                if time.monotonic() >= until:
-                    return Code.RETRY
-            time.sleep(PAUSE)
-
-    def _note(self, call: Call, code: Code) -> None:
-        label = self._rm.label
-        if code.is_heuristic or call.name == "xa_commit" and code.is_rollback:
-            log.error("%s: %s answered %s: somebody has ended it by hand; compare the databases", label, call, code.name)
-            self._session.outcomes.note_odd()
-        elif call.name == "xa_commit" and code is Code.NOTA:
-            self._missing.append(call.xid)
-        elif call.name == "xa_rollback" and code is not Code.NOTA:
-            self._rm.note_undone(call.xid)
-        if code is not Code.RETRY:
-            self._session.settle([call.xid])

@@ -20,10 +20,10 @@ from .aside import ASIDE, aside
 from .block import Block
 from .databases import NAME, Databases
 from .errors import CoordinatorGone, LogInUse, NestedTransaction, NotNow, Overdue, SetupError, TransactionOver, XaError
-from .hands import PAUSE
 from .logs import free_log, is_new_log, see_place
 from .metrics import in_json, in_prometheus, of_counts, shown
 from .outcomes import Outcome, Outcomes
+from .recovery import PAUSE
 from .session import Session, Settings
 from .threads import Thread
 from .transaction import Transaction

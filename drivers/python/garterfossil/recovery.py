@@ -5,18 +5,22 @@ from __future__ import annotations
 
 import logging
 import time
-from typing import TYPE_CHECKING, Optional, Set, Tuple
+from typing import TYPE_CHECKING, Iterable, List, Optional, Set, Tuple
 
 from .adapters.base import Connection
-from .errors import ConnectionLost, CoordinatorGone, Overdue, SetupError, XaError
-from .hands import Recovery
+from .codes import Code
+from .errors import ConnectionLost, CoordinatorGone, Overdue, SetupError, Unanswered, XaError
+from .hands import answer_of, word_of
 from .resource_manager import GLANCE, ResourceManager
-from .xid import Xid
+from .xid import Call, Xid
 
 if TYPE_CHECKING:
     from .session import Session
 
 log = logging.getLogger("garterfossil")
+
+#: So many identifiers are told at a time, and a call that has no answer now is made again for so many seconds.
+PAGE, STUCK, PAUSE = 32, 1.0, 0.05
 
 
 def attempt(session: Session, rm: ResourceManager) -> Optional[XaError]:
@@ -65,6 +69,77 @@ def recover(session: Session, rm: ResourceManager) -> None:
             begin_anew(session, rm, forgotten)
         if put_off or end != "recovered":
             raise ConnectionLost(f"{rm.label} has a branch that can't be ended now: {hands.error or sorted(put_off)[0]}")
+
+
+class Recovery:
+    """The calls that the coordinator tells for what is in doubt at a database, over a connection of its own. Of what is listed
+    there it hears."""
+
+    def __init__(self, session: Session, rm: ResourceManager, connection: Connection, listed: Iterable[Xid]):
+        self._session, self._rm, self._connection, self._listed = session, rm, connection, sorted(listed)
+        #: Why something can't be ended now.
+        self.error: Optional[Exception] = None
+        # Branches of decided transactions that aren't there any more.
+        self._missing: List[Xid] = []
+
+    def run(self) -> str:
+        """Does what the coordinator tells, until it says how that ended."""
+        ask, number = self._session.coordinator.ask, self._rm.number
+        reply = ask(f"recover {number}")
+        while True:
+            verb, *words = reply.split(" ")
+            if verb == "recover":
+                page, self._listed = self._listed[:PAGE], self._listed[PAGE:]
+                reply = ask(" ".join([f"page {number}", *map(str, page)]))
+            elif verb in ("xa_commit", "xa_rollback", "xa_forget"):
+                reply = ask(f"end {number} {word_of(self._made(self._call(reply)))}")
+            elif verb in ("recovered", "later") or verb == "strange" and words:
+                if self._missing:
+                    how = "%s has %d branches no more that are decided to commit, as %s: an earlier session has ended them, or somebody else"
+                    log.warning(how, self._rm.label, len(self._missing), self._missing[0])
+                return reply
+            else:
+                raise self._session.coordinator.not_understood(reply, f"a recovery of {number}")
+
+    def _call(self, reply: str) -> Call:
+        verb, _, xid = reply.partition(" ")
+        try:
+            return Call(verb, Xid.parse(xid))
+        except ValueError as error:
+            raise self._session.coordinator.not_understood(reply, f"a recovery of {self._rm.number}") from error
+
+    def _made(self, call: Call) -> Optional[Code]:
+        """Makes a call: how it is answered, or None. One that can't be made now is made again for a
+        moment; then a commit is put off, and a rollback left out for a while, so that they hold up
+        no others."""
+        until = time.monotonic() + STUCK
+        verb = call.name[3:]
+        while True:
+            try:
+                code = answer_of(self._connection, verb, call.xid)
+                log.info("recovery of %s: %s answered %s", self._rm.label, call, code.name)
+                self._note(call, code)
+                return code
+            except Exception as error:
+                self.error = error
+                if not isinstance(error, Unanswered) or verb != "commit" and time.monotonic() >= until:
+                    self._rm.put_off(call.xid)
+                    return None
+                if time.monotonic() >= until:
+                    return Code.RETRY
+            time.sleep(PAUSE)
+
+    def _note(self, call: Call, code: Code) -> None:
+        label = self._rm.label
+        if code.is_heuristic or call.name == "xa_commit" and code.is_rollback:
+            log.error("%s: %s answered %s: somebody has ended it by hand; compare the databases", label, call, code.name)
+            self._session.outcomes.note_odd()
+        elif call.name == "xa_commit" and code is Code.NOTA:
+            self._missing.append(call.xid)
+        elif call.name == "xa_rollback" and code is not Code.NOTA:
+            self._rm.note_undone(call.xid)
+        if code is not Code.RETRY:
+            self._session.settle([call.xid])
 
 
 def begin_anew(session: Session, rm: ResourceManager, forgotten: Set[Xid]) -> None:

@@ -299,11 +299,6 @@ class Connection(abc.ABC):
         with self._lock, self.timed(self.place.patience):
             return xid == self._xid and self._send_ahead(verb, xid)
 
-    @property
-    def is_at_work(self) -> bool:
-        """Whether it has a branch whose work isn't over."""
-        return self._state is State.ACTIVE
-
     def _start_branch(self, xid: Xid) -> Code:
         if self._state is not State.NONE:
             raise Unanswered("the connection has another branch")
