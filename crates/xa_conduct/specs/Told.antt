@@ -33,7 +33,7 @@ abbrev pub standing_word : Standing → List ℕ
 standing_word Committed = codes "committed"
 standing_word (RolledBack why) = codes "rolled-back"
 standing_word Unknown = codes "unknown"
-standing_word standing = codes "joined_replies"
+standing_word standing = codes "joined"
 
 -- behind a word comes a space, or nothing
 abbrev pub IsBehindWord : List ℕ → Type 0

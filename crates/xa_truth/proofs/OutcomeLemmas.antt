@@ -224,9 +224,9 @@ module _ {L : Type 0} (moment : L → Moment) (name : List ℕ) (handed : L) (o 
       let saw = saw_rollback g t rests in only_rollback (codes "rolled-back") text g saw.gtrid saw.same (refl, refl) refl first saw.saw
   standing_seen g t standings.Unknown text rests first =
       let saw = saw_unknown g t rests in only_unknown (codes "unknown") text g saw.gtrid saw.same (refl, refl) (refl, (refl, refl)) first saw.saw
-  standing_seen g t standings.Idle text rests first = nothing_told (codes "joined_replies") text g (refl, refl) (refl, (refl, refl)) refl first
-  standing_seen g t standings.Open text rests first = nothing_told (codes "joined_replies") text g (refl, refl) (refl, (refl, refl)) refl first
-  standing_seen g t standings.Ready text rests first = nothing_told (codes "joined_replies") text g (refl, refl) (refl, (refl, refl)) refl first
+  standing_seen g t standings.Idle text rests first = nothing_told (codes "joined") text g (refl, refl) (refl, (refl, refl)) refl first
+  standing_seen g t standings.Open text rests first = nothing_told (codes "joined") text g (refl, refl) (refl, (refl, refl)) refl first
+  standing_seen g t standings.Ready text rests first = nothing_told (codes "joined") text g (refl, refl) (refl, (refl, refl)) refl first
 
   told_seen : (t : Transaction) (text : List ℕ) → TransactionRests asked t → TellsOf t text → ReplySeen t.gtrid text
   told_seen t text rests told_of = by (has_calls t) told_of
