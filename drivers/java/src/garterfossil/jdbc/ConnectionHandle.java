@@ -102,7 +102,7 @@ final class ConnectionHandle {
         }
         if (SETTINGS.containsKey(name)) {
             // The next transaction finds the connection as it was.
-            Object[] before = {Connection.class.getMethod(SETTINGS.get(name)).invoke(connection)};
+            Object[] before = {Front.direct(connection, Connection.class.getMethod(SETTINGS.get(name)), null)};
             link.undoLater(() -> method.invoke(connection, before));
         }
         return wrapped(through(connection, method, words, NOTHING));
