@@ -1,21 +1,15 @@
 -- What a log holds that was made of lines.
-use Rattle.std.proofs.Common.{◌≤◌, ◌∙◌, ℕ, refl, ap, arith}
-use Rattle.std.specs.FinMap.{get, get-empty}
-use Rattle.std.specs.Prelude.{◌+◌}
-use Rattle.xa_base.specs.Branch.{branch_cmp, gtrid_cmp}
-use Rattle.xa_log.proofs.RowsInTurn.{first_row, same_heuristics, same_incarnation}
-use Rattle.xa_log.specs.Content.{nothing, with_incarnation}
+use Rattle.std.proofs.Common.{◌≤◌, ℕ, refl, arith}
+use Rattle.xa_log.specs.Content.{nothing}
 use Rattle.xa_log.specs.Contract.{Moment}
-use Rattle.xa_log.specs.KeySet.{KeySet}
 use Rattle.xa_mirror.specs.MadeLogs.{MadeLogsHoldLines}
-use Rattle.xa_model.specs.Trace.{How}
-use Rattle.xa_restore.specs.Restored.{restored}
+use Rattle.xa_restore.specs.Restored.{RestoredHoldWhatIsSaid, restored}
 
 none_less : (n : ℕ) → n ≤ n
 none_less n = omega arith
 
-pub made_logs : {L : Type 0} (moment : L → Moment) → MadeLogsHoldLines moment
-made_logs moment n ds made order has = record {
+pub made_logs : {L : Type 0} (moment : L → Moment) → RestoredHoldWhatIsSaid → MadeLogsHoldLines moment
+made_logs moment say n ds made order has = record {
   holds = record {
     order = order;
     content = restored n ds nothing;
@@ -23,7 +17,5 @@ made_logs moment n ds made order has = record {
     same = record { decisions = refl; heuristics = refl };
     raised = none_less (restored n ds nothing).incarnation;
   };
-  rows = λ g. first_row ds (with_incarnation (0 + n) nothing) g (get-empty {X = KeySet branch_cmp} gtrid_cmp g);
-  no_records = λ b. ap (λ m. get m b) (same_heuristics ds (with_incarnation (0 + n) nothing)) ∙ get-empty {X = How} branch_cmp b;
-  incarnation = same_incarnation ds (with_incarnation (0 + n) nothing) ∙ (omega arith);
+  says = say n ds;
 }

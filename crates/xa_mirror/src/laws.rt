@@ -10,6 +10,7 @@ ghost use Rattle.xa_mirror.specs.ToldMirrors.{ToldFailoversAgree, ToldMirrorsAre
 
 use xa_log::DecisionLog;
 use xa_outcomes::laws::served_sessions_are_parts;
+use xa_restore::restored_logs_hold_what_is_said;
 use xa_server::laws::heard_ends_stay;
 use xa_session::laws::{sessions_are_explained, starts_find_the_log, waiting_calls_are_tracked};
 use xa_tm::laws::starts_are_histories;
@@ -82,7 +83,9 @@ pub fn told_mirrors_are_mirrors<L: DecisionLog + Drop>()
 /// decision of the lines, no other row, no record, and as many starts as they say.
 pub fn made_logs_hold_lines<L: DecisionLog + Drop>()
     ensures { MadeLogsHoldLines L.moment }
-{}
+{
+    restored_logs_hold_what_is_said();
+}
 
 /// A decision to commit about which nothing was done may be left out of a right history: no
 /// xa_commit of a branch of the transaction was issued, no page that lists one was resolved after

@@ -7,6 +7,8 @@
 #![tactic(auto)]
 
 pub mod laws;
+mod made;
 mod worked;
 
+pub use made::{MadeFault, made_of_lines};
 pub use worked::worked_failover;
