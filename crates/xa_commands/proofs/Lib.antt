@@ -1,1 +1,3 @@
+mod HandedOn
+mod MadeFiles
 pub mod NameLemmas

@@ -32,7 +32,7 @@ pub use files::{Source, output_to, text_of, texts_of, told_path};
 pub use jobs::run_threads;
 pub use lists::{list, list_as_json};
 pub use logs::{HostLog, broken_off, leave, open_unnamed};
-pub use made_logs::make_log;
+pub use made_logs::{made_logs_are_handed_on, make_from, make_log};
 pub use renamed_logs::rename_rms;
 pub use rm_names::NameChange;
 pub use service::{Served, Service, serve, serve_from, serve_in_files};

@@ -130,11 +130,6 @@ fn name_at<'a>(names: &[&'a str], number: usize) -> &'a str {
     names.iter().skip(1).nth(number).copied().unwrap_or("")
 }
 
-/// Makes an empty log with a label.
-pub(crate) fn make_labelled(rt: &HostRuntime, path: &str, label: &str) -> Result<(), Failure> {
-    SqlLog::make(rt, path, label).map_err(|fault| opening_failure(rt, path, fault))
-}
-
 /// The names in a label.
 pub(crate) fn label_names(alloc: Global, label: &str) -> Result<Vec<&str>, AllocError>
     ensures { IfOk result (λ names. map (λ name. name.now) names.items ≡ label_names label.now) }

@@ -1,91 +1,130 @@
 //! A log that is made from lines.
 
-ghost use Rattle.std.specs.Prelude.{IfOk};
+ghost use Rattle.std.specs.Prelude.{◌≡◌, IfOk, IfSome, length};
 ghost use Rattle.std.specs.List.{AllByRecursion};
+ghost use Rattle.std.specs.String.{string_bytes};
+ghost use Rattle.sqlite.specs.Files.{image_of};
+ghost use Rattle.sqlite_wal.specs.Files.{image_at};
+ghost use Rattle.sqlite_wal.specs.Reads.{AreClean};
+ghost use Rattle.xa_commands.specs.Made.{IsMadeOf, MadeLogsAreHandedOn};
+ghost use Rattle.xa_log.specs.Content.{nothing};
 ghost use Rattle.xa_log.specs.Contract.{FitsRow};
 ghost use Rattle.xa_restore.specs.LogLines.{OwnsBranches};
+ghost use Rattle.xa_restore.specs.Restored.{restored};
+ghost use Rattle.xa_sql_log.specs.ClosedFiles.{HoldsWhole};
+ghost use Rattle.xa_sql_log.specs.HeldContents.{MakesLabelled};
 
 use crate::failure::Failure;
 use crate::files::system_failure;
-use crate::log_names::{label_of, make_labelled, refuse_half};
+use crate::log_names::{label_of, refuse_half};
 use crate::log_reasons::opening_failure_of;
 use crate::places::{Absent, name_beside, present};
 use crate::stores::restore_in_files;
+use sqlite::{FileFrom, Files, Start, Unknown};
+use sqlite_disk::Disk;
 use std::alloc::Global;
 use std::fs::{self, File};
-use std::io::{self, ErrorKind, Input};
+use std::io::{self, ErrorKind, Input, Read};
 use std::path::Path;
-use xa_restore::{Heading, LogLines, read_heading, read_log};
-use xa_sql_log::{SqlLog, journal_path};
+use xa_log::{DecisionLog, LogFault};
+use xa_restore::{LogLines, read_text, restored_logs_hold_what_is_said};
+use xa_sql_log::{LockFault, SqlLog, journal_path};
 
 /// Makes the log at a path from the lines on standard input. It is made beside its place, in a file of a name of its own, and comes to
 /// its place whole, so that a crash leaves nothing there, or all of it. A path at which there is a file is refused, at the first look
 /// and also where one comes to be meanwhile; and so is half of a log.
 pub fn make_log(rt: &HostRuntime, path: &str) -> Result<(), Failure> {
-    let alloc = rt.alloc();
     let place = Absent::at(rt, path)?;
-    let text = input_of(rt)?;
-    let lines: Vec<&str> = text.lines().collect(alloc)?;
-    let (heading, made) = read_lines(alloc, &lines)?;
     let beside = name_beside(rt, path)?;
-    let outcome = make_beside(rt, beside.as_str(), &heading, &made, place);
+    let outcome = make_beside(rt, beside.as_str(), place);
     // Whatever came of it, nothing stays under the other name.
     let removed = remove_log(rt, beside.as_str());
     outcome?;
     removed
 }
 
-/// What the lines of a log say.
-fn read_lines<'a>(alloc: Global, lines: &[&'a str]) -> Result<(Heading<'a>, LogLines), Failure>
-    ensures own { IfOk result (λ it. AllByRecursion OwnsBranches it.1.decisions.items) }
-    ensures fits { IfOk result (λ it.
-        AllByRecursion (λ d. FitsRow d.gtrid) it.1.decisions.items) }
+/// Makes a log beside its place, and moves it there before anybody else may open it.
+fn make_beside(rt: &HostRuntime, beside: &str, place: Absent<'_>) -> Result<(), Failure> {
+    // The files are locked until they are let go: who opens the log at its new place meanwhile is refused.
+    let _locked = make_from(rt, rt.reader(), beside, place.path(), Unknown)?;
+    move_log(rt, beside, place)
+}
+
+/// Makes a log of all that is read, in files at `beside`, which it gives back locked. A failure
+/// tells of `path`, which is to be their place. `start` stands for what the files hold as they are
+/// opened; the contract speaks of each such start.
+pub fn make_from<S: Start, R: Read + Drop>(
+    rt: &HostRuntime,
+    input: R,
+    beside: &str,
+    path: &str,
+    start: S,
+) -> Result<Files<FileFrom<S>>, Failure>
+    ensures made { IfOk result (λ files. IfSome (R.remaining input) (λ text.
+        IsMadeOf ⟦<FileFrom<S> as Disk>⟧ (image_at S.Start) text files)) }
 {
-    let heading = read_heading(alloc, lines)?;
-    let count = heading.line_count();
-    let rest = lines.get(count..).unwrap_or(&[]);
-    match read_log(alloc, &heading.name, rest) {
-        Ok(made) => Ok((heading, made)),
-        Err(fault) => Err(Failure::from(fault.behind(count))),
+    restored_logs_hold_what_is_said();
+    let alloc = rt.alloc();
+    let text = read_all(alloc, input)?;
+    let named = match read_text(alloc, text.as_str()) {
+        Ok(named) => named,
+        Err(fault) => return Err(Failure::from(fault)),
+    };
+    let label = label_of(alloc, &named.heading.name, &named.heading.rms)?;
+    match make_in_files(rt, beside, start, label.as_str(), &named.log) {
+        Ok(files) => Ok(files),
+        Err(fault) => Err(opening_failure_of(rt, beside, path, fault)),
     }
 }
 
-/// All of standard input, as text.
-fn input_of(rt: &HostRuntime) -> Result<String, Failure> {
-    match io::read_to_string(rt.alloc(), rt.reader()) {
+/// All that is read, as text.
+fn read_all<R: Read + Drop>(alloc: Global, input: R) -> Result<String, Failure>
+    ensures { IfOk result (λ text. IfSome (R.remaining input) (λ bytes.
+        string_bytes text ≡ bytes)) }
+{
+    match io::read_to_string(alloc, input) {
         Ok(text) => Ok(text),
         Err(error) => Err(Failure::Input.caused_by(&error)),
     }
 }
 
-/// Makes a log beside its place, and moves it there before anybody else may open it.
-fn make_beside(
+/// Makes a log with this label, of what lines say, in the files at a path, which stay locked.
+fn make_in_files<S: Start>(
     rt: &HostRuntime,
-    beside: &str,
-    heading: &Heading<'_>,
+    path: &str,
+    start: S,
+    label: &str,
     lines: &LogLines,
-    place: Absent<'_>,
-) -> Result<(), Failure>
+) -> Result<Files<FileFrom<S>>, LogFault>
     requires own { AllByRecursion OwnsBranches lines.now.decisions.items }
     requires fits { AllByRecursion (λ d. FitsRow d.gtrid) lines.now.decisions.items }
+    ensures made { IfOk result (λ files. length (image_at S.Start).db ≡ 0 →
+        MakesLabelled label.now (image_at S.Start) →
+        AreClean ⟦<FileFrom<S> as Disk>⟧ files.log files.db →
+        HoldsWhole (restored lines.now.incarnation lines.now.decisions.items nothing)
+        (image_of ⟦<FileFrom<S> as Disk>⟧ files)) }
 {
-    let alloc = rt.alloc();
-    let path = place.path();
-    let label = label_of(alloc, &heading.name, &heading.rms)?;
-    if !label.is_empty() {
-        make_labelled(rt, beside, label.as_str())?;
-    }
-    let log = match SqlLog::open(rt, beside) {
-        Ok(log) => log,
-        Err(fault) => return Err(opening_failure_of(rt, beside, path, fault)),
-    };
-    // The files are locked until they are let go: who opens the log at its new place meanwhile is refused.
-    let _locked = match restore_in_files(alloc, log, lines) {
+    let files = match SqlLog::lock(rt, path, start) {
         Ok(files) => files,
-        Err(fault) => return Err(opening_failure_of(rt, beside, path, fault)),
+        Err(LockFault::InUse) => return Err(LogFault::Store),
+        Err(LockFault::Log(fault)) => return Err(fault),
     };
-    move_log(rt, beside, place)
+    let log = match SqlLog::open_locked(rt, files, label) {
+        Ok(log) => log,
+        Err(fault) => return Err(fault),
+    };
+    match restore_in_files(rt.alloc(), log, lines) {
+        Ok(files) => Ok(files),
+        Err(fault) => Err(fault),
+    }
 }
+
+/// Who opens files in which a log was made, with whatever label, is handed a log with the row of
+/// each decision of its lines, no other row, no record, and as many starts as they say. This does
+/// nothing: its clause is a law.
+pub fn made_logs_are_handed_on<L: DecisionLog>()
+    ensures { MadeLogsAreHandedOn L.moment }
+{}
 
 /// Gives a closed log, which is one file, the name of its place, where there is nothing, and sees that it is there for good.
 fn move_log(rt: &HostRuntime, beside: &str, place: Absent<'_>) -> Result<(), Failure> {
