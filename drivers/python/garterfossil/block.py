@@ -5,7 +5,6 @@ from __future__ import annotations
 
 import _thread
 import functools
-import logging
 import os
 import queue
 import threading
@@ -15,7 +14,7 @@ from typing import TYPE_CHECKING, Callable, Dict, Optional, Union
 from . import current
 from .adapters.base import Options
 from .aside import aside
-from .errors import TransactionOver, XaError
+from .errors import TransactionOver, XaError, log
 from .outcomes import Outcome
 from .session import Session
 from .threads import Thread
@@ -23,8 +22,6 @@ from .transaction import Transaction
 
 if TYPE_CHECKING:
     from .manager import TransactionManager
-
-log = logging.getLogger("garterfossil")
 
 
 class Block:

@@ -5,12 +5,9 @@ earlier moment, as by a standby that was promoted and lacked the last one; or th
 from __future__ import annotations
 
 import contextlib
-import logging
 import os
 
-from .errors import SetupError
-
-log = logging.getLogger("garterfossil")
+from .errors import SetupError, log
 
 #: What is added to the log's own path. The file keeps so many transactions, each in so many bytes
 #: at a place by its number: those of a session take the places of those of earlier ones.

@@ -15,10 +15,8 @@ import time
 import weakref
 from typing import Deque, Iterator, List, Optional, Sequence, Tuple
 
-from .errors import CoordinatorGone, LogInUse, NotNow, SetupError
+from .errors import CoordinatorGone, LogInUse, NotNow, SetupError, log
 from .logs import MOMENT, REFUSED, Names, is_disk_full
-
-log = logging.getLogger("garterfossil")
 
 #: It ends so where it doesn't know the words that it is started with.
 WRONG_WORDS = 3

@@ -1,10 +1,13 @@
-"""What is raised by the driver."""
+"""What is raised by the driver, and where it logs."""
 
 from __future__ import annotations
 
+import logging
 from typing import Optional
 
 from .codes import Code
+
+log = logging.getLogger("garterfossil")
 
 #: Reasons for a rollback that are of a moment.
 PASSING = (Code.RBCOMMFAIL, Code.RBDEADLOCK, Code.RBTIMEOUT, Code.RBTRANSIENT)

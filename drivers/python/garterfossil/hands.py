@@ -5,7 +5,6 @@ say (docs/MOVES.md)."""
 from __future__ import annotations
 
 import functools
-import logging
 import re
 import time
 from typing import TYPE_CHECKING, Dict, List, Mapping, NamedTuple, Optional, Sequence, Set, Tuple
@@ -15,15 +14,13 @@ from .aside import side_by_side
 from .branch import Branch
 from .codes import Code
 from .coordinator import Reply
-from .errors import ConnectionLost, CoordinatorGone, Unanswered, XaError
+from .errors import ConnectionLost, CoordinatorGone, Unanswered, XaError, log
 from .outcomes import TOLD, Outcome
 from .threads import Line, Thread
 from .xid import Xid
 
 if TYPE_CHECKING:
     from .session import Session
-
-log = logging.getLogger("garterfossil")
 
 HEURISTIC = {Code.HEURHAZ, Code.HEURCOM, Code.HEURRB, Code.HEURMIX}
 #: How a call may be answered, beside a rollback with its reason: all else is no answer.

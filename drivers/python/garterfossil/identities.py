@@ -5,16 +5,13 @@ had, and would answer that there are none. The drivers in Java and C read and wr
 from __future__ import annotations
 
 import json
-import logging
 import os
 import re
 import threading
 from typing import Any, Dict, List, Optional
 
 from .adapters.base import Connection, Database
-from .errors import SetupError
-
-log = logging.getLogger("garterfossil")
+from .errors import SetupError, log
 
 #: What is added to the log's own path, and the version of what is in the file.
 SUFFIX, VERSION = "-databases", 1

@@ -3,19 +3,16 @@ there."""
 
 from __future__ import annotations
 
-import logging
 import threading
 import time
 from typing import TYPE_CHECKING, Callable, Dict, Optional, Tuple
 
-from .errors import CoordinatorGone
+from .errors import CoordinatorGone, log
 from .recovery import attempt
 from .resource_manager import GLANCE, ResourceManager
 
 if TYPE_CHECKING:
     from .session import Session
-
-log = logging.getLogger("garterfossil")
 
 #: A recovery that couldn't be done is tried again after so many seconds.
 RECOVERY_PAUSE = 1.0

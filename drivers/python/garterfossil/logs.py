@@ -3,7 +3,6 @@
 from __future__ import annotations
 
 import fcntl
-import logging
 import os
 import re
 import secrets
@@ -13,10 +12,8 @@ import time
 from dataclasses import dataclass, field
 from typing import IO, Dict, List, Mapping, Optional, Sequence, Tuple
 
-from .errors import LogInUse, SetupError, XaError
+from .errors import LogInUse, SetupError, XaError, log
 from .xid import Xid
-
-log = logging.getLogger("garterfossil")
 
 #: What a name that nobody gave has: so many letters and digits, that no two logs have the same by chance.
 LETTERS, DRAWN = string.ascii_lowercase + string.digits, 12

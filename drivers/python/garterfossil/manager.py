@@ -4,7 +4,6 @@ from __future__ import annotations
 
 import contextlib
 import functools
-import logging
 import os
 import random
 import re
@@ -18,8 +17,9 @@ from . import current
 from .adapters.base import Database, Options
 from .aside import ASIDE, aside
 from .block import Block
+from .coordinator import MOST_THREADS
 from .databases import NAME, Databases
-from .errors import CoordinatorGone, LogInUse, NestedTransaction, NotNow, Overdue, SetupError, TransactionOver, XaError
+from .errors import CoordinatorGone, LogInUse, NestedTransaction, NotNow, Overdue, SetupError, TransactionOver, XaError, log
 from .logs import free_log, is_new_log, see_place
 from .metrics import in_json, in_prometheus, of_counts, shown
 from .outcomes import Outcome, Outcomes
@@ -31,14 +31,10 @@ from .transaction import Transaction
 if TYPE_CHECKING:
     from .aio import AsyncTransaction
 
-log = logging.getLogger("garterfossil")
-
 T = TypeVar("T")
 
 #: The name of a transaction.
 GTRID = re.compile(r"[0-9a-f]{32}")
-#: The coordinator takes so many threads.
-MOST_THREADS = 1024
 NO_OPTIONS = Options()
 #: The first pause before work is tried again, in seconds, and the longest.
 FIRST_PAUSE, LAST_PAUSE = 0.02, 1.0

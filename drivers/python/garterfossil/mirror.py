@@ -4,7 +4,6 @@ machine that had the log is lost."""
 from __future__ import annotations
 
 import contextlib
-import logging
 import os
 import threading
 from concurrent.futures import Future
@@ -13,11 +12,9 @@ from typing import Dict, Iterator, List, Mapping, Optional, Sequence, Set, Tuple
 
 from .adapters.base import Connection, Database, Place
 from .databases import MOST
-from .errors import ConnectionLost, CoordinatorGone, SetupError, XaError
+from .errors import ConnectionLost, CoordinatorGone, SetupError, XaError, log
 from .logs import Log, Names
 from .xid import Xid
-
-log = logging.getLogger("garterfossil")
 
 #: The tables, whose texts are compared byte by byte: one row for each manager, and one for each of its decisions.
 MANAGERS = "garterfossil_manager (name {16} PRIMARY KEY, log text NOT NULL, rms text NOT NULL, incarnation bigint NOT NULL)"

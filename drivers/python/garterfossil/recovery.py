@@ -3,21 +3,18 @@ and what becomes of that."""
 
 from __future__ import annotations
 
-import logging
 import time
 from typing import TYPE_CHECKING, Iterable, List, Optional, Set, Tuple
 
 from .adapters.base import Connection
 from .codes import Code
-from .errors import ConnectionLost, CoordinatorGone, Overdue, SetupError, Unanswered, XaError
+from .errors import ConnectionLost, CoordinatorGone, Overdue, SetupError, Unanswered, XaError, log
 from .hands import answer_of, word_of
 from .resource_manager import GLANCE, ResourceManager
 from .xid import Call, Xid
 
 if TYPE_CHECKING:
     from .session import Session
-
-log = logging.getLogger("garterfossil")
 
 #: So many identifiers are told at a time, and a call that has no answer now is made again for so many seconds.
 PAGE, STUCK, PAUSE = 32, 1.0, 0.05

@@ -2,17 +2,14 @@
 
 from __future__ import annotations
 
-import logging
 import threading
 import time
 from typing import Dict, List, Optional, Set
 
 from .adapters.base import Connection, Database, Place
-from .errors import ConnectionLost
+from .errors import ConnectionLost, log
 from .identities import Identities
 from .xid import Call, Xid
-
-log = logging.getLogger("garterfossil")
 
 #: For so many seconds a transaction that begins waits for a recovery that it has started.
 GLANCE = 0.5

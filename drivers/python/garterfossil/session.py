@@ -3,7 +3,6 @@
 from __future__ import annotations
 
 import functools
-import logging
 import threading
 import time
 from dataclasses import dataclass
@@ -14,7 +13,7 @@ from .aside import side_by_side
 from .committed import Committed
 from .coordinator import MOST_THREADS, Coordinator, Reply, serve_command
 from .databases import Databases
-from .errors import ConnectionLost, CoordinatorGone, Overdue, SetupError
+from .errors import ConnectionLost, CoordinatorGone, Overdue, SetupError, log
 from .hands import Part, Told
 from .identities import Identities
 from .keeper import Keeper
@@ -25,8 +24,6 @@ from .recovery import attempt, see_not_later
 from .resource_manager import GLANCE, ResourceManager
 from .threads import Line, Thread, Threads
 from .xid import Xid
-
-log = logging.getLogger("garterfossil")
 
 
 @dataclass(frozen=True)

@@ -4,7 +4,6 @@ from __future__ import annotations
 
 import collections
 import contextlib
-import logging
 import re
 import threading
 import time
@@ -12,10 +11,8 @@ from typing import Callable, Deque, Dict, Iterator, List, Optional, Sequence
 
 from .adapters.base import Connection
 from .coordinator import Coordinator, Reply
-from .errors import Overdue
+from .errors import Overdue, log
 from .resource_manager import ResourceManager
-
-log = logging.getLogger("garterfossil")
 
 #: Whoever waits looks after so many seconds whether he is still waited for.
 GLANCE = 0.2

@@ -3,7 +3,6 @@
 from __future__ import annotations
 
 import functools
-import logging
 import os
 import threading
 import time
@@ -13,7 +12,7 @@ from .adapters.base import Options
 from .aside import aside
 from .branch import Branch
 from .codes import Code
-from .errors import PASSING, ConnectionLost, HeuristicEnd, OutcomeUnknown, RolledBack, TimedOut, TransactionOver, XaError
+from .errors import PASSING, ConnectionLost, HeuristicEnd, OutcomeUnknown, RolledBack, TimedOut, TransactionOver, XaError, log
 from .hands import Hands, Part, Told
 from .outcomes import Outcome
 from .recovery import stop
@@ -21,8 +20,6 @@ from .threads import Thread
 
 if TYPE_CHECKING:
     from .session import Session
-
-log = logging.getLogger("garterfossil")
 
 
 #: How a branch may have ended otherwise than its transaction: by its database, or, if that keeps no such ends, by somebody.

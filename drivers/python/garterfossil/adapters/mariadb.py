@@ -3,19 +3,16 @@
 from __future__ import annotations
 
 import contextlib
-import logging
 import math
 import re
 import uuid
 from typing import Any, Callable, Collection, Iterable, List, Optional, Sequence, Tuple, Type
 
 from ..codes import Code
-from ..errors import ConnectionLost, SetupError, Unanswered
+from ..errors import ConnectionLost, SetupError, Unanswered, log
 from ..statements import MARIADB
 from ..xid import Call, Xid
 from .base import Connection, Database, Parameters, Place, Result, varied
-
-log = logging.getLogger("garterfossil")
 
 #: Errors of MariaDB by their number.
 NO_SUCH_BRANCH, IN_USE = 1397, 1440
