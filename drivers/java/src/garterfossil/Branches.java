@@ -16,9 +16,9 @@ final class Branches {
     private final GlobalTransaction transaction;
     private final Manager manager;
     // Another thread may look at them as the session or the time is over.
-    final List<Branch> all = new CopyOnWriteArrayList<>();
+    private final List<Branch> all = new CopyOnWriteArrayList<>();
     private final List<Integer> unjoined = new ArrayList<>();
-    volatile Session session;
+    private volatile Session session;
     private Session.Slot slot;
     private volatile String gtrid;
 
@@ -27,8 +27,16 @@ final class Branches {
         this.manager = manager;
     }
 
+    List<Branch> all() {
+        return all;
+    }
+
     private List<Branch> begun() {
-        return all.stream().filter(Branch::isBegun).toList();
+        return all.stream().filter(Branch::isBegun).collect(Collectors.toList());
+    }
+
+    Session session() {
+        return session;
     }
 
     /** The transaction's 32 digits, or null where nothing takes part in it yet. */
@@ -42,11 +50,16 @@ final class Branches {
     }
 
     Optional<Branch> at(ResourceManager rm) {
-        return all.stream().filter(branch -> branch.rm == rm).findFirst();
+        for (Branch branch : all) {
+            if (branch.rm == rm) {
+                return Optional.of(branch);
+            }
+        }
+        return Optional.empty();
     }
 
     Optional<Branch> of(XAResource xaResource) {
-        return all.stream().filter(branch -> branch.resource == xaResource).findFirst();
+        return all.stream().filter(branch -> branch.resource() == xaResource).findFirst();
     }
 
     // ** their beginning
@@ -79,7 +92,7 @@ final class Branches {
         }
         session = up;
         slot = taken;
-        session.live.add(transaction);
+        session.add(transaction);
     }
 
     private void join(boolean isNow) throws Fault.Gone {
@@ -153,7 +166,7 @@ final class Branches {
      */
     private void release(Iterator<Branch> left, Session.Slot over) {
         if (!left.hasNext()) {
-            session.live.remove(transaction);
+            session.remove(transaction);
             session.giveBack(over);
             return;
         }

@@ -11,7 +11,6 @@ import java.util.StringJoiner;
 import java.util.concurrent.Future;
 import java.util.concurrent.TimeUnit;
 import java.util.concurrent.locks.ReentrantLock;
-import java.util.stream.Collectors;
 import javax.transaction.xa.XAResource;
 
 /**
@@ -19,13 +18,23 @@ import javax.transaction.xa.XAResource;
  * rolled back.
  */
 public final class GlobalTransaction {
-    /**
-     * A branch as the program has it.
-     *
-     * @param link the connection that it works on
-     * @param gate what the program's work on that goes through
-     */
-    public record Enlisted(Link link, Gate gate) {
+    /** A branch as the program has it. */
+    public static final class Enlisted {
+        private final Branch branch;
+
+        private Enlisted(Branch branch) {
+            this.branch = branch;
+        }
+
+        /** The connection that the branch works on. */
+        public Link link() {
+            return branch.link();
+        }
+
+        /** What the program's work on the connection goes through. */
+        public Gate gate() {
+            return branch.gate;
+        }
     }
 
     /**
@@ -71,8 +80,8 @@ public final class GlobalTransaction {
 
     /** Its name, and how it stands. */
     String told() {
-        return this + ": " + outcome + ", for " + (System.nanoTime() - begun) / 1_000_000_000 + " s, at " + branches.all.stream()
-            .map(branch -> branch.rm.toString()).collect(Collectors.joining(", "));
+        return this + ": " + outcome + ", for " + (System.nanoTime() - begun) / 1_000_000_000 + " s, at " + branches.all().stream()
+            .map(branch -> branch.rm.toString()).collect(java.util.stream.Collectors.joining(", "));
     }
 
     /** How it stands. */
@@ -223,8 +232,7 @@ public final class GlobalTransaction {
      * The branch at a resource, over a connection of the pool. It begins as it is first asked for.
      */
     public Enlisted enlist(Resource resource) throws Fault {
-        Branch branch = branchAt(resource, null);
-        return new Enlisted(branch.link(), branch.gate);
+        return new Enlisted(branchAt(resource, null));
     }
 
     /** The branch of a connection that the program brought, at the resource that it belongs to. */
@@ -244,7 +252,7 @@ public final class GlobalTransaction {
             if (brought == null && found.isLost()) {
                 throw new Fault.Unavailable("the connection of " + this + " to " + rm + " was lost: roll it back");
             }
-            if (brought == null ? found.link() == null : found.resource != brought) {
+            if (brought == null ? found.link() == null : found.resource() != brought) {
                 throw new Fault.Unavailable(this + " has a connection to " + rm + " already, and takes part there by one alone");
             }
             return found;
@@ -254,11 +262,11 @@ public final class GlobalTransaction {
     }
 
     private Branch begun(ResourceManager rm, XAResource brought) throws Fault {
-        int count = branches.all.size();
+        int count = branches.all().size();
         try {
             return branches.begin(rm, brought);
         } catch (Fault | RuntimeException | Error error) {
-            if (branches.all.size() > count) {
+            if (branches.all().size() > count) {
                 mark("no branch at " + rm + ": " + error.getMessage(), error);
             }
             throw error;
@@ -280,10 +288,11 @@ public final class GlobalTransaction {
 
     private void requireActive() throws Fault {
         requireOpen();
+        if (outcome == Outcome.MARKED_ROLLBACK) {
+            throw new Fault.Unavailable(this + " can only be rolled back: " + fault);
+        }
         if (branches.isSessionOver()) {
             mark("the coordinator ended", null);
-        }
-        if (outcome == Outcome.MARKED_ROLLBACK) {
             throw new Fault.Unavailable(this + " can only be rolled back: " + fault);
         }
     }
@@ -337,10 +346,10 @@ public final class GlobalTransaction {
     }
 
     private void commitLocked() throws Fault {
-        if (branches.isSessionOver()) {
+        if (fault == null && branches.isSessionOver()) {
             mark("the coordinator ended", null);
         }
-        for (Branch branch : branches.all) {
+        for (Branch branch : branches.all()) {
             if (branch.isLost()) {
                 mark("the connection to " + branch.rm + " was lost", null);
             }
@@ -356,12 +365,12 @@ public final class GlobalTransaction {
         Hands hands = branches.hands();
         Told told;
         try {
-            told = hands.end("commit", false);
+            told = hands.commit();
         } catch (Fault.Gone gone) {
             seeFate(hands, gone);
             return;
         }
-        outcome = told.outcome;
+        outcome = told.outcome();
         seePlain(told, hands);
         seeCommitted(told, hands);
     }
@@ -380,7 +389,7 @@ public final class GlobalTransaction {
         boolean isCommitted = outcome == Outcome.COMMITTED;
         long rolledBack = codes.stream().filter(code -> code == Code.HEURRB).count();
         String text = this + (isCommitted ? " is committed" : " is rolled back") + ", but not everywhere: " + how + ". See xatm log";
-        throw new Fault.Heuristic(text, isCommitted && rolledBack == hands.rows, !isCommitted || codes.contains(Code.HEURHAZ));
+        throw new Fault.Heuristic(text, isCommitted && rolledBack == hands.rows(), !isCommitted || codes.contains(Code.HEURHAZ));
     }
 
     private void seeCommitted(Told told, Hands hands) throws Fault {
@@ -402,12 +411,12 @@ public final class GlobalTransaction {
      * branches, too.
      */
     private void seeFate(Hands hands, Fault.Gone gone) throws Fault {
-        if (hands.sure == null) {
+        if (hands.sure() == null) {
             // Whoever begins the next session needn't wait for this thread, which waits for that.
             isGivenUp = true;
             branches.abandon("the coordinator ended");
         }
-        Outcome fate = hands.sure != null ? hands.sure : manager.fateOf(branches.gtrid());
+        Outcome fate = hands.sure() != null ? hands.sure() : manager.fateOf(branches.gtrid());
         outcome = fate;
         if (fate == Outcome.UNKNOWN) {
             throw new Fault.OutcomeUnknown(this + ": " + gone.getMessage() + ". The next session ends it everywhere alike", gone);
@@ -419,9 +428,9 @@ public final class GlobalTransaction {
 
     /** An error of the driver itself: the next session ends what is open. */
     private void giveUp(Throwable error) {
-        if (branches.session != null) {
+        if (branches.session() != null) {
             manager.fates.forget(branches.gtrid());
-            branches.session.coordinator.failed(error);
+            branches.session().coordinator.failed(error);
         }
     }
 
@@ -444,10 +453,10 @@ public final class GlobalTransaction {
         try {
             if (branches.gtrid() != null && !branches.isSessionOver()) {
                 if (isApart) {
-                    branches.all.forEach(Branch::makeHaste);
+                    branches.all().forEach(Branch::makeHaste);
                 }
                 Hands hands = branches.hands();
-                Told told = hands.end("rollback", isApart);
+                Told told = hands.rollBack(isApart);
                 outcome = Outcome.ROLLED_BACK;
                 seePlain(told, hands);
             }
@@ -473,20 +482,24 @@ public final class GlobalTransaction {
         String why = "the coordinator ended: roll " + this + " back";
         mark("the coordinator ended", null);
         branches.bar(why);
-        boolean isMine = false;
         try {
+            boolean isMine = false;
             while (!isMine && !isGivenUp && System.nanoTime() < until) {
                 isMine = lock.tryLock(20, TimeUnit.MILLISECONDS);
             }
             if (isMine) {
-                branches.abandon(why);
+                giveUpHere(why);
             }
         } catch (InterruptedException error) {
             Thread.currentThread().interrupt();
+        }
+    }
+
+    private void giveUpHere(String why) {
+        try {
+            branches.abandon(why);
         } finally {
-            if (isMine) {
-                lock.unlock();
-            }
+            lock.unlock();
         }
     }
 

@@ -11,7 +11,6 @@ import java.util.List;
 import java.util.Map;
 import java.util.Queue;
 import java.util.Set;
-import java.util.concurrent.CompletableFuture;
 import java.util.concurrent.ConcurrentLinkedQueue;
 import javax.sql.DataSource;
 
@@ -23,10 +22,18 @@ import javax.sql.DataSource;
 final class Mirror {
     /** So long a log may take that is made: each of its incarnations is a write that is synced. */
     private static final Duration TO_MAKE = Duration.ofDays(1);
-    private static final String FAILED = "a decision was told to the mirror, and that failed";
 
-    /** A decision that a thread tells, and waits for: why it can't be told, or an empty text. */
-    private record Decision(String gtrid, List<BranchXid> xids, CompletableFuture<String> told) {
+    /** A decision that a thread tells, and waits for. */
+    private static final class Decision {
+        final String gtrid;
+        final List<BranchXid> xids;
+        boolean isOver;
+        String error;
+
+        Decision(String gtrid, List<BranchXid> xids) {
+            this.gtrid = gtrid;
+            this.xids = xids;
+        }
     }
 
     /** What a resource lists of the manager's; null if it can't be looked at. */
@@ -183,10 +190,10 @@ final class Mirror {
      * is to end. It stands all the same, as the log has it.
      */
     void add(String gtrid, List<BranchXid> xids) throws Fault.Lost {
-        Decision mine = new Decision(gtrid, xids, new CompletableFuture<>());
+        Decision mine = new Decision(gtrid, xids);
         asked.add(mine);
         synchronized (asked) {
-            if (!mine.told.isDone()) {
+            if (!mine.isOver) {
                 List<Decision> some = new ArrayList<>();
                 for (Decision one = asked.poll(); one != null; one = asked.poll()) {
                     some.add(one);
@@ -194,25 +201,24 @@ final class Mirror {
                 addAll(some);
             }
         }
-        // Not even told, if the thread that had taken it met an error of the Java machine.
-        String error = mine.told.getNow(FAILED);
-        if (!error.isEmpty()) {
-            throw new Fault.Lost(error, null);
+        if (mine.error != null) {
+            throw new Fault.Lost(mine.error, null);
         }
     }
 
     private void addAll(List<Decision> some) {
-        String error = FAILED;
+        Map<String, List<BranchXid>> all = new LinkedHashMap<>();
+        some.forEach(one -> all.put(one.gtrid, one.xids));
+        String error = "a decision was told to the mirror, and that failed";
         try {
-            Map<String, List<BranchXid>> all = new LinkedHashMap<>();
-            some.forEach(one -> all.put(one.gtrid, one.xids));
-            error = adding.once(at -> adding.insert(at, all, incarnation)) ? ""
+            error = adding.once(at -> adding.insert(at, all, incarnation)) ? null
                 : "the mirror is in a later session of this manager: another machine has taken over";
         } catch (Fault raised) {
             error = "decisions can't be told to the mirror: " + raised.getMessage();
         } finally {
             for (Decision one : some) {
-                one.told.complete(error);
+                one.error = error;
+                one.isOver = true;
             }
         }
     }
@@ -274,9 +280,11 @@ final class Mirror {
         List<String> names = new ArrayList<>();
         try {
             any.make();
-            Map<String, String> known = any.once(any::managers);
-            known.values().removeIf(path -> !Path.of(path).getFileName().equals(here.getFileName()));
-            known.keySet().stream().filter(name -> KeptLog.isNamed(name, given)).forEach(names::add);
+            any.once(any::managers).forEach((name, path) -> {
+                if (Path.of(path).getFileName().equals(here.getFileName()) && KeptLog.isNamed(name, given)) {
+                    names.add(name);
+                }
+            });
         } catch (Fault.Lost error) {
             throw new Fault.Unavailable("the mirror can't be read", error);
         } finally {

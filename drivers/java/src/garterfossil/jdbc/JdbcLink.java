@@ -2,18 +2,15 @@ package garterfossil.jdbc;
 
 import garterfossil.Fault;
 import garterfossil.Link;
-import garterfossil.Manager;
-import java.lang.System.Logger.Level;
 import java.sql.Connection;
 import java.sql.SQLException;
 import java.sql.Statement;
 import java.time.Duration;
-import java.util.ArrayDeque;
 import java.util.ArrayList;
-import java.util.Deque;
+import java.util.Collections;
 import java.util.IdentityHashMap;
 import java.util.List;
-import java.util.Map;
+import java.util.Set;
 import javax.sql.XAConnection;
 import javax.transaction.xa.XAResource;
 
@@ -21,15 +18,15 @@ import javax.transaction.xa.XAResource;
 final class JdbcLink implements Link {
     /** What takes a setting of the connection back. */
     interface Undo {
-        void run() throws Exception;
+        void run() throws SQLException;
     }
 
     private final JdbcResource owner;
     private final XAConnection xa;
-    final Connection connection;
-    private final Deque<Undo> undos = new ArrayDeque<>();
-    // Those that are open on it, each with the handle that made it. Under the monitor of this.
-    private final Map<Statement, Object> statements = new IdentityHashMap<>();
+    private final Connection connection;
+    private final List<Undo> undos = new ArrayList<>();
+    // Those that are open on it, under the monitor of this object.
+    private final Set<Statement> statements = Collections.newSetFromMap(new IdentityHashMap<>());
     private final JdbcXaResource resource;
     private final long number;
     private boolean isSuspect;
@@ -50,9 +47,13 @@ final class JdbcLink implements Link {
         }
     }
 
+    Connection connection() {
+        return connection;
+    }
+
     /** A setting was changed: this takes it back. */
     void undoLater(Undo undo) {
-        undos.push(undo);
+        undos.add(undo);
     }
 
     /** An error was met on it: it is asked before it is used again. */
@@ -75,24 +76,20 @@ final class JdbcLink implements Link {
         resource.bound(longest);
     }
 
-    synchronized void opened(Statement statement, Object handle) {
-        statements.put(statement, handle);
+    synchronized void opened(Statement statement) {
+        statements.add(statement);
     }
 
     synchronized void closed(Statement statement) {
         statements.remove(statement);
     }
 
-    /** Closes what a handle has opened, or with null what all have. */
-    void closeStatements(Object handle) throws SQLException {
-        List<Statement> open = new ArrayList<>();
+    /** Rows that are still read would be read in the next transaction, and fail there. */
+    private void closeStatements() throws SQLException {
+        List<Statement> open;
         synchronized (this) {
-            statements.forEach((statement, of) -> {
-                if (handle == null || of == handle) {
-                    open.add(statement);
-                }
-            });
-            statements.keySet().removeAll(open);
+            open = new ArrayList<>(statements);
+            statements.clear();
         }
         for (Statement statement : open) {
             statement.close();
@@ -121,18 +118,18 @@ final class JdbcLink implements Link {
     @Override
     public boolean reset() {
         try {
-            // Rows that are still read would be read in the next transaction, and fail there.
-            closeStatements(null);
-            while (!undos.isEmpty()) {
-                undos.pop().run();
+            closeStatements();
+            for (int at = undos.size() - 1; at >= 0; at--) {
+                undos.get(at).run();
             }
+            undos.clear();
             if (!connection.getAutoCommit()) {
                 connection.rollback();
                 connection.setAutoCommit(true);
             }
             owner.dialect(connection).labelAgain(connection, owner.label());
             connection.clearWarnings();
-        } catch (Exception error) {
+        } catch (SQLException | RuntimeException error) {
             return false;
         }
         boolean isGood = !isSuspect || isUsable();
@@ -142,14 +139,10 @@ final class JdbcLink implements Link {
 
     @Override
     public void close() {
-        close(xa);
-    }
-
-    static void close(XAConnection xa) {
         try {
             xa.close();
         } catch (SQLException | RuntimeException error) {
-            Manager.LOG.log(Level.DEBUG, "a connection can't be closed", error);
+            System.getLogger("garterfossil").log(System.Logger.Level.DEBUG, "a connection can't be closed", error);
         }
     }
 }

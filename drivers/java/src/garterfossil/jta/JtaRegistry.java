@@ -3,7 +3,6 @@ package garterfossil.jta;
 import garterfossil.GlobalTransaction;
 import garterfossil.Manager;
 import garterfossil.Outcome;
-import java.util.Objects;
 import javax.transaction.Status;
 import javax.transaction.Synchronization;
 import javax.transaction.TransactionSynchronizationRegistry;
@@ -24,12 +23,18 @@ public final class JtaRegistry implements TransactionSynchronizationRegistry {
 
     @Override
     public void putResource(Object key, Object value) {
-        required().keep(Objects.requireNonNull(key, "no key"), value);
+        if (key == null) {
+            throw new NullPointerException("no key");
+        }
+        required().keep(key, value);
     }
 
     @Override
     public Object getResource(Object key) {
-        return required().thing(Objects.requireNonNull(key, "no key"));
+        if (key == null) {
+            throw new NullPointerException("no key");
+        }
+        return required().thing(key);
     }
 
     @Override
