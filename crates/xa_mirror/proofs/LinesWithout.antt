@@ -10,7 +10,7 @@ use Rattle.xa_base.specs.declared.step.Outcome.TheVariants as Outcome
 use Rattle.xa_base.specs.declared.step.Part.TheVariants as Part
 use Rattle.xa_mirror.proofs.FactsWithout.{begun_is, broken_is, either, handed_is, log_is, page_is, records_are, taken_is, up_is}
 use Rattle.xa_mirror.proofs.RowsWithout.{none_listed, others_listed}
-use Rattle.xa_mirror.specs.HistoryWithout.{HasDecision, IsUntouched, history_without}
+use Rattle.xa_mirror.specs.HistoryWithout.{IsLeftUntouched, IsToCommitIn, history_without}
 use Rattle.xa_model.specs.Facts.{begun, claimed, decided_so, handed_over, has_record, has_row, issued, lists_one_of, lists_row, live, log, new_calls, next_call, page, recorded, resolving_calls}
 use Rattle.xa_model.specs.Trace.{Branch, Gtrid, Happening.Claimed, Happening.Crashed, Happening.Decided, Happening.Failed, Happening.Nothing, Happening.Resolved, Happening.ResolvedOpen, Happening.Restarted, Kind.Commit, Kind.Forget, Kind.Rollback, Line, Name, Name.Foreign, Name.Ours, Trace, Trace.From, Trace.Then, line, line_eq}
 
@@ -71,7 +71,7 @@ module _ (g : Gtrid) where
   claimed_is (Then tr (Restarted i d n)) h free = refl
   claimed_is (Then tr _) h free = claimed_is tr h free
 
-  pub rolled_back_is : (tr : Trace) → IsUntouched g tr → (h : Gtrid) → decided_so Outcome.Rollback (o tr) h ≡ decided_so Outcome.Rollback tr h
+  pub rolled_back_is : (tr : Trace) → IsLeftUntouched g tr → (h : Gtrid) → decided_so Outcome.Rollback (o tr) h ≡ decided_so Outcome.Rollback tr h
   rolled_back_is (From x) still h = refl
   rolled_back_is (Then tr (Decided k Outcome.Commit)) still h =
       either (λ e. decided_so Outcome.Rollback (Then (o tr) e) h ≡ decided_so Outcome.Rollback tr h) k (gtrid_eq k g)
@@ -96,7 +96,7 @@ module _ (g : Gtrid) where
   rolled_back_is (Then tr (Failed f)) still h = rolled_back_is tr still.0 h
   rolled_back_is (Then tr _) still h = rolled_back_is tr still.0 h
 
-  pub live_is : (tr : Trace) → IsUntouched g tr → (h : Gtrid) → IsFree tr h → live (o tr) h ≡ live tr h
+  pub live_is : (tr : Trace) → IsLeftUntouched g tr → (h : Gtrid) → IsFree tr h → live (o tr) h ≡ live tr h
   live_is tr still h free = λ i.
       begun_is g tr h i && not (committed_is tr h free i || (rolled_back_is tr still h i || handed_is g tr h i))
 
@@ -109,7 +109,7 @@ module _ (g : Gtrid) where
       by true true q is = cc
       by false true q is = cc
 
-  pub live_still : (tr : Trace) → IsUntouched g tr → (h : Gtrid) → live tr h ≡ true → live (o tr) h ≡ true
+  pub live_still : (tr : Trace) → IsLeftUntouched g tr → (h : Gtrid) → live tr h ≡ true → live (o tr) h ≡ true
   live_still tr still h is = live_is tr still h (live_free tr h is) ∙ is
 
   -- ** rows and records
@@ -126,7 +126,7 @@ module _ (g : Gtrid) where
   -- ** calls
 
   -- recovery issues the same calls
-  same_calls : (tr : Trace) → IsUntouched g tr → (names : List Name) → (HasDecision tr g → lists_one_of g names ≡ false)
+  same_calls : (tr : Trace) → IsLeftUntouched g tr → (names : List Name) → (IsToCommitIn tr g → lists_one_of g names ≡ false)
       → resolving_calls (o tr) names ≡ resolving_calls tr names
   same_calls tr still [] none = refl
   same_calls tr still (Foreign x ∷ names) none = same_calls tr still names none
@@ -151,7 +151,7 @@ module _ (g : Gtrid) where
               all_same (live_is tr still b.gtrid (inr (ap (decided_so Outcome.Commit tr) it ∙ parts.0)))
               (ap (has_row (o tr)) it ∙ (row_gone tr ∙ (sym parts.1 ∙ ap (has_row tr) (sym it)))) rest
 
-  pub issued_are : (tr : Trace) → IsUntouched g tr → (l : Line) → issued (o tr) l ≡ issued tr l
+  pub issued_are : (tr : Trace) → IsLeftUntouched g tr → (l : Line) → issued (o tr) l ≡ issued tr l
   issued_are (From x) still l = refl
   issued_are (Then tr (Decided h Outcome.Commit)) still l =
       either (λ e. issued (Then (o tr) e) l ≡ issued tr l ++ []) h (gtrid_eq h g) (ap (λ xs. xs ++ []) (issued_are tr still.0 l)) (ap (λ xs. xs ++ []) (issued_are tr still.0 l))
@@ -165,5 +165,5 @@ module _ (g : Gtrid) where
       then ((λ i. resolving_calls (Then (o tr) (ResolvedOpen r)) (page_is g tr r i)) ∙ same_calls (Then tr (ResolvedOpen r)) still (page tr r) still.1) i else [])
   issued_are (Then tr e) still l = λ i. if broken_is g tr e l i then [] else issued_are tr still.0 l i ++ new_calls tr e l
 
-  pub next_call_is : (tr : Trace) → IsUntouched g tr → (l : Line) → next_call (o tr) l ≡ next_call tr l
+  pub next_call_is : (tr : Trace) → IsLeftUntouched g tr → (l : Line) → next_call (o tr) l ≡ next_call tr l
   next_call_is tr still l = λ i. slice_get (issued_are tr still l i) (length (taken_is g tr l i))

@@ -16,7 +16,7 @@ use Rattle.xa_base.specs.declared.state.Standing.TheVariants.{Active, Committed,
 use Rattle.xa_log.specs.Content.{Content, participants_of}
 use Rattle.xa_log.specs.KeySet.{contains, contains-from_list, from_list}
 use Rattle.xa_log.specs.KeySet.{empty as nobody}
-use Rattle.xa_mirror.specs.Mirrors.{AllAreOver, IsMirrorFor, IsOver, NoneIsCommitted}
+use Rattle.xa_mirror.specs.Mirrors.{AllAreOver, IsCommitOver, IsMirrorFor, NoneIsCommitted}
 use Rattle.xa_model.specs.Facts.{has_branch, has_record, lists_row, participants_in}
 use Rattle.xa_model.specs.Trace.{Branch, Gtrid, Origin, Row}
 use Rattle.xa_server.proofs.LeftLogs.{raised_once, start_of}
@@ -32,7 +32,7 @@ use Rattle.xa_tm.specs.Starting.{StartsHaveContent}
 
 -- ** standings
 
-over_kept : (f : Standing) → IsOver f → IsKept (broken f)
+over_kept : (f : Standing) → IsCommitOver f → IsKept (broken f)
 over_kept Unstarted h = tt
 over_kept Committed h = tt
 over_kept ReadOnly h = tt
@@ -40,7 +40,7 @@ over_kept (Completed how) h = tt
 over_kept (Forgotten how) h = tt
 over_kept _ h = absurd h
 
-over_past : (f : Standing) → IsOver f → IsPast (broken f)
+over_past : (f : Standing) → IsCommitOver f → IsPast (broken f)
 over_past Unstarted h = tt
 over_past Committed h = tt
 over_past ReadOnly h = tt
@@ -48,7 +48,7 @@ over_past (Completed how) h = tt
 over_past (Forgotten how) h = tt
 over_past _ h = absurd h
 
-over_if : (f : Standing) → IsKept (broken f) → IsPast (broken f) → IsOver f
+over_if : (f : Standing) → IsKept (broken f) → IsPast (broken f) → IsCommitOver f
 over_if Unstarted k p = tt
 over_if Active k p = absurd k
 over_if Idle k p = absurd k
@@ -61,10 +61,10 @@ over_if ReadOnly k p = tt
 over_if (Completed how) k p = tt
 over_if (Forgotten how) k p = tt
 
-unstarted_over : (f : Standing) → broken f ≡ Unstarted → IsOver f
+unstarted_over : (f : Standing) → broken f ≡ Unstarted → IsCommitOver f
 unstarted_over f e = over_if f (subst IsKept (sym e) tt) (subst IsPast (sym e) tt)
 
-committed_over : (f : Standing) → broken f ≡ Committed → IsOver f
+committed_over : (f : Standing) → broken f ≡ Committed → IsCommitOver f
 committed_over f e = over_if f (subst IsKept (sym e) tt) (subst IsPast (sym e) tt)
 
 past_not_prepared : (f : Standing) → IsPast f → f ≡ Prepared → ⊥
@@ -123,7 +123,7 @@ all_over g f b (Only_one d others) q e = λ c r. by c r (branch_eq c d) refl
     begun true p = branch_eq-true b d p
     begun false p = absurd (let x : Unstarted ≡ Committed = sym (others b q (apart b p)) ∙ e in cc)
 
-    by : (c : Branch) → c.gtrid ≡ g → (t : Bool) → branch_eq c d ≡ t → IsOver (f c)
+    by : (c : Branch) → c.gtrid ≡ g → (t : Bool) → branch_eq c d ≡ t → IsCommitOver (f c)
     by c r true p = committed_over (f c) (ap (λ x. broken (f x)) (branch_eq-true c d p ∙ sym (begun (branch_eq b d) refl)) ∙ e)
     by c r false p = unstarted_over (f c) (others c r (apart c p))
 
@@ -133,7 +133,7 @@ decided_over g f o none (inl row) = absurd (true≢false (sym row ∙ none))
 decided_over g f o none (inr over) = λ b q. over_if (f b) (over.1 b q).0 (over.1 b q).1
 
 -- with a row, if all that it waits for are over
-over_unless : (f : Standing) → IsKept (broken f) → (f ≡ Prepared → IsOver f) → IsOver f
+over_unless : (f : Standing) → IsKept (broken f) → (f ≡ Prepared → IsCommitOver f) → IsCommitOver f
 over_unless Unstarted k n = tt
 over_unless Active k n = absurd k
 over_unless Idle k n = absurd k
@@ -152,7 +152,7 @@ waits_at (Some set) b e = e
 waits_at None b e = absurd (true≢false (sym e))
 
 pub participants_over : (g : Gtrid) (c : Content) (f : Branch → Standing) (next : Origin) → IsRaisedFrom c next → Stands g next (λ b. broken (f b))
-    → is_some (get c.decisions g) ≡ true → ((b : Branch) → contains (participants_of c g) b ≡ true → IsOver (f b)) → AllAreOver g f
+    → is_some (get c.decisions g) ≡ true → ((b : Branch) → contains (participants_of c g) b ≡ true → IsCommitOver (f b)) → AllAreOver g f
 participants_over g c f next from_c stands row over b q =
     over_unless (f b) (stands.kept has b q)
     (λ p. over b (waits_at (get c.decisions g) b (sym (waits_in_log c next from_c g b) ∙ stands.covers has b q (ap broken p))))

@@ -12,14 +12,14 @@ use Rattle.xa_base.specs.declared.step.Outcome.TheVariants as Outcome
 use Rattle.xa_mirror.proofs.FactsWithout.{begun_is, handed_is, incarnation_is, lately_is, log_is, next_answer_is, records_are, retries_are, sequence_is, standing_is, started_is, told_is, up_is, vote_is}
 use Rattle.xa_mirror.proofs.LinesWithout.{claimed_is, issued_are, live_free, live_still, next_call_is, record_is, rolled_back_is, row_there}
 use Rattle.xa_mirror.proofs.RowsWithout.{others_apart, others_wait}
-use Rattle.xa_mirror.specs.HistoryWithout.{IsRightWithout, IsUntouched, LeavesUntouched, fault_without, history_without, others}
+use Rattle.xa_mirror.specs.HistoryWithout.{IsLeftUntouched, IsRightWithout, LeavesUntouched, fault_without, history_without, others}
 use Rattle.xa_model.proofs.Invariant.RowLists.{without_keeps}
 use Rattle.xa_model.specs.Facts.{acknowledges, claimed, decided_so, each_of_some, handed_over, has_gtrid, is_settled, is_settled_lately, issued, log, outlived, participants, participants_in, says_read_only, says_yes, says_yes_in}
 use Rattle.xa_model.specs.Facts.Distinct.{EachOnce}
 use Rattle.xa_model.specs.Protocol.{AllHaveVoted, AllRight, HasVoted, IsKnown, IsOpen, IsRowSettled, IsSoundPage, MayBeCalled, Right, RightCall, RightDecision, RightDone, RightFault, RightIssue, RightRow, SoundAnswer, call_code}
 use Rattle.xa_model.specs.Trace.{Answer, Branch, Call, Fault, Fault.InDecide, Fault.InDone, Fault.InHear, Fault.InResolve, Fault.InRestart, Gtrid, Happening, Happening.Begun, Happening.Claimed, Happening.CompletedAlone, Happening.Decided, Happening.Done, Happening.Failed, Happening.Heard, Happening.Issued, Happening.Nothing, Happening.Resolved, Happening.ResolvedOpen, Happening.Restarted, Happening.Took, Kind, Kind.Commit, Kind.End, Kind.Forget, Kind.Join, Kind.OnePhase, Kind.Prepare, Kind.Rollback, Kind.Start, Line, Outcome as AnOutcome, Trace, Trace.From, Trace.Then, line}
 
-module _ (g : Gtrid) (tr : Trace) (still : IsUntouched g tr) where
+module _ (g : Gtrid) (tr : Trace) (still : IsLeftUntouched g tr) where
   abbrev ur : Trace
   ur = history_without g tr
 
@@ -204,7 +204,7 @@ module _ (g : Gtrid) (tr : Trace) (still : IsUntouched g tr) where
   one_more _ leaves r all = (all, tt)
 
 module _ (g : Gtrid) where
-  all_right : (tr : Trace) → AllRight tr → IsUntouched g tr → AllRight (history_without g tr)
+  all_right : (tr : Trace) → AllRight tr → IsLeftUntouched g tr → AllRight (history_without g tr)
   all_right (From x) old still = record {
     rows_old = λ h listed. old.rows_old h (without_keeps g h x.rows listed);
     record_old = old.record_old;
@@ -213,7 +213,7 @@ module _ (g : Gtrid) where
   }
   all_right (Then tr e) all still = one_more g tr still.0 e still.1 all.1 (all_right tr all.0 still.0)
 
-  pub right_without : (tr : Trace) → AllRight tr → IsUntouched g tr → IsRightWithout g tr
+  pub right_without : (tr : Trace) → AllRight tr → IsLeftUntouched g tr → IsRightWithout g tr
   right_without tr all still = record {
     right = all_right tr all still;
     there = standing_is g tr;

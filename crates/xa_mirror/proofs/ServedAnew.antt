@@ -15,7 +15,7 @@ use Rattle.xa_log.specs.KeySet.{contains}
 use Rattle.xa_mirror.proofs.MirroredRows.{all_over, decided_over, left_never, mirror_commits, mirror_never, mirror_row_commits, mirror_stands, participants_over, row_in_log}
 use Rattle.xa_mirror.proofs.OneSession.{one_more, start_raised}
 use Rattle.xa_mirror.specs.ToldMirrors.{WasHandedRow}
-use Rattle.xa_mirror.specs.Mirrors.{AllAreOver, AreServedAnew, AreServedAnew.Between, AreServedAnew.MadeAnew, AreServedAnew.NoneYet, AreServedAnew.OneMore, FailoversAgree, IsOver, SomeIsCommitted, WasLeftDecided, WasLeftUndecided}
+use Rattle.xa_mirror.specs.Mirrors.{AllAreOver, AreServedAnew, AreServedAnew.Between, AreServedAnew.MadeAnew, AreServedAnew.NoneYet, AreServedAnew.OneMore, FailoversAgree, IsCommitOver, SomeIsCommitted, WasLeftWithRow, WasLeftWithoutRow}
 use Rattle.xa_model.specs.Facts.{has_record, lists_row}
 use Rattle.xa_model.specs.Promises.Agreement.{IsUndone}
 use Rattle.xa_model.specs.Trace.{Branch, Gtrid, How, Line, Origin}
@@ -66,7 +66,7 @@ module _ {L : Type 0} (moment : L → Moment) (laws : Laws L) (content : StartsH
   starts_stand _ _ (MadeAnew c d f before mirror) = λ next from_d. mirror_stands content apart g c d f mirror (starts_stand c f before) next from_d
 
   -- what was left decided is to commit
-  starts_commit : (c : Content) (f : Branch → Standing) (served : AreServedAnew moment name g c f) → WasLeftDecided moment name g c f served
+  starts_commit : (c : Content) (f : Branch → Standing) (served : AreServedAnew moment name g c f) → WasLeftWithRow moment name g c f served
       → (next : Origin) → IsRaisedFrom c next → Commits g next (λ b. broken (f b))
   starts_commit _ _ (NoneYet c empty) was next from_c = absurd was
   starts_commit _ _ (OneMore c d from to handed o told seen now left done cut before has is is_left honest may leaves) (inl row) next from_d =
@@ -86,7 +86,7 @@ module _ {L : Type 0} (moment : L → Moment) (laws : Laws L) (content : StartsH
       (starts_commit c f before was.1 (start_of c) (raised_once content apart c))
 
   -- what was left undecided, with none committed, never is
-  starts_never : (c : Content) (f : Branch → Standing) (served : AreServedAnew moment name g c f) → WasLeftUndecided moment name g c f served
+  starts_never : (c : Content) (f : Branch → Standing) (served : AreServedAnew moment name g c f) → WasLeftWithoutRow moment name g c f served
       → (next : Origin) → IsRaisedFrom c next → NeverCommits g next (λ b. broken (f b))
   starts_never _ _ (NoneYet c empty) was next from_c = absurd was
   starts_never _ _ (OneMore c d from to handed o told seen now left done cut before has is is_left honest may leaves) (inl was) next from_d =
@@ -121,7 +121,7 @@ module _ {L : Type 0} (moment : L → Moment) (laws : Laws L) (content : StartsH
       undone = λ b q u. sym row ∙ undone_no_row g (start_of c) (λ b. broken (f b)) stands b q (undone_broken (f b) u);
     }
 
-    pub anew_commits : WasLeftDecided moment name g c f served → IsToCommit g f c
+    pub anew_commits : WasLeftWithRow moment name g c f served → IsToCommit g f c
     anew_commits was =
         let commits = starts_commit c f served was (start_of c) from_c in
         record {
@@ -129,15 +129,15 @@ module _ {L : Type 0} (moment : L → Moment) (laws : Laws L) (content : StartsH
           row_stays = λ b q p. sym row ∙ commits_row g (start_of c) (λ b. broken (f b)) stands commits b q (ap broken p);
         }
 
-    pub anew_never : WasLeftUndecided moment name g c f served → IsNeverCommitted g f c
+    pub anew_never : WasLeftWithoutRow moment name g c f served → IsNeverCommitted g f c
     anew_never was =
         let never = starts_never c f served was (start_of c) from_c in
         record { never_committed = λ b q e. never.none b q (ap broken e); no_row = sym row ∙ never.no_row }
 
-    pub waited_over : is_some (get c.decisions g) ≡ true → ((b : Branch) → contains (participants_of c g) b ≡ true → IsOver (f b)) → AllAreOver g f
+    pub waited_over : is_some (get c.decisions g) ≡ true → ((b : Branch) → contains (participants_of c g) b ≡ true → IsCommitOver (f b)) → AllAreOver g f
     waited_over has over = participants_over g c f (start_of c) from_c stands has over
 
-    pub settled_over : is_some (get c.decisions g) ≡ false → SomeIsCommitted g f ⊎ WasLeftDecided moment name g c f served → AllAreOver g f
+    pub settled_over : is_some (get c.decisions g) ≡ false → SomeIsCommitted g f ⊎ WasLeftWithRow moment name g c f served → AllAreOver g f
     settled_over none (inl some) = all_over g f some.0 (stands.no_row (row ∙ none)) some.1 (ap broken some.2)
     settled_over none (inr was) = decided_over g f (start_of c) (row ∙ none) (starts_commit c f served was (start_of c) from_c)
 
@@ -190,7 +190,7 @@ module _ {L : Type 0} (moment : L → Moment) (content : StartsHaveContent) (apa
 
   -- what was left of a row
   left_row : (last : Option (Server L)) (f : Branch → Standing) (served : AreServed moment name last f) (c : Content) (was : WasLeft moment last c)
-      → is_some (get c.decisions g) ≡ true → WasLeftDecided moment name g c f (served_anew moment name g last f served c was)
+      → is_some (get c.decisions g) ≡ true → WasLeftWithRow moment name g c f (served_anew moment name g last f served c was)
   unfolding served_anew
   left_row _ _ No_session c was row = absurd (empty_none c was row)
   left_row _ _ (One_session last from to handed o told seen now left done cut before handed_on is is_left honest may) c was row = inl row
@@ -198,7 +198,7 @@ module _ {L : Type 0} (moment : L → Moment) (content : StartsHaveContent) (apa
 
   -- one of these sessions was handed a log that has it
   pub handed_row : (last : Option (Server L)) (f : Branch → Standing) (served : AreServed moment name last f) (c : Content) (was : WasLeft moment last c)
-      → WasHandedRow moment name g last f served → WasLeftDecided moment name g c f (served_anew moment name g last f served c was)
+      → WasHandedRow moment name g last f served → WasLeftWithRow moment name g c f (served_anew moment name g last f served c was)
   unfolding served_anew
   handed_row _ _ No_session c was handed_it = absurd handed_it
   handed_row _ _ (One_session last from to handed o told seen now left done cut before handed_on is is_left honest may) c was (inl row) =

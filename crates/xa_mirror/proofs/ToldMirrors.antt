@@ -9,7 +9,7 @@ use Rattle.xa_log.specs.Contract.{Moment}
 use Rattle.xa_mirror.proofs.IssuedCommits.{OnlyManagers, committed_issued, failed_issued, issued_behind, issued_seen, only_managers, untold_issued, were_issued}
 use Rattle.xa_mirror.proofs.MirroredRows.{committed_before}
 use Rattle.xa_mirror.proofs.ServedAnew.{handed_row, served_anew}
-use Rattle.xa_mirror.specs.Mirrors.{AllAreOver, FailoversAgree, IsOver, NoneIsCommitted, ParticipantsAreOver, SettledAreOver}
+use Rattle.xa_mirror.specs.Mirrors.{AllAreOver, FailoversAgree, IsCommitOver, NoneIsCommitted, ParticipantsAreOver, SettledAreOver}
 use Rattle.xa_mirror.specs.ToldMirrors.{AllToldCommitted, IsCommitIssued, NoCommitIssued, ToldFailoversAgree, ToldMirrorsAreMirrors, WasHandedRow, WasToldCommitted}
 use Rattle.xa_model.specs.Facts.{standing}
 use Rattle.xa_model.specs.Trace.{Branch, Fault, Gtrid, Origin, Trace}
@@ -99,7 +99,7 @@ module _ {L : Type 0} (moment : L → Moment) (content : StartsHaveContent) (apa
   either name g last f served c was has (inl none) = inl (none_committed name g last f served c was none)
   either name g last f served c was has (inr all) =
       inr (waited name g c f (served_anew moment name g last f served c was) has
-      (λ b waits. subst IsOver (sym (ends name last f served b Committed (all b waits))) tt))
+      (λ b waits. subst IsCommitOver (sym (ends name last f served b Committed (all b waits))) tt))
 
   pub told_mirrors : ToldMirrorsAreMirrors moment
   told_mirrors name g last f served log mirror was told = record {

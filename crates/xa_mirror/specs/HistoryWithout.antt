@@ -11,24 +11,24 @@ use Rattle.xa_model.specs.Trace.{Branch, Fault, Fault.InDecide, Fault.InDone, Gt
 -- ** what was done about a decision
 
 -- it is decided to commit it, in this process, or by a row
-abbrev pub HasDecision : Trace → Gtrid → Type 0
-HasDecision tr g = (decided_so Outcome.Commit tr g || has_row tr g) ≡ true
+abbrev pub IsToCommitIn : Trace → Gtrid → Type 0
+IsToCommitIn tr g = (decided_so Outcome.Commit tr g || has_row tr g) ≡ true
 
 -- The happening does nothing about it: it issues no xa_commit of a branch of the transaction, it
 -- resolves no page that lists one, and its row neither leaves the log nor is in doubt to have
 -- left.
 abbrev pub LeavesUntouched : Gtrid → Trace → Happening → Type 0
 LeavesUntouched g tr (Issued l (Calls.Commit b one_phase)) = gtrid_eq b.gtrid g ≡ false
-LeavesUntouched g tr (Resolved r) = HasDecision tr g → lists_one_of g (page tr r) ≡ false
-LeavesUntouched g tr (ResolvedOpen r) = HasDecision tr g → lists_one_of g (page tr r) ≡ false
+LeavesUntouched g tr (Resolved r) = IsToCommitIn tr g → lists_one_of g (page tr r) ≡ false
+LeavesUntouched g tr (ResolvedOpen r) = IsToCommitIn tr g → lists_one_of g (page tr r) ≡ false
 LeavesUntouched g tr (Done h) = gtrid_eq h g ≡ false
 LeavesUntouched g tr (Failed (InDone gs)) = has_gtrid gs g ≡ false
 LeavesUntouched g tr _ = Unit
 
 -- so does all that happened
-abbrev pub IsUntouched : Gtrid → Trace → Type 0
-IsUntouched g (From o) = Unit
-IsUntouched g (Then tr e) = IsUntouched g tr × LeavesUntouched g tr e
+abbrev pub IsLeftUntouched : Gtrid → Trace → Type 0
+IsLeftUntouched g (From o) = Unit
+IsLeftUntouched g (Then tr e) = IsLeftUntouched g tr × LeavesUntouched g tr e
 
 -- ** the history without it
 
@@ -66,4 +66,4 @@ pub record IsRightWithout (g : Gtrid) (tr : Trace) : Type 0 where
 
 -- A decision about which nothing was done may be left out of a right history.
 abbrev pub DecisionsMayBeLeftOut : Type 0
-DecisionsMayBeLeftOut = (g : Gtrid) (tr : Trace) → AllRight tr → IsUntouched g tr → IsRightWithout g tr
+DecisionsMayBeLeftOut = (g : Gtrid) (tr : Trace) → AllRight tr → IsLeftUntouched g tr → IsRightWithout g tr

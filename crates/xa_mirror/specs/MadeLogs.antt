@@ -22,7 +22,7 @@ MadeLogsHoldLines {L} moment =
 
 -- These are the lines of a log, and one that was in order and empty holds them now, as far as it
 -- has been honest.
-pub record IsMadeOf {L : Type 0} (moment : L → Moment) (lines : List (List ℕ)) (empty made : L) : Type 0 where
+pub record IsMadeOfLines {L : Type 0} (moment : L → Moment) (lines : List (List ℕ)) (empty made : L) : Type 0 where
   pub name : List ℕ
   pub rms : List (List ℕ)
   pub starts : ℕ

@@ -30,19 +30,19 @@ NoneIsCommitted g f = (b : Branch) → b.gtrid ≡ g → f b ≡ Committed → �
 abbrev pub SomeIsCommitted : Gtrid → (Branch → Standing) → Type 0
 SomeIsCommitted g f = (b : Branch) × (b.gtrid ≡ g) × (f b ≡ Committed)
 
--- The branch waits for nothing, and isn't undone: it is committed, it only read, its database
--- ended it by itself, or it never was.
-abbrev pub IsOver : Standing → Type 0
-IsOver Unstarted = Unit
-IsOver Committed = Unit
-IsOver ReadOnly = Unit
-IsOver (Completed how) = Unit
-IsOver (Forgotten how) = Unit
-IsOver _ = ⊥
+-- The commit is over for the branch: it waits for nothing, and isn't undone. It is committed, it
+-- only read, its database ended it by itself, or it never was.
+abbrev pub IsCommitOver : Standing → Type 0
+IsCommitOver Unstarted = Unit
+IsCommitOver Committed = Unit
+IsCommitOver ReadOnly = Unit
+IsCommitOver (Completed how) = Unit
+IsCommitOver (Forgotten how) = Unit
+IsCommitOver _ = ⊥
 
 -- each branch of the transaction is so
 abbrev pub AllAreOver : Gtrid → (Branch → Standing) → Type 0
-AllAreOver g f = (b : Branch) → b.gtrid ≡ g → IsOver (f b)
+AllAreOver g f = (b : Branch) → b.gtrid ≡ g → IsCommitOver (f b)
 
 -- What a mirror has of a transaction, if its branches stand so, and this was left in the log. It
 -- may lack the row: then none of the branches is committed, as of a decision that was lost with
@@ -107,51 +107,51 @@ AnewAgree {L} moment =
 
 -- The log that one of these sessions left has the row of the transaction, and so has each log that
 -- was made of a mirror since, as long as the log before it had it; or such a log has it.
-abbrev pub WasLeftDecided : {L : Type 0} (moment : L → Moment) (name : List ℕ) (g : Gtrid) (c : Content) (f : Branch → Standing)
+abbrev pub WasLeftWithRow : {L : Type 0} (moment : L → Moment) (name : List ℕ) (g : Gtrid) (c : Content) (f : Branch → Standing)
     → AreServedAnew moment name g c f → Type 0
-WasLeftDecided moment name g _ _ (NoneYet c is_empty) = ⊥
-WasLeftDecided moment name g _ _ (OneMore c d from to handed o told seen now left done cut before has is is_left honest may leaves) =
-    HasRowOf d g ⊎ WasLeftDecided moment name g c from before
-WasLeftDecided moment name g _ _ (Between c from to d before turns others) = WasLeftDecided moment name g c from before
-WasLeftDecided moment name g _ _ (MadeAnew c d f before mirror) = HasRowOf d g ⊎ (HasNoRowOf c g × WasLeftDecided moment name g c f before)
+WasLeftWithRow moment name g _ _ (NoneYet c is_empty) = ⊥
+WasLeftWithRow moment name g _ _ (OneMore c d from to handed o told seen now left done cut before has is is_left honest may leaves) =
+    HasRowOf d g ⊎ WasLeftWithRow moment name g c from before
+WasLeftWithRow moment name g _ _ (Between c from to d before turns others) = WasLeftWithRow moment name g c from before
+WasLeftWithRow moment name g _ _ (MadeAnew c d f before mirror) = HasRowOf d g ⊎ (HasNoRowOf c g × WasLeftWithRow moment name g c f before)
 
 -- Then it is to commit.
 abbrev pub AnewDecisionsStand : {L : Type 0} → (L → Moment) → Type 0
 AnewDecisionsStand {L} moment =
     (name : List ℕ) (g : Gtrid) (c : Content) (f : Branch → Standing) (served : AreServedAnew moment name g c f)
-    → WasLeftDecided moment name g c f served → IsToCommit g f c
+    → WasLeftWithRow moment name g c f served → IsToCommit g f c
 
 -- The log that one of these sessions left, or that was made of a mirror, has no row of the
 -- transaction, which is begun no more, and none of its branches stood committed then. No mirror
 -- since then has a row of it.
-abbrev pub WasLeftUndecided : {L : Type 0} (moment : L → Moment) (name : List ℕ) (g : Gtrid) (c : Content) (f : Branch → Standing)
+abbrev pub WasLeftWithoutRow : {L : Type 0} (moment : L → Moment) (name : List ℕ) (g : Gtrid) (c : Content) (f : Branch → Standing)
     → AreServedAnew moment name g c f → Type 0
-WasLeftUndecided moment name g _ _ (NoneYet c is_empty) = ⊥
-WasLeftUndecided moment name g _ _ (OneMore c d from to handed o told seen now left done cut before has is is_left honest may leaves) =
-    (HasNoRowOf d g × (g.incarnation ≤ d.incarnation) × NoneIsCommitted g to) ⊎ WasLeftUndecided moment name g c from before
-WasLeftUndecided moment name g _ _ (Between c from to d before turns others) = WasLeftUndecided moment name g c from before
-WasLeftUndecided moment name g _ _ (MadeAnew c d f before mirror) =
-    HasNoRowOf d g × (((g.incarnation ≤ d.incarnation) × NoneIsCommitted g f) ⊎ WasLeftUndecided moment name g c f before)
+WasLeftWithoutRow moment name g _ _ (NoneYet c is_empty) = ⊥
+WasLeftWithoutRow moment name g _ _ (OneMore c d from to handed o told seen now left done cut before has is is_left honest may leaves) =
+    (HasNoRowOf d g × (g.incarnation ≤ d.incarnation) × NoneIsCommitted g to) ⊎ WasLeftWithoutRow moment name g c from before
+WasLeftWithoutRow moment name g _ _ (Between c from to d before turns others) = WasLeftWithoutRow moment name g c from before
+WasLeftWithoutRow moment name g _ _ (MadeAnew c d f before mirror) =
+    HasNoRowOf d g × (((g.incarnation ≤ d.incarnation) × NoneIsCommitted g f) ⊎ WasLeftWithoutRow moment name g c f before)
 
 -- So none ever is. A decision that a mirror lacks is undone with its log: it is as if the log had
 -- failed in it.
 abbrev pub AnewUndecidedStays : {L : Type 0} → (L → Moment) → Type 0
 AnewUndecidedStays {L} moment =
     (name : List ℕ) (g : Gtrid) (c : Content) (f : Branch → Standing) (served : AreServedAnew moment name g c f)
-    → WasLeftUndecided moment name g c f served → IsNeverCommitted g f c
+    → WasLeftWithoutRow moment name g c f served → IsNeverCommitted g f c
 
 -- If the log that is left has no row of a transaction, and one of its branches is committed, or a
 -- log that was left before had the row, all of them are over.
 abbrev pub SettledAreOver : {L : Type 0} → (L → Moment) → Type 0
 SettledAreOver {L} moment =
     (name : List ℕ) (g : Gtrid) (c : Content) (f : Branch → Standing) (served : AreServedAnew moment name g c f) → HasNoRowOf c g
-    → SomeIsCommitted g f ⊎ WasLeftDecided moment name g c f served → AllAreOver g f
+    → SomeIsCommitted g f ⊎ WasLeftWithRow moment name g c f served → AllAreOver g f
 
 -- And so they are if the log has the row, and all that it waits for are over.
 abbrev pub ParticipantsAreOver : {L : Type 0} → (L → Moment) → Type 0
 ParticipantsAreOver {L} moment =
     (name : List ℕ) (g : Gtrid) (c : Content) (f : Branch → Standing) → AreServedAnew moment name g c f → HasRowOf c g
-    → ((b : Branch) → contains (participants_of c g) b ≡ true → IsOver (f b)) → AllAreOver g f
+    → ((b : Branch) → contains (participants_of c g) b ≡ true → IsCommitOver (f b)) → AllAreOver g f
 
 -- ** of all transactions
 

@@ -1,7 +1,7 @@
 //! A log is made of lines, and may be handed on.
 
 ghost use Rattle.std.specs.Prelude.{map, IfOk};
-ghost use Rattle.xa_mirror.specs.MadeLogs.{IsMadeOf};
+ghost use Rattle.xa_mirror.specs.MadeLogs.{IsMadeOfLines};
 
 use crate::laws::made_logs_hold_lines;
 use std::alloc::Global;
@@ -27,7 +27,7 @@ pub fn made_of_lines<L: DecisionLog + Drop>(
     lines: &[&str],
     mut log: L,
 ) -> Result<L, MadeFault>
-    ensures made { IfOk result (IsMadeOf L.moment (map (λ line. line.now) lines.now) log) }
+    ensures made { IfOk result (IsMadeOfLines L.moment (map (λ line. line.now) lines.now) log) }
 {
     made_logs_hold_lines::<L>();
     let named = match read_lines(alloc, lines) {

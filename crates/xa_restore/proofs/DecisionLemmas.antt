@@ -24,7 +24,7 @@ use Rattle.xa_log.specs.Contract.{FitsRow}
 use Rattle.xa_log.specs.declared.decision.Decision.{Decision}
 use Rattle.xa_requests.proofs.SpaceLemmas.{NoSpace, cut_word, decimal_text, last_word, xid_text}
 use Rattle.xa_requests.specs.Words.{words_of}
-use Rattle.xa_restore.specs.LogLines.{AreBranchesOf, AreOnce, branch_text, branch_words, decision_row_line, decision_words, stated}
+use Rattle.xa_restore.specs.LogLines.{AreBranchesOf, AreOnce, branch_xid_text, branch_words, decision_row_line, decision_words, stated}
 
 -- ** identifiers
 
@@ -54,7 +54,7 @@ xid_in_range b = record {
 }
 
 -- the text of a branch spells its identifier
-pub spells : (b : Branch) (word : List ℕ) → word ≡ branch_text b → Spells word (xid_of_branch b)
+pub spells : (b : Branch) (word : List ℕ) → word ≡ branch_xid_text b → Spells word (xid_of_branch b)
 spells b word is = (xid_in_range b, is)
 
 zeros : encode_lower (to_be_bytes w32 0 ++ to_be_bytes w32 0) ≡ codes "0000000000000000"
@@ -62,14 +62,14 @@ unfolding encode_with
 zeros = refl
 
 -- the text of the first branch of a transaction
-first_text : (g : Gtrid) → branch_text (record { gtrid = g; thread = 0; rm = 0 })
+first_text : (g : Gtrid) → branch_xid_text (record { gtrid = g; thread = 0; rm = 0 })
     ≡ decimal 7 ++ (58 ∷ (gtrid_text g ++ (58 ∷ codes "0000000000000000")))
 first_text g =
     text_parts (xid_of_branch (record { gtrid = g; thread = 0; rm = 0 }))
     ∙ ap (λ (zs : List ℕ). decimal 7 ++ (58 ∷ (gtrid_text g ++ (58 ∷ zs)))) zeros
 
 pub probe : (word : List ℕ) (g : Gtrid) → word ≡ gtrid_text g
-    → decimal 7 ++ (58 ∷ (word ++ (58 ∷ codes "0000000000000000"))) ≡ branch_text (record { gtrid = g; thread = 0; rm = 0 })
+    → decimal 7 ++ (58 ∷ (word ++ (58 ∷ codes "0000000000000000"))) ≡ branch_xid_text (record { gtrid = g; thread = 0; rm = 0 })
 probe word g is = ap (λ (w : List ℕ). decimal 7 ++ (58 ∷ (w ++ (58 ∷ codes "0000000000000000")))) is ∙ sym (first_text g)
 
 pub first_fits : (g : Gtrid) → FitsRow g → IsBranch (record { gtrid = g; thread = 0; rm = 0 })
@@ -125,13 +125,13 @@ pub record IsNext (g : Gtrid) (earlier : List Branch) (text : List ℕ) (b : Bra
   pub is : IsBranch b
   pub own : b.gtrid ≡ g
   pub once : All (λ c. branch_eq c b ≡ false) earlier
-  pub text_is : text ≡ branch_text b
+  pub text_is : text ≡ branch_xid_text b
 
 module _ (g : Gtrid) (words : List (Bor (List ℕ))) (bs earlier slice : List Branch) (i : ℕ) (w : Bor (List ℕ)) (b : Branch) where
-  pub next_branch : AreBranchesOf g bs → map (λ word. word.now) words ≡ map branch_text bs → earlier ≡ take i bs → slice ≡ earlier → i < length words
+  pub next_branch : AreBranchesOf g bs → map (λ word. word.now) words ≡ map branch_xid_text bs → earlier ≡ take i bs → slice ≡ earlier → i < length words
       → IsNext g slice (get_or words i w).now (get_or bs i b)
   next_branch are same got sliced short =
-      let here = at_place (λ (word : Bor (List ℕ)). word.now) branch_text words bs i w b same short in
+      let here = at_place (λ (word : Bor (List ℕ)). word.now) branch_xid_text words bs i w b same short in
       let Apart : List Branch → Type 0 = All (λ c. branch_eq c (get_or bs i b) ≡ false) in
       record {
         is = All-from_recursion IsBranch bs are.are i b here.0;
@@ -158,11 +158,11 @@ lower_text (c ∷ text) h =
     let other : c ≢ 32 = λ e. let no : is_lower_hex 32 ≡ true = subst (λ (b : ℕ). is_lower_hex b ≡ true) e both.0 in cc in
     All-cons (λ c. (c == 32) ≡ false) c text (ne_eqb c 32 other) (lower_text text both.1)
 
-words_after : (word : List ℕ) (bs : List Branch) → NoSpace word → words_of (word ++ branch_words bs) ≡ word ∷ map branch_text bs
+words_after : (word : List ℕ) (bs : List Branch) → NoSpace word → words_of (word ++ branch_words bs) ≡ word ∷ map branch_xid_text bs
 words_after word [] plain = ap words_of (append-nil word) ∙ last_word word plain
 words_after word (b ∷ bs) plain =
-    cut_word word (branch_text b ++ branch_words bs) plain
-    ∙ ap (λ ws. word ∷ ws) (words_after (branch_text b) bs (xid_text (xid_of_branch b) (xid_in_range b)))
+    cut_word word (branch_xid_text b ++ branch_words bs) plain
+    ∙ ap (λ ws. word ∷ ws) (words_after (branch_xid_text b) bs (xid_text (xid_of_branch b) (xid_in_range b)))
 
 -- the words of a decision's line
 pub line_words : (d : Decision) → length d.participants.items < 2 ^ 64 → words_of (decision_row_line d) ≡ decision_words d

@@ -16,12 +16,12 @@ abbrev pub incarnation_line : ℕ → List ℕ
 incarnation_line n = codes "incarnation " ++ decimal n
 
 -- the identifier of a branch
-abbrev pub branch_text : Branch → List ℕ
-branch_text b = text_of (xid_of_branch b)
+abbrev pub branch_xid_text : Branch → List ℕ
+branch_xid_text b = text_of (xid_of_branch b)
 
 -- and behind a space
 abbrev pub branch_word : Branch → List ℕ
-branch_word b = codes " " ++ branch_text b
+branch_word b = codes " " ++ branch_xid_text b
 
 abbrev pub branch_words : List Branch → List ℕ
 branch_words = flat_map branch_word
@@ -32,7 +32,7 @@ decision_row_line d = gtrid_text d.gtrid ++ codes " " ++ decimal (length d.parti
 
 -- the words of that line
 abbrev pub decision_words : Decision → List (List ℕ)
-decision_words d = gtrid_text d.gtrid ∷ decimal (length d.participants.items) ∷ map branch_text d.participants.items
+decision_words d = gtrid_text d.gtrid ∷ decimal (length d.participants.items) ∷ map branch_xid_text d.participants.items
 
 -- the participants are branches of the transaction
 abbrev pub OwnsBranches : Decision → Type 0

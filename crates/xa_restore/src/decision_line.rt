@@ -8,7 +8,7 @@ ghost use Rattle.xa_base.specs.declared.branch.Branch.{Branch};
 ghost use Rattle.xa_base.specs.declared.branch.Gtrid.{Gtrid};
 ghost use Rattle.xa_log.specs.Contract.{FitsRow};
 ghost use Rattle.xa_log.specs.declared.decision.Decision.{Decision};
-ghost use Rattle.xa_restore.specs.LogLines.{AreBranchesOf, AreOnce, IsRow, OwnsBranches, branch_text, branch_word, branch_words, decision_row_line, decision_words, stated};
+ghost use Rattle.xa_restore.specs.LogLines.{AreBranchesOf, AreOnce, IsRow, OwnsBranches, branch_xid_text, branch_word, branch_words, decision_row_line, decision_words, stated};
 
 use crate::spelling::is_written;
 use std::alloc::Global;
@@ -47,7 +47,7 @@ fn decision_line(alloc: Global, decision: &Decision) -> Result<String, Memory>
 
 /// The branch that a word names by its identifier.
 fn branch_named(word: &str) -> Option<Branch>
-    ensures found { (b : Branch) → IsBranch b → word.now ≡ branch_text b → result ≡ Some b }
+    ensures found { (b : Branch) → IsBranch b → word.now ≡ branch_xid_text b → result ≡ Some b }
 {
     Xid::parse(word).ok()?.branch()
 }
@@ -70,7 +70,7 @@ fn own_branch(gtrid: Gtrid, word: &str, earlier: &[Branch]) -> Option<Branch>
     ensures once { IfSome result (λ b. All (λ c. branch_eq c b ≡ false) earlier.now) }
     ensures found { (b : Branch) → IsBranch b → b.gtrid ≡ gtrid →
         All (λ c. branch_eq c b ≡ false) earlier.now →
-        word.now ≡ branch_text b → result ≡ Some b }
+        word.now ≡ branch_xid_text b → result ≡ Some b }
 {
     let branch = branch_named(word)?;
     if branch.gtrid != gtrid || earlier.contains(&branch) {
@@ -85,7 +85,7 @@ fn own_branches(alloc: Global, gtrid: Gtrid, words: &[&str]) -> Result<Option<Ve
         AllByRecursion (λ b. b.gtrid ≡ gtrid) branches.items)) }
     ensures once { IfOk result (λ branches. IfSome branches (λ branches. AreOnce branches.items)) }
     ensures found { (bs : List Branch) → AreBranchesOf gtrid bs →
-        map (λ word. word.now) words.now ≡ map branch_text bs →
+        map (λ word. word.now) words.now ≡ map branch_xid_text bs →
         IfOk result (λ found. IsSomeAnd found (λ branches. branches.items ≡ bs)) }
 {
     let mut branches = Vec::with_capacity(alloc, words.len())?;
