@@ -1,14 +1,12 @@
 //! The list of a log, over any log and any writer.
 
-ghost use Rattle.std.specs.Prelude.{◌≡◌, ◌≢◌, ◌⊎◌, Err, IfErr, OnOk};
+ghost use Rattle.std.specs.Prelude.{◌≡◌, ◌≢◌, IfErr, OnOk};
 ghost use Rattle.std.specs.Io.KnownBytes.{Keeps};
-ghost use Rattle.xa_files.specs.declared.fault.RunFault.TheVariants.{Log, Memory, Output};
-ghost use Rattle.xa_listing.specs.Faults.{CountsFault, IsListFault, TellsFault};
+ghost use Rattle.xa_files.specs.declared.fault.RunFault.TheVariants.{Output};
+ghost use Rattle.xa_listing.specs.Faults.{IsListFault};
+ghost use Rattle.xa_listing.specs.Looks.{OnlyLooks};
 ghost use Rattle.xa_listing.specs.Texts.{BeginsLog, PrintsLog};
-ghost use Rattle.xa_log.specs.Content.{unchanged};
-ghost use Rattle.xa_log.specs.Contract.{Honestly, LeavesNoMore};
-ghost use Rattle.xa_log.specs.Contract.{IsShutOrSame as IsKept};
-ghost use Rattle.xa_log.specs.declared.decision_log.LogCall.{LogCall};
+ghost use Rattle.xa_log.specs.Contract.{Honestly};
 
 use crate::faults::run_fault;
 use crate::lines::rows_text;
@@ -34,24 +32,7 @@ pub fn list_log<L: DecisionLog, W: Write>(log: &mut L, out: &mut W) -> Result<()
     ensures unwritten { IfErr result (λ e. e ≢ Output →
         Keeps (W.contents out.old) (W.contents out.new)) }
     ensures fault { IfErr result IsListFault }
-
-    // The log is as before, or a failure of its own has shut it.
-    ensures log { Honestly (L.moment log.old) (L.moment log.new)
-        (OnOk result ((L.moment log.new).content ≡ (L.moment log.old).content)) }
-    ensures kept { Honestly (L.moment log.old) (L.moment log.new)
-        (IsKept (L.moment log.old).content (L.moment log.new).content) }
-    ensures crash { Honestly (L.moment log.old) (L.moment log.new)
-        (LeavesNoMore (L.moment log.old).may_leave (L.moment log.new).may_leave) }
-    ensures order { (L.moment log.old).is_in_order → (L.moment log.new).is_in_order }
-    ensures honest { (L.moment log.new).is_honest → (L.moment log.old).is_honest }
-    ensures faults { CountsFault result (L.moment log.old).fault_count
-        (L.moment log.new).fault_count }
-    // A fault of the log is told as what it is.
-    ensures told { result ≡ Err Log →
-        TellsFault Log (L.says LogCall.Rows unchanged log.old log.new) }
-    ensures memory { result ≡ Err Memory →
-        ((L.moment log.new).fault_count ≡ (L.moment log.old).fault_count)
-        ⊎ TellsFault Memory (L.says LogCall.Rows unchanged log.old log.new) }
+    ensures looks { OnlyLooks L.DecisionLog log.old log.new result }
 {
     let rows = log.rows().map_err(run_fault)?;
     let text = rows_text(&rows)?;
