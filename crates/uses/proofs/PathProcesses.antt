@@ -32,7 +32,7 @@ use Rattle.xa_server.proofs.LeftSessions.{begun_under}
 use Rattle.xa_server.proofs.LogLemmas.{replies_keep}
 use Rattle.xa_server.proofs.TurnLemmas.{split_replies}
 use Rattle.xa_server.specs.Faults.{MayChangeRows}
-use Rattle.xa_server.specs.LeftSessions.{AreFoundDecided, GoesOn, HaveLeft, Databases, LeftSessionsAgree, ManagersAgree, ServedSessionsGoOn, SessionsBegin, under}
+use Rattle.xa_server.specs.LeftSessions.{AreFoundDecided, GoesOnFromLeft, HaveLeft, Databases, LeftSessionsAgree, ManagersAgree, ServedSessionsGoOn, SessionsBegin, under}
 use Rattle.xa_server.specs.Lines.{asked_in}
 use Rattle.xa_server.specs.NamedLines.{ServesUnder, line_read, lines_read}
 use Rattle.xa_server.specs.Performing.{Performs}
@@ -67,7 +67,7 @@ module _ {L : Type 0} (moment : L → Moment) (law : ServedSessionsGoOn moment) 
     (starts : StartsOver moment threads rms handed first) (honest : (moment (log_in last.session.manager)).is_honest) where
   -- all was replied
   on_after : (lines : List (List ℕ)) (replies : List Response) → HaveReplies moment (lines_read name lines) replies first last
-      → list_any is_log_fault replies ≡ false → GoesOn moment name lines replies handed last
+      → list_any is_log_fault replies ≡ false → GoesOnFromLeft moment name lines replies handed last
   on_after lines replies have fine = law name threads rms lines replies handed first last last starts have fine (λ seen. AfterLine) honest
 
   asked_so : (asked : Option Request) (request : Request) (mid next : Server L) → asked ≡ Some request
@@ -78,7 +78,7 @@ module _ {L : Type 0} (moment : L → Moment) (law : ServedSessionsGoOn moment) 
   on_failed : (lines : List (List ℕ)) (line : List ℕ) (replies : List Response) (request : Request)
       → HaveReplies moment (lines_read name (lines ++ line ∷ [])) (replies ++ responses.Refused LogFault ∷ []) first last
       → length lines ≡ length replies → list_any is_log_fault replies ≡ false → asked_in (line_read name line) ≡ Some request → MayChangeRows request
-      → GoesOn moment name lines replies handed last
+      → GoesOnFromLeft moment name lines replies handed last
   on_failed lines line replies request have long fine asks may =
       let parts = split_replies moment (lines_read name lines) (line_read name line ∷ []) replies (responses.Refused LogFault ∷ []) first last
       (read_length name lines ∙ long)
@@ -90,7 +90,7 @@ module _ {L : Type 0} (moment : L → Moment) (law : ServedSessionsGoOn moment) 
 
   goes_on : (turns : List Turn) (lines : List (List ℕ)) (replies : List Response)
       → HaveReplies moment (lines_read name (requests_done turns)) (replies_given turns) first last → WereReplied name turns lines replies
-      → GoesOn moment name lines replies handed last
+      → GoesOnFromLeft moment name lines replies handed last
   goes_on turns lines replies have (fine, inl both) =
       on_after lines replies
       (subst (λ ls. HaveReplies moment (lines_read name ls) replies first last) both.0
@@ -228,7 +228,7 @@ module _ {L : Type 0} (moment : L → Moment) (begin : SessionsBegin) (law : Man
     found : (c : Content) × ((moment handed).content ≡ Some c) × IsEmptyLog c
     found = some_is (moment handed).content IsEmptyLog empty.1
 
-    abbrev on : GoesOn moment name lines replies handed is.last
+    abbrev on : GoesOnFromLeft moment name lines replies handed is.last
     on = is.goes_on lines replies were honest
 
     pub has_left : (F : Databases) (c : Content) (done cut : List Line) → LeavesIt (moment left) c

@@ -16,7 +16,7 @@ use Rattle.xa_base.specs.declared.refusal.Refusal.TheVariants.{LogFault}
 use Rattle.xa_requests.specs.declared.request.Request.{Request}
 use Rattle.xa_requests.specs.declared.response.Response.{Response}
 use Rattle.xa_requests.specs.declared.response.Response.TheVariants as responses
-use Rattle.xa_server.specs.LeftSessions.{AreFoundDecided, AreLeftAlike, Databases, GoesOn, HaveLeft, under}
+use Rattle.xa_server.specs.LeftSessions.{AreFoundDecided, AreLeftAlike, Databases, GoesOnFromLeft, HaveLeft, under}
 use Rattle.xa_server.specs.Faults.{MayChangeRows}
 use Rattle.xa_server.specs.Lines.{asked_in, text_lines}
 use Rattle.xa_server.specs.NamedLines.{line_read, lines_read, text_written}
@@ -61,7 +61,7 @@ pub record IsSessionOver {L : Type 0} (moment : L → Moment) (name : List ℕ) 
   pub honest : (moment left).is_honest → (moment handed).is_honest
   pub goes_on :
       (lines : List (List ℕ)) (replies : List Response) → WereReplied name told.turns lines replies → (moment left).is_honest
-      → GoesOn moment name lines replies handed last
+      → GoesOnFromLeft moment name lines replies handed last
 
 -- ** one process
 

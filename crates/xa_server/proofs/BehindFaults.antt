@@ -25,7 +25,7 @@ use Rattle.xa_server.proofs.FaultLemmas.{decided_is_no_refusal, fault_is_told, n
 use Rattle.xa_server.specs.Faults.{AllAreOfSome, IsOfSome, IsOfSomeIn, LogFails, LogFails.InAnswer, LogFails.InRequest, MayChangeRows, NothingBehindFaults}
 use Rattle.xa_server.specs.Lines.{asked_in}
 use Rattle.xa_server.specs.Performing.{Performs}
-use Rattle.xa_server.specs.Releasing.{ReleasesAll, ended_by, if_taken, is_taken, transaction_of}
+use Rattle.xa_server.specs.Releasing.{ReleasesAll, ended_by, if_taken, says_taken, transaction_of}
 use Rattle.xa_server.specs.Replies.{response_of}
 use Rattle.xa_server.specs.Serving.{HaveReplies, RepliesBy}
 use Rattle.xa_server.specs.Standing.{LacksMemory, OnlyTells, StandsFor}
@@ -94,14 +94,14 @@ module _ {L : Type 0} (old mid : Server L) where
   -- nothing changed, and no transaction ended
   record IsStill (reply : Response) : Type 0 where
     same : mid ≡ old
-    untaken : is_taken reply ≡ false
+    untaken : says_taken reply ≡ false
 
   refused_so : {A : Type 0} (why : Option Refusal) (taken : A → Response) (r : Result A Refusal) (reply : Response) → IsRefused why
       → ((n : Refusal) → why ≡ Some n → (r ≡ Err n) × (mid.session ≡ old.session)) → reply ≡ response_of taken r
       → mid ≡ record old { session = mid.session } → IsStill reply
   refused_so why taken r reply is refused told rest =
       let so = refused is.0 is.1 in
-      record { same = same_server rest so.1; untaken = ap is_taken (told ∙ ap (response_of taken) so.0) }
+      record { same = same_server rest so.1; untaken = ap says_taken (told ∙ ap (response_of taken) so.0) }
 
   lost_so : (t r : ℕ) (result : Result (Unit {0}) Refusal) (down : (book_in old.session.manager).up ≡ false) → Loses t r old.session mid.session result
       → (n : Refusal) × (result ≡ Err n) × (mid.session ≡ old.session)
@@ -118,18 +118,18 @@ module _ {L : Type 0} (old mid : Server L) where
       by : (b : Bool) → MatchBool b (OnlyTells (responses.Fault faults.OtherCall) old reply mid)
           (StandsFor (Hears t r answer) (answer_reply (responses.Heard name.kind (answer_number answer))) old reply mid ⊎ LacksMemory old reply mid)
           → IsStill reply
-      by true h = record { same = h.1; untaken = ap is_taken h.0 }
+      by true h = record { same = h.1; untaken = ap says_taken h.0 }
       by false (inl h) =
           let why = unfit_so old.session down t r answer in
           let so = h.does.refused (Unfits.Refused why.0) why.1 in
           record {
             same = same_server h.rest so.1;
-            untaken = ap is_taken (h.told ∙ ap (answer_reply (responses.Heard name.kind (answer_number answer))) so.0);
+            untaken = ap says_taken (h.told ∙ ap (answer_reply (responses.Heard name.kind (answer_number answer))) so.0);
           }
-      by false (inr h) = record { same = h.1; untaken = ap is_taken h.0 }
+      by false (inr h) = record { same = h.1; untaken = ap says_taken h.0 }
 
 -- a reply that ends no transaction releases none
-none_released : {L : Type 0} (request : Request) (reply : Response) (mid new : Server L) → is_taken reply ≡ false
+none_released : {L : Type 0} (request : Request) (reply : Response) (mid new : Server L) → says_taken reply ≡ false
     → ReleasesAll (ended_by request reply) mid new → new ≡ mid
 none_released {L} request reply mid new untaken released = subst (λ gs. ReleasesAll gs mid new) (none request) released
   where
@@ -139,14 +139,14 @@ none_released {L} request reply mid new untaken released = subst (λ gs. Release
 
     one : (o : Option Gtrid) → if_taken reply o ≡ []
     one None = refl
-    one (Some g) = none_of (is_taken reply) (g ∷ []) untaken
+    one (Some g) = none_of (says_taken reply) (g ∷ []) untaken
 
     none : (q : Request) → ended_by q reply ≡ []
     none (requests.Answer t r name answer) = one (transaction_of name)
-    none (requests.Decide gs outcome) = none_of (is_taken reply) gs untaken
+    none (requests.Decide gs outcome) = none_of (says_taken reply) gs untaken
     none (requests.Settle g) = one (Some g)
     none (requests.Abandon g) = one (Some g)
-    none (requests.Done gs) = none_of (is_taken reply) gs untaken
+    none (requests.Done gs) = none_of (says_taken reply) gs untaken
     none (requests.Begin t) = refl
     none (requests.Issue t r call) = refl
     none (requests.Claim g) = refl

@@ -43,7 +43,7 @@ use Rattle.xa_server.proofs.LeftSessions.{honest_before}
 use Rattle.xa_server.proofs.LogLemmas.{replies_keep}
 use Rattle.xa_server.proofs.LogStarts.{raised_from}
 use Rattle.xa_server.proofs.SessionChains.{Laws, StartsGoOn, are_sessions}
-use Rattle.xa_server.specs.HeardEnds.{EndsBy, HeardEndsStay, SessionsKeepEnds, TellsEnd, WasToldEnd, WasToldEndServed, end_told}
+use Rattle.xa_server.specs.HeardEnds.{AnswerTellsEnd, HeardEndsStay, SessionsKeepEnds, TellsEnd, WasToldEnd, WasToldEndServed, end_told}
 use Rattle.xa_server.specs.LeftSessions.{IsBehind, under}
 use Rattle.xa_server.specs.NamedLines.{lines_read}
 use Rattle.xa_server.specs.Sessions.{AreServed, AreServed.Between as EndsBetween, AreServed.NoneYet as NoneServed, AreServed.OneMore as OneServed, HoldsLeft, IsSession, IsSessionLeft, IsSessionLeft.AfterLine, IsSessionLeft.InAnswer, IsSessionLeft.InRequest, WasFoundDecidedInLog}
@@ -167,14 +167,14 @@ by_table Prepare Idle Votes.Yes n s e = absurd (cc)
 by_table Prepare Idle Votes.ReadOnly n s e = absurd (cc)
 by_table _ _ v n s e = absurd (cc)
 
-end_so : (q : Option (Kind × Branch)) (a : Code) (b : Branch) (s from to : Standing) → EndsBy q a b s → ExplainsAsked q a b from to → to ≡ s
+end_so : (q : Option (Kind × Branch)) (a : Code) (b : Branch) (s from to : Standing) → AnswerTellsEnd q a b s → ExplainsAsked q a b from to → to ≡ s
 end_so None a b s from to ends explained = absurd ends
 end_so (Some (k, c)) a b s from to ends explained =
     let x : Explains from k a to = subst (λ t. ExplainsIf t from k a to) ends.0 explained in
     x.moves ∙ (ap (moved x.as_called k) (sym x.answers)
     ∙ by_table k x.as_called x.vote x.retries s (subst (λ z. end_told k z ≡ Some s) (sym x.answers) ends.1))
 
-ends_last : (q : Option (Kind × Branch)) (a : Code) (b : Branch) (s : Standing) → EndsBy q a b s → IsLast s
+ends_last : (q : Option (Kind × Branch)) (a : Code) (b : Branch) (s : Standing) → AnswerTellsEnd q a b s → IsLast s
 ends_last None a b s ends = absurd ends
 ends_last (Some (k, c)) a b s ends = is_last_one k a s ends.1
 
@@ -360,7 +360,7 @@ module _ (log : Log) (from : Branch → Standing) (D : Branch → Type 0) (r : I
           (λ tr i run. sym (first_at tr l) ∙ (keeps.2 tr i run).first) (asks_of c) a b (f b) refl (subst IsLast (sym mid) last) (may b).2
           ∙ mid
 
-      by : ((from b ≡ s) ⊎ TellsEnd b s p → (may b).0 ≡ s) → (from b ≡ s) ⊎ (EndsBy (asks_of c) a b s ⊎ TellsEnd b s p) → f b ≡ s
+      by : ((from b ≡ s) ⊎ TellsEnd b s p → (may b).0 ≡ s) → (from b ≡ s) ⊎ (AnswerTellsEnd (asks_of c) a b s ⊎ TellsEnd b s p) → f b ≡ s
       by before (inl e) = earlier (before (inl e))
       by before (inr (inl now)) = end_so (asks_of c) a b s (may b).0 (f b) now (may b).2
       by before (inr (inr t)) = earlier (before (inr t))

@@ -4,6 +4,7 @@ pub mod BranchLemmas
 pub mod Failures
 pub mod FaultLemmas
 pub mod HeardEnds
+pub mod InputFaults
 pub mod KnownCalls
 pub mod LineLemmas
 pub mod LogLemmas

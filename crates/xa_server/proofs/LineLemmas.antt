@@ -10,7 +10,7 @@ use Rattle.std.specs.Borrow.{Bor}
 use Rattle.std.specs.List.{list_any}
 use Rattle.std.specs.Str.{IsUtf8, is_utf8}
 use Rattle.xa_files.specs.Outputs.{AppendsBeginning}
-use Rattle.xa_server.specs.Lines.{IsKeptOf, IsPlain, KeepsShort, ReadsOne, asked_in, cut_at_marks, requests_in}
+use Rattle.xa_server.specs.Lines.{IsKeptOf, IsPlain, KeepsShort, ReadsBeginning, ReadsOne, asked_in, cut_at_marks, requests_in}
 use Rattle.xa_server.specs.NamedLines.{line_read}
 use Rattle.xa_server.specs.declared.lines.TheConstants.{LINE_LIMIT}
 use Rattle.xa_names.specs.Laws.{LinesStay}
@@ -149,6 +149,12 @@ kept_then_consumed (Some xs) None c bs p q = absurd p
 kept_then_consumed (Some xs) (Some ys) None bs p q = absurd q
 kept_then_consumed (Some xs) (Some ys) (Some zs) bs p q = sym p ∙ q
 
+pub consumed_then_kept : (a b c : Option (List ℕ)) (bs : List ℕ) → Consumes a b bs → Keeps b c → Consumes a c bs
+consumed_then_kept None b c bs p q = tt
+consumed_then_kept (Some xs) None c bs p q = absurd p
+consumed_then_kept (Some xs) (Some ys) None bs p q = absurd q
+consumed_then_kept (Some xs) (Some ys) (Some zs) bs p q = p ∙ ap (λ l. bs ++ l) (sym q)
+
 pub none_consumed : (a b : Option (List ℕ)) → Consumes a b [] → Keeps a b
 none_consumed None b p = tt
 none_consumed (Some xs) None p = absurd p
@@ -238,6 +244,22 @@ part_on a b c old new x so_far more not_end keeps = record {
   line = so_far.line ++ x ∷ [];
   plain = any_last (λ y. y == 10) so_far.line x so_far.plain (search (not_end, rules));
   keeps = kept_on so_far.line old new x so_far.keeps keeps;
+  consumed = both_consumed a b c so_far.line (x ∷ []) so_far.consumed more;
+}
+
+-- nothing more of it could be read
+pub begun_so_far : (a b c : Option (List ℕ)) (kept : List ℕ) → ReadsPart a b kept → Keeps b c → ReadsBeginning a c
+begun_so_far a b c kept so_far keeps = record {
+  begun = so_far.line;
+  plain = so_far.plain;
+  consumed = consumed_then_kept a b c so_far.line so_far.consumed keeps;
+}
+
+-- the byte behind it was read, and not kept
+pub begun_on : (a b c : Option (List ℕ)) (kept : List ℕ) (x : ℕ) → ReadsPart a b kept → ReadsOne b c (Some x) → x ≢ 10 → ReadsBeginning a c
+begun_on a b c kept x so_far more not_end = record {
+  begun = so_far.line ++ x ∷ [];
+  plain = any_last (λ y. y == 10) so_far.line x so_far.plain (search (not_end, rules));
   consumed = both_consumed a b c so_far.line (x ∷ []) so_far.consumed more;
 }
 

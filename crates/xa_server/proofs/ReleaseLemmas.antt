@@ -4,7 +4,7 @@ use Rattle.std.proofs.Math.Seq.{drop-cons}
 use Rattle.std.specs.Prelude.{if◌then◌else◌}
 use Rattle.xa_base.specs.declared.branch.Gtrid.{Gtrid}
 use Rattle.xa_server.specs.Performing.{is_not_done, is_one_step}
-use Rattle.xa_server.specs.Releasing.{Releases, ReleasesAll, all_if_taken, ended_by, if_taken, is_taken, transaction_of}
+use Rattle.xa_server.specs.Releasing.{Releases, ReleasesAll, all_if_taken, ended_by, if_taken, says_taken, transaction_of}
 use Rattle.xa_server.specs.declared.server.Server.{Server}
 use Rattle.xa_requests.specs.declared.request.Request.{Request}
 use Rattle.xa_requests.specs.declared.request.Request.TheVariants as requests
@@ -30,21 +30,21 @@ module _ {L : Type 0} where
       subst (λ rest. ReleasesAll rest old new) (sym (drop-cons gs i d below)) (next, releases, more)
 
   -- only one is
-  pub one_is_released : (g : Gtrid) (old new : Server L) (reply : Response) → is_taken reply ≡ true → Releases g old new
+  pub one_is_released : (g : Gtrid) (old new : Server L) (reply : Response) → says_taken reply ≡ true → Releases g old new
       → ReleasesAll (if_taken reply (Some g)) old new
   one_is_released g old new reply taken releases =
       subst (λ t. ReleasesAll (if t then g ∷ [] else []) old new) (sym taken) (new, releases, refl)
 
   -- all of these are, or none
-  pub all_are_released : (gs : List Gtrid) (old new : Server L) (reply : Response) → is_taken reply ≡ true → ReleasesAll gs old new
+  pub all_are_released : (gs : List Gtrid) (old new : Server L) (reply : Response) → says_taken reply ≡ true → ReleasesAll gs old new
       → ReleasesAll (all_if_taken reply gs) old new
   all_are_released gs old new reply taken releases = subst (λ t. ReleasesAll (if t then gs else []) old new) (sym taken) releases
 
-  pub none_are_released : (gs : List Gtrid) (old : Server L) (reply : Response) → is_taken reply ≡ false → ReleasesAll (all_if_taken reply gs) old old
+  pub none_are_released : (gs : List Gtrid) (old : Server L) (reply : Response) → says_taken reply ≡ false → ReleasesAll (all_if_taken reply gs) old old
   none_are_released gs old reply taken = subst (λ t. ReleasesAll (if t then gs else []) old old) (sym taken) refl
 
   -- none is
-  pub none_is_released : (g : Gtrid) (old : Server L) (reply : Response) → is_taken reply ≡ false → ReleasesAll (if_taken reply (Some g)) old old
+  pub none_is_released : (g : Gtrid) (old : Server L) (reply : Response) → says_taken reply ≡ false → ReleasesAll (if_taken reply (Some g)) old old
   none_is_released g old reply taken = subst (λ t. ReleasesAll (if t then g ∷ [] else []) old old) (sym taken) refl
 
   -- nothing is held of one that is over
@@ -63,7 +63,7 @@ module _ {L : Type 0} where
 
 -- ** of a request that isn't done, none is
 
-untaken : (reply : Response) → is_not_done reply ≡ true → is_taken reply ≡ false
+untaken : (reply : Response) → is_not_done reply ≡ true → says_taken reply ≡ false
 untaken (responses.Restarted n d h) undone = refl
 untaken (responses.Begun g) undone = refl
 untaken (responses.Issued call) undone = refl

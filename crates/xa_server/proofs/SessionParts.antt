@@ -12,10 +12,10 @@ use Rattle.xa_session.proofs.Logging.{both_keep, kept}
 use Rattle.xa_server.proofs.LogLemmas.{replies_keep}
 use Rattle.xa_server.proofs.LineLemmas.{appends_none, begins_with_all, both_consumed, consumed_none, keeps_all}
 use Rattle.xa_server.proofs.TurnLemmas.{HaveTurns, both_done, no_turns, turns_both}
-use Rattle.xa_server.specs.Lines.{IsWholeLines, lone_reply, text_lines}
-use Rattle.xa_server.specs.NamedLines.{BreaksSessionUnder, ServesUnder, line_written, lines_read, text_written}
+use Rattle.xa_server.specs.Lines.{IsWholeLines, ReadsBeginning, lone_reply, text_lines}
+use Rattle.xa_server.specs.NamedLines.{BreaksSessionUnder, InputFailsUnder, ServesUnder, line_written, lines_read, text_written}
 use Rattle.xa_server.specs.Serving.{AreTurns, EndsAtLastOr, Turn, WritesUpToLast, is_bye, replies_given, requests_done, told_in, told_of}
-use Rattle.xa_server.specs.ServingLines.{BreaksOff, LosesReply, ServesLine}
+use Rattle.xa_server.specs.ServingLines.{BreaksOff, FindsNoLine, LosesReply, ServesLine}
 use Rattle.xa_server.specs.declared.server.Server.{Server}
 use Rattle.xa_server.specs.declared.lines.LineReply.{LineReply}
 use Rattle.xa_requests.specs.declared.response.Response.{Response}
@@ -227,3 +227,25 @@ module _ {L : Type 0} (moment : L → Moment) (name : List ℕ) (greeting : Resp
       subst (λ x. BreaksSessionUnder moment name greeting unread written all a x) (sym none.1)
       (no_more unread part written all a b (flushed unread part written mid all a b some none.0))
   broken_off unread part written mid all a b c some (inr loses) = reply_lost unread part written mid all a b c some loses
+
+  -- the input failed behind some lines
+  pub input_failed : (unread part left written all : Option (List ℕ)) (a b : Server L) → ServesSome moment name greeting unread part written all a b
+      → ReadsBeginning part left → InputFailsUnder moment name greeting unread left written all a b
+  input_failed unread part left written all a b some next = record {
+    read = some.read;
+    behind = part;
+    turns = some.turns;
+    consumed = some.consumed;
+    whole = some.whole;
+    next = next;
+    lines = some.lines;
+    replied = some.replied;
+    appended = some.appended;
+  }
+
+  pub no_line_found : (unread part left written mid all : Option (List ℕ)) (a b c : Server L)
+      → ServesSome moment name greeting unread part written mid a b → FindsNoLine part left mid all b c
+      → InputFailsUnder moment name greeting unread left written all a c
+  no_line_found unread part left written mid all a b c some none =
+      subst (λ x. InputFailsUnder moment name greeting unread left written all a x) (sym none.same)
+      (input_failed unread part left written all a b (flushed unread part written mid all a b some none.keeps) none.begun)

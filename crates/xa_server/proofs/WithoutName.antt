@@ -5,8 +5,8 @@ use Rattle.std.specs.Io.KnownBytes.{Appends}
 use Rattle.xa_files.specs.Outputs.{AppendsBeginning}
 use Rattle.xa_log.specs.Contract.{Moment}
 use Rattle.xa_server.specs.Lines.{marks, reply_line}
-use Rattle.xa_server.specs.NamedLines.{BreaksSessionUnder, ServesUnder, line_read, line_written, lines_read, text_written}
-use Rattle.xa_server.specs.Serving.{BreaksSession, HaveReplies, Serves, WritesUpToLast, replies_given, replies_text, requests_done, told_in}
+use Rattle.xa_server.specs.NamedLines.{BreaksSessionUnder, InputFailsUnder, ServesUnder, line_read, line_written, lines_read, text_written}
+use Rattle.xa_server.specs.Serving.{BreaksSession, HaveReplies, InputFails, Serves, WritesUpToLast, replies_given, replies_text, requests_done, told_in}
 use Rattle.xa_server.specs.declared.server.Server.{Server}
 use Rattle.xa_server.specs.declared.lines.LineReply.{LineReply}
 use Rattle.xa_names.specs.Laws.{LinesStay}
@@ -69,6 +69,20 @@ module _ (law : LinesStay) where
       replied = subst (λ ls. HaveReplies moment ls (replies_given breaks.turns) a b) (lines_as_are (requests_done breaks.turns)) breaks.replied;
       writes = writes_as_is written all (told_in greeting breaks.turns) breaks.writes;
       keeps = breaks.keeps;
+    }
+
+    pub fails_as_is : (greeting : Response) (unread left written all : Option (List ℕ)) (a b : Server L)
+        → InputFailsUnder moment [] greeting unread left written all a b → InputFails moment greeting unread left written all a b
+    fails_as_is greeting unread left written all a b fails = record {
+      read = fails.read;
+      behind = fails.behind;
+      turns = fails.turns;
+      consumed = fails.consumed;
+      whole = fails.whole;
+      next = fails.next;
+      lines = fails.lines;
+      replied = subst (λ ls. HaveReplies moment ls (replies_given fails.turns) a b) (lines_as_are (requests_done fails.turns)) fails.replied;
+      appended = subst (Appends written all) (text_as_is (told_in greeting fails.turns)) fails.appended;
     }
 
 pub on_err_as : {A E : Type 0} (result : Result A E) (P Q : Type 0) → (P → Q) → OnErr result P → OnErr result Q

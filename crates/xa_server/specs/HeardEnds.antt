@@ -29,15 +29,15 @@ end_told Prepare (Codes.RolledBack code) = Some RolledBack
 end_told _ _ = None
 
 -- the answer to what was asked tells that this branch ended so
-abbrev pub EndsBy : Option (Kind × Branch) → Code → Branch → Standing → Type 0
-EndsBy (Some (k, c)) a b s = (branch_eq c b ≡ true) × (end_told k a ≡ Some s)
-EndsBy None a b s = ⊥
+abbrev pub AnswerTellsEnd : Option (Kind × Branch) → Code → Branch → Standing → Type 0
+AnswerTellsEnd (Some (k, c)) a b s = (branch_eq c b ≡ true) × (end_told k a ≡ Some s)
+AnswerTellsEnd None a b s = ⊥
 
 -- such an answer was heard in what was seen
 abbrev pub TellsEnd : Branch → Standing → Seen → Type 0
 TellsEnd b s Start = ⊥
 TellsEnd b s (Did seen e) = TellsEnd b s seen
-TellsEnd b s (Answered seen l c (Ret a)) = EndsBy (asks_of c) a b s ⊎ TellsEnd b s seen
+TellsEnd b s (Answered seen l c (Ret a)) = AnswerTellsEnd (asks_of c) a b s ⊎ TellsEnd b s seen
 TellsEnd b s (Answered seen l c (Page names)) = TellsEnd b s seen
 TellsEnd b s (Lost seen l c) = TellsEnd b s seen
 

@@ -81,7 +81,7 @@ SessionsGoOn {L} moment =
 
 -- What the lines of a session and their replies tell, from its start. Where its log has what was left, and wherever databases that obey the
 -- table then stand, this is left of them and of what the log holds at the end, or a crash of its store leaves of it.
-pub record GoesOn {L : Type 0} (moment : L → Moment) (name : List ℕ) (lines : List (List ℕ)) (replies : List Response) (handed : L) (last : Server L)
+pub record GoesOnFromLeft {L : Type 0} (moment : L → Moment) (name : List ℕ) (lines : List (List ℕ)) (replies : List Response) (handed : L) (last : Server L)
     : Type 0 where
   pub start : Origin
   pub seen : Seen
@@ -100,7 +100,7 @@ ServedSessionsGoOn {L} moment =
     (name : List ℕ) (threads rms : ℕ) (lines : List (List ℕ)) (replies : List Response) (handed : L) (first now left : Server L)
     → StartsOver moment threads rms handed first → HaveReplies moment (lines_read name lines) replies first now
     → list_any is_log_fault replies ≡ false → ((seen : Seen) → IsSessionLeft moment seen now seen left)
-    → (moment (log_in left.session.manager)).is_honest → GoesOn moment name lines replies handed left
+    → (moment (log_in left.session.manager)).is_honest → GoesOnFromLeft moment name lines replies handed left
 
 -- And between two a database may end a prepared branch by itself.
 abbrev pub SessionsWait : Type 0

@@ -43,6 +43,12 @@ pub record ReadsLine (old new : Option (List ℕ)) (kept : List ℕ) (is_ended :
   pub consumed : Consumes old new (with_end line is_ended)
   pub end : is_ended ≡ false → IsAtEnd new
 
+-- a beginning of a line was read, and not its line feed; or nothing was
+pub record ReadsBeginning (old new : Option (List ℕ)) : Type 0 where
+  pub begun : List ℕ
+  pub plain : IsPlain begun
+  pub consumed : Consumes old new begun
+
 -- nothing was left to read
 abbrev pub is_nothing : (kept : List ℕ) → (is_ended : Bool) → Bool
 is_nothing [] is_ended = not is_ended

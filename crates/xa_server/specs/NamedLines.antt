@@ -3,7 +3,7 @@ use Rattle.std.specs.Prelude.{ℕ, ◌&&◌, if◌then◌else◌, nat_le, List, 
 use Rattle.std.specs.Io.KnownBytes.{Appends, Consumes, IsAtEnd}
 use Rattle.std.specs.List.{flat_map}
 use Rattle.std.specs.Str.{is_utf8}
-use Rattle.xa_server.specs.Lines.{ReadsWholeLines, marks, text_lines}
+use Rattle.xa_server.specs.Lines.{IsWholeLines, ReadsBeginning, ReadsWholeLines, marks, text_lines}
 use Rattle.xa_server.specs.Serving.{AreTurns, EndsAtLastOr, HaveReplies, Turn, WritesUpToLast, replies_given, requests_done, told_in}
 use Rattle.xa_server.specs.declared.server.Server.{Server}
 use Rattle.xa_server.specs.declared.lines.LineReply.{LineReply}
@@ -54,3 +54,17 @@ module _ {L : Type 0} (moment : L → Moment) where
     pub replied : HaveReplies moment (lines_read name (requests_done turns)) (replies_given turns) old new
     pub writes : WritesUpToLast (line_written name) written all (told_in greeting turns)
     pub keeps : KeepsLog moment old.session.manager new.session.manager
+
+  -- A session whose input failed: each line that was read is done, as it is meant, and its reply was written whole. Of the next line at most a
+  -- beginning was read, of which nothing is done.
+  pub record InputFailsUnder (name : List ℕ) (greeting : Response) (unread left : Option (List ℕ)) (written all : Option (List ℕ))
+      (old new : Server L) : Type 0 where
+    pub read : List ℕ
+    pub behind : Option (List ℕ)
+    pub turns : List Turn
+    pub consumed : Consumes unread behind read
+    pub whole : IsWholeLines read
+    pub next : ReadsBeginning behind left
+    pub lines : AreTurns (text_lines read) turns
+    pub replied : HaveReplies moment (lines_read name (requests_done turns)) (replies_given turns) old new
+    pub appended : Appends written all (text_written name (told_in greeting turns))

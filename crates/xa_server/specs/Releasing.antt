@@ -19,15 +19,15 @@ abbrev pub transaction_of : CallName → Option Gtrid
 transaction_of name = option_map (λ b. b.gtrid) (option_and_then branch_of_xid name.xid)
 
 -- the reply tells that an answer was heard, that decisions were taken, or that rows left the log
-abbrev pub is_taken : Response → Bool
-is_taken (responses.Heard kind number) = true
-is_taken responses.Decided = true
-is_taken responses.Noted = true
-is_taken reply = false
+abbrev pub says_taken : Response → Bool
+says_taken (responses.Heard kind number) = true
+says_taken responses.Decided = true
+says_taken responses.Noted = true
+says_taken reply = false
 
 -- these, if the reply tells so
 abbrev pub all_if_taken : Response → List Gtrid → List Gtrid
-all_if_taken reply gs = if is_taken reply then gs else []
+all_if_taken reply gs = if says_taken reply then gs else []
 
 -- this one, if there is one and the reply tells so
 abbrev pub if_taken : Response → Option Gtrid → List Gtrid

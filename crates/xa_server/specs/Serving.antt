@@ -2,7 +2,7 @@
 use Rattle.std.specs.Prelude.{◌≡◌, ◌⊎◌, ℕ, suc, Bool, true, false, MatchBool, All, List, [], ◌∷◌, ◌++◌, length, map, take, Option, Some, None}
 use Rattle.std.specs.Io.KnownBytes.{Appends, Consumes, IsAtEnd}
 use Rattle.std.specs.List.{flat_map, list_any}
-use Rattle.xa_server.specs.Lines.{ReadsWholeLines, asked_in, lone_reply, reply_line, requests_in, text_lines}
+use Rattle.xa_server.specs.Lines.{IsWholeLines, ReadsBeginning, ReadsWholeLines, asked_in, lone_reply, reply_line, requests_in, text_lines}
 use Rattle.xa_server.specs.Performing.{Performs}
 use Rattle.xa_server.specs.Standing.{OnlyTells}
 use Rattle.xa_server.specs.declared.server.Server.{Server}
@@ -137,3 +137,16 @@ module _ {L : Type 0} (moment : L → Moment) where
     pub replied : HaveReplies moment (requests_done turns) (replies_given turns) old new
     pub writes : WritesUpToLast reply_line written all (told_in greeting turns)
     pub keeps : KeepsLog moment old.session.manager new.session.manager
+
+  -- A session whose input failed: each line that was read is done, and its reply was written whole. Of the next line at most a beginning was
+  -- read, of which nothing is done.
+  pub record InputFails (greeting : Response) (unread left : Option (List ℕ)) (written all : Option (List ℕ)) (old new : Server L) : Type 0 where
+    pub read : List ℕ
+    pub behind : Option (List ℕ)
+    pub turns : List Turn
+    pub consumed : Consumes unread behind read
+    pub whole : IsWholeLines read
+    pub next : ReadsBeginning behind left
+    pub lines : AreTurns (text_lines read) turns
+    pub replied : HaveReplies moment (requests_done turns) (replies_given turns) old new
+    pub appended : Appends written all (replies_text (told_in greeting turns))

@@ -2,7 +2,7 @@
 use Rattle.std.specs.Prelude.{◌≡◌, ◌⊎◌, ℕ, Bool, true, false, List, [], ◌∷◌, map, Option}
 use Rattle.std.specs.Io.KnownBytes.{Appends, Consumes, IsAtEnd, Keeps}
 use Rattle.std.specs.List.{list_any}
-use Rattle.xa_server.specs.Lines.{IsWholeLines, ReadsWholeLines, text_lines}
+use Rattle.xa_server.specs.Lines.{IsWholeLines, ReadsBeginning, ReadsWholeLines, text_lines}
 use Rattle.xa_server.specs.NamedLines.{line_written, lines_read, text_written}
 use Rattle.xa_server.specs.Serving.{AreTurns, EndsAtLastOr, HaveReplies, Turn, is_bye, replies_given, requests_done, told_of}
 use Rattle.xa_server.specs.declared.server.Server.{Server}
@@ -36,3 +36,9 @@ module _ {L : Type 0} (moment : L → Moment) where
   -- It was broken off there, or before anything was done.
   abbrev pub BreaksOff : (name : List ℕ) → (unread written all : Option (List ℕ)) → (old new : Server L) → Type 0
   BreaksOff name unread written all old new = (Keeps written all × (new ≡ old)) ⊎ LosesReply name unread written all old new
+
+-- The input failed before a line was read whole: nothing was done or written.
+pub record FindsNoLine {L : Type 0} (unread left : Option (List ℕ)) (written all : Option (List ℕ)) (old new : Server L) : Type 0 where
+  pub begun : ReadsBeginning unread left
+  pub keeps : Keeps written all
+  pub same : new ≡ old

@@ -1,16 +1,17 @@
 //! How the lines of a driver are read, and those of the server written.
 
-ghost use Rattle.std.specs.Prelude.{◌≡◌, ◌<◌, length, map, IfOk, OnErr, OnOk};
-ghost use Rattle.std.specs.Io.KnownBytes.{Appends};
+ghost use Rattle.std.specs.Prelude.{◌≡◌, ◌≢◌, ◌⊎◌, ◌<◌, length, map, IfErr, IfOk, OnErr, OnOk};
+ghost use Rattle.std.specs.Io.KnownBytes.{Appends, Keeps};
+ghost use Rattle.std.specs.IoError.{error_kind};
 ghost use Rattle.std.specs.String.{string_bytes};
-ghost use Rattle.xa_server.specs.Lines.{KeepsShort, ReadsLine, ReadsOne, asked_in, cut_at_marks, is_nothing, lone_reply, requests_in};
+ghost use Rattle.xa_server.specs.Lines.{KeepsShort, ReadsBeginning, ReadsLine, ReadsOne, asked_in, cut_at_marks, is_nothing, lone_reply, requests_in};
 ghost use Rattle.xa_server.specs.NamedLines.{line_read, line_written};
 ghost use Rattle.xa_files.specs.Outputs.{AppendsBeginning};
 ghost use Rattle.xa_names.specs.Lines.{line_renamed};
 
 use crate::serving::ServeFault;
 use std::alloc::{AllocError, Global};
-use std::io::{ErrorKind, Read, Write};
+use std::io::{self, Error, ErrorKind, Read, Write};
 use std::str::from_utf8;
 use xa_base::Memory;
 use xa_files::write_unflushed;
@@ -55,28 +56,40 @@ pub(crate) fn is_nothing(line: &Line) -> bool
     line.bytes.is_empty() && !line.is_ended
 }
 
-/// The next byte, if there is one.
-fn read_byte<R: Read>(input: &mut R) -> Result<Option<u8>, ServeFault>
-    ensures { IfOk result (ReadsOne (R.remaining input.old) (R.remaining input.new)) }
+/// The error of a read, unless that was only interrupted: then it is tried again.
+fn unless_interrupted(error: Error) -> io::Result<()>
+    ensures again { OnOk result (error_kind error ≡ ErrorKind.Interrupted) }
+    ensures err { IfErr result
+        (λ told. (told ≡ error) × (error_kind told ≢ ErrorKind.Interrupted)) }
+{
+    match error.kind() {
+        ErrorKind::Interrupted => Ok(()),
+        _ => Err(error),
+    }
+}
+
+/// The next byte, if there is one. A read that was interrupted is tried again.
+fn read_byte<R: Read>(input: &mut R) -> io::Result<Option<u8>>
+    ensures ok { IfOk result (ReadsOne (R.remaining input.old) (R.remaining input.new)) }
+    ensures err { OnErr result (Keeps (R.remaining input.old) (R.remaining input.new)) }
+    ensures retried { IfErr result (λ error. error_kind error ≢ ErrorKind.Interrupted) }
 {
     let mut bytes = [0; 1];
     for _ in 0..u64::MAX {
         match input.read(&mut bytes) {
             Ok(0) => return Ok(None),
             Ok(_) => return Ok(Some(bytes[0])),
-            Err(error) => {
-                if error.kind() != ErrorKind::Interrupted {
-                    break;
-                }
-            }
+            Err(error) => unless_interrupted(error)?,
         }
     }
-    Err(ServeFault::Input)
+    Err(Error::from(ErrorKind::TimedOut))
 }
 
 /// Adds a byte to what is kept of a line, unless that is too long already.
 fn keep(kept: &mut Vec<u8>, byte: u8) -> Result<(), AllocError>
-    ensures { OnOk result (KeepsShort byte kept.old.items kept.new.items) }
+    ensures ok { OnOk result (KeepsShort byte kept.old.items kept.new.items) }
+    ensures long { LINE_LIMIT < length kept.old.items →
+        (result ≡ Ok tt) × (kept.new ≡ kept.old) }
 {
     if kept.len() <= LINE_LIMIT {
         kept.push(byte)?;
@@ -86,25 +99,27 @@ fn keep(kept: &mut Vec<u8>, byte: u8) -> Result<(), AllocError>
 
 /// The next line. At the end of the input it is empty, and not ended.
 pub(crate) fn read_line<R: Read>(alloc: Global, input: &mut R) -> Result<Line, ServeFault>
-    ensures { IfOk result (λ line. ReadsLine (R.remaining input.old) (R.remaining input.new)
+    ensures ok { IfOk result (λ line. ReadsLine (R.remaining input.old) (R.remaining input.new)
         line.bytes.items line.is_ended) }
+    ensures err { OnErr result (ReadsBeginning (R.remaining input.old) (R.remaining input.new)) }
 {
     let mut bytes = Vec::new(alloc);
     for _ in 0..u64::MAX {
-        match read_byte(input)? {
-            None => {
+        match read_byte(input) {
+            Err(_) => return Err(ServeFault::Input),
+            Ok(None) => {
                 return Ok(Line {
                     bytes,
                     is_ended: false,
                 });
             }
-            Some(b'\n') => {
+            Ok(Some(b'\n')) => {
                 return Ok(Line {
                     bytes,
                     is_ended: true,
                 });
             }
-            Some(byte) => keep(&mut bytes, byte)?,
+            Ok(Some(byte)) => keep(&mut bytes, byte)?,
         }
     }
     Err(ServeFault::Input)
@@ -212,6 +227,8 @@ pub(crate) fn write_reply<W: Write>(
         (line_written name.now told.now)) }
     ensures err { OnErr result (AppendsBeginning (W.contents output.old)
         (W.contents output.new) (line_written name.now told.now)) }
+    ensures fault { IfErr result
+        (λ fault. (fault ≡ ServeFault.Memory) ⊎ (fault ≡ ServeFault.Output)) }
 {
     let Ok(text) = line_written(alloc, name, told) else {
         return Err(ServeFault::Memory);

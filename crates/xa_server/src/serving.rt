@@ -1,14 +1,14 @@
 //! The loop over the lines of a driver.
 
-ghost use Rattle.std.specs.Prelude.{◌≡◌, ◌==◌, ◌<◌, ◌&&◌, length, map, not, IfOk, OnErr, OnOk};
+ghost use Rattle.std.specs.Prelude.{◌≡◌, ◌==◌, ◌<◌, ◌&&◌, length, map, not, Err, IfErr, IfOk, OnErr, OnOk};
 ghost use Rattle.std.specs.Io.Buffered.{reader_buffer, reader_remaining};
 ghost use Rattle.std.specs.Io.KnownBytes.{Keeps};
 ghost use Rattle.std.specs.List.{list_any};
 ghost use Rattle.xa_server.specs.Replies.{greeting_of};
 ghost use Rattle.xa_server.specs.Lines.{asked_in, requests_in};
-ghost use Rattle.xa_server.specs.NamedLines.{BreaksSessionUnder, ServesUnder, line_read};
-ghost use Rattle.xa_server.specs.Serving.{BreaksSession, RepliesBy, RepliesToLine, Serves, ends_line, is_bye};
-ghost use Rattle.xa_server.specs.ServingLines.{BreaksOff, ServesLine};
+ghost use Rattle.xa_server.specs.NamedLines.{BreaksSessionUnder, InputFailsUnder, ServesUnder, line_read};
+ghost use Rattle.xa_server.specs.Serving.{BreaksSession, InputFails, RepliesBy, RepliesToLine, Serves, ends_line, is_bye};
+ghost use Rattle.xa_server.specs.ServingLines.{BreaksOff, FindsNoLine, ServesLine};
 ghost use Rattle.xa_session.specs.Session.{IsReady};
 
 use crate::lines::{LineReply, all_asked_by, is_nothing, read_line, write_reply};
@@ -74,6 +74,7 @@ fn flush_before_waiting<R: Read, W: Write>(
     ensures keeps { Keeps (W.contents output.old) (W.contents output.new) }
     ensures told { IfOk result (λ flushed. flushed ≡
         not (list_any (λ byte. byte == 10) (reader_buffer input.now))) }
+    ensures fault { IfErr result (λ fault. fault ≡ ServeFault.Output) }
 {
     if input.buffer().contains(&b'\n') {
         return Ok(false);
@@ -137,6 +138,7 @@ impl<L: DecisionLog + Drop> Server<L> {
             (map (λ request. asked_in (line_read name.now request)) (requests_in line.now))
             self.old told self.new) }
         ensures err { OnErr result (self.new ≡ self.old) }
+        ensures fault { IfErr result (λ fault. fault ≡ ServeFault.Memory) }
     {
         match all_asked_by(self.alloc, name, line) {
             Ok(asked) => Ok(self.reply_in_turn(beginnings, asked.as_slice())),
@@ -163,6 +165,9 @@ impl<L: DecisionLog + Drop> Server<L> {
         ensures err { OnErr result
             (BreaksOff L.moment name.now (reader_remaining R.remaining input.old)
             (W.contents output.old) (W.contents output.new) self.old self.new) }
+        ensures input { result ≡ Err ServeFault.Input → FindsNoLine
+            (reader_remaining R.remaining input.old) (reader_remaining R.remaining input.new)
+            (W.contents output.old) (W.contents output.new) self.old self.new }
     {
         flush_before_waiting(input, output)?;
         let line = read_line(self.alloc, input)?;
@@ -187,7 +192,8 @@ impl<L: DecisionLog + Drop> Server<L> {
     /// was refused outside of a step, and Strange once a page was refused that lists a branch which no session over the
     /// log began: then the session is over, and whoever has the log keeps others from starting over it. What was done
     /// then is what whole lines that were read ask for, in their order, and each reply was written but the last, of which
-    /// a beginning was, or all.
+    /// a beginning was, or all. At Input each of these replies was written whole: of the line behind them at most a
+    /// beginning was read. A read that was interrupted is tried again.
     pub fn serve<R: Read, W: Write>(
         &mut self,
         input: &mut BufReader<R>,
@@ -201,6 +207,9 @@ impl<L: DecisionLog + Drop> Server<L> {
         ensures broken { OnErr result (BreaksSession L.moment (greeting_of self.old)
             (reader_remaining R.remaining input.old)
             (W.contents output.old) (W.contents output.new) self.old self.new) }
+        ensures input { result ≡ Err ServeFault.Input → InputFails L.moment (greeting_of self.old)
+            (reader_remaining R.remaining input.old) (reader_remaining R.remaining input.new)
+            (W.contents output.old) (W.contents output.new) self.old self.new }
     {
         without_a_name_nothing_changes();
         self.serve_under(&ManagerName::none(), input, output)
@@ -223,6 +232,10 @@ impl<L: DecisionLog + Drop> Server<L> {
         ensures broken { OnErr result (BreaksSessionUnder L.moment name.now (greeting_of self.old)
             (reader_remaining R.remaining input.old)
             (W.contents output.old) (W.contents output.new) self.old self.new) }
+        ensures input { result ≡ Err ServeFault.Input → InputFailsUnder L.moment name.now
+            (greeting_of self.old)
+            (reader_remaining R.remaining input.old) (reader_remaining R.remaining input.new)
+            (W.contents output.old) (W.contents output.new) self.old self.new }
     {
         let mut beginnings = Beginnings::before(self.session.incarnation());
         let greeting = LineReply::alone(self.greeting());

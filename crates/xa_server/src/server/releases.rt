@@ -1,7 +1,7 @@
 //! Transactions that are over are forgotten, so that a session takes memory only for those that are open.
 
 ghost use Rattle.std.specs.Prelude.{◌≡◌};
-ghost use Rattle.xa_server.specs.Releasing.{Releases, ReleasesAll, all_if_taken, ended_by, if_taken, is_taken, transaction_of};
+ghost use Rattle.xa_server.specs.Releasing.{Releases, ReleasesAll, all_if_taken, ended_by, if_taken, says_taken, transaction_of};
 ghost use Rattle.xa_session.specs.Session.{IsReady};
 
 use super::Server;
@@ -37,7 +37,7 @@ impl<L: DecisionLog + Drop> Server<L> {
         ensures releases { ReleasesAll (if_taken reply.now gtrid) self.old self.new }
     {
         if let Some(gtrid) = gtrid {
-            if is_taken(reply) {
+            if says_taken(reply) {
                 self.release(gtrid);
             }
         }
@@ -49,7 +49,7 @@ impl<L: DecisionLog + Drop> Server<L> {
         ensures ready { IsReady self.new.session }
         ensures releases { ReleasesAll (all_if_taken reply.now gtrids.now) self.old self.new }
     {
-        if is_taken(reply) {
+        if says_taken(reply) {
             self.release_all(gtrids);
         }
     }
@@ -72,8 +72,8 @@ impl<L: DecisionLog + Drop> Server<L> {
 }
 
 /// Whether a reply tells that an answer was heard, that decisions were taken, or that rows left the log.
-fn is_taken(reply: &Response) -> bool
-    ensures { result ≡ is_taken reply.now }
+fn says_taken(reply: &Response) -> bool
+    ensures { result ≡ says_taken reply.now }
 {
     matches!(
         reply,

@@ -1,8 +1,8 @@
 use Rattle.std.proofs.Common.{[], OnErr, OnOk, subst}
 use Rattle.std.specs.Io.Buffered.{reader_remaining}
 use Rattle.xa_base.proofs.Options.{on_ok}
-use Rattle.xa_server.proofs.WithoutName.{breaks_as_is, on_err_as, serves_as_is}
-use Rattle.xa_server.specs.NamedLines.{BreaksSessionUnder, ServesUnder}
+use Rattle.xa_server.proofs.WithoutName.{breaks_as_is, fails_as_is, on_err_as, serves_as_is}
+use Rattle.xa_server.specs.NamedLines.{BreaksSessionUnder, InputFailsUnder, ServesUnder}
 use Rattle.xa_server.specs.Replies.{greeting_of}
 use Rattle.xa_server.specs.Serving.{BreaksSession, Serves}
 use Rattle.xa_server.proofs.server.Server.serve.Goals as goal
@@ -29,4 +29,6 @@ returns g c =
       broken = on_err_as result (BreaksSessionUnder moment [] greeting unread written all s new.self)
           (BreaksSession moment greeting unread written all s new.self) (breaks_as_is law moment greeting unread written all s new.self)
           (subst (λ n. OnErr result (BreaksSessionUnder moment n greeting unread written all s new.self)) c.none.ensures c.serve_under.ensures.broken);
+      input = λ fault. fails_as_is law moment greeting unread rest written all s new.self
+          (subst (λ n. InputFailsUnder moment n greeting unread rest written all s new.self) c.none.ensures (c.serve_under.ensures.input fault));
     }

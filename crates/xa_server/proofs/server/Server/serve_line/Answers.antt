@@ -1,7 +1,9 @@
-use Rattle.std.proofs.Common.{◌∙◌, false, subst, sym}
+use Rattle.std.proofs.Common.{◌∙◌, false, refl, subst, sym}
+use Rattle.std.proofs.lemmas.Result.{err_from_is_err_and}
 use Rattle.std.specs.Io.Buffered.{reader_remaining}
 use Rattle.xa_log.proofs.Parts.{on_err}
 use Rattle.xa_server.proofs.OneLine.{at_end, off_at_once, off_behind, one_line, served_behind_flush, wholly_begun}
+use Rattle.xa_server.proofs.InputFaults.{came_as_input, not_memory, not_of_writing, not_output}
 use Rattle.xa_server.proofs.LineLemmas.{asks_of}
 use Rattle.xa_server.specs.NamedLines.{line_written}
 use Rattle.xa_server.specs.Serving.{RepliesToLine}
@@ -48,7 +50,7 @@ returns-in_err-write_reply-clause-err g c =
     let new = c.reply_to.new.self in
     on_err c.from_residual-in_err-write_reply.result (BreaksOff moment name (left c.args.input.now) written all old new)
     (off_behind moment name (left c.args.input.now) (left c.read_line.new.input) written mid all line.bytes.items line.is_ended told old new
-    c.in_ok-line.ensures (sym c.is_nothing.ensures ∙ c.if-is_nothing.false)
+    c.in_ok-line.ensures.ok (sym c.is_nothing.ensures ∙ c.if-is_nothing.false)
     (subst (λ l. RepliesToLine moment (asks_of name l) old told new) c.deref.ensures.value c.in_ok-told.ensures.ok)
     c.flush_before_waiting.ensures.keeps c.in_err-write_reply.ensures.err)
 
@@ -66,7 +68,7 @@ returns-then-beginnings-clause-err g c =
     let old = c.args.self.now in
     let new = c.reply_to.new.self in
     off_behind moment name (left c.args.input.now) (left c.read_line.new.input) written mid all line.bytes.items line.is_ended told old new
-    c.in_ok-line.ensures (sym c.is_nothing.ensures ∙ c.if-is_nothing.false)
+    c.in_ok-line.ensures.ok (sym c.is_nothing.ensures ∙ c.if-is_nothing.false)
     (subst (λ l. RepliesToLine moment (asks_of name l) old told new) c.deref.ensures.value c.in_ok-told.ensures.ok)
     c.flush_before_waiting.ensures.keeps (wholly_begun mid all (line_written name told) c.in_ok-write_reply.ensures.ok)
 
@@ -81,7 +83,7 @@ returns-then-is_nothing-clause-ok g c =
     let line = c.in_ok-line.line in
     let s = c.args.self.now in
     served_behind_flush moment name unread rest written mid mid s s false c.flush_before_waiting.ensures.keeps
-    (at_end moment name unread rest mid line.bytes.items line.is_ended s c.in_ok-line.ensures (sym c.is_nothing.ensures ∙ c.if-is_nothing.true))
+    (at_end moment name unread rest mid line.bytes.items line.is_ended s c.in_ok-line.ensures.ok (sym c.is_nothing.ensures ∙ c.if-is_nothing.true))
 
 pub returns-clause-ok : goal.returns-clause-ok
 returns-clause-ok g c =
@@ -99,6 +101,31 @@ returns-clause-ok g c =
     let new = c.reply_to.new.self in
     served_behind_flush moment name unread rest (contents c.args.output.now) mid all old new c.goes_on.result c.flush_before_waiting.ensures.keeps
     (subst (ServesLine moment name unread rest mid all old new) (sym c.goes_on.ensures)
-    (one_line moment name unread rest mid all line.bytes.items line.is_ended told old new c.in_ok-line.ensures
+    (one_line moment name unread rest mid all line.bytes.items line.is_ended told old new c.in_ok-line.ensures.ok
     (sym c.is_nothing.ensures ∙ c.if-is_nothing.false)
     (subst (λ l. RepliesToLine moment (asks_of name l) old told new) c.deref.ensures.value c.in_ok-told.ensures.ok) c.in_ok-write_reply.ensures.ok))
+
+pub returns-in_err-flush_before_waiting-clause-input : goal.returns-in_err-flush_before_waiting-clause-input
+returns-in_err-flush_before_waiting-clause-input g c = λ asked.
+    let p = err_from_is_err_and c.from_residual.result c.from_residual.ensures.1 in
+    let came = c.in_err-flush_before_waiting.field-0.0 in
+    absurd (not_output came c.in_err-flush_before_waiting.ensures.fault (came_as_input c.from_residual.result p.0 came asked p.1 p.2))
+
+pub returns-in_err-line-clause-input : goal.returns-in_err-line-clause-input
+returns-in_err-line-clause-input g c = λ asked. record {
+  begun = c.in_err-line.ensures.err;
+  keeps = c.flush_before_waiting.ensures.keeps;
+  same = refl;
+}
+
+pub returns-in_err-told-clause-input : goal.returns-in_err-told-clause-input
+returns-in_err-told-clause-input g c = λ asked.
+    let p = err_from_is_err_and c.from_residual-in_err-told.result c.from_residual-in_err-told.ensures.1 in
+    let came = c.in_err-told.field-0.0 in
+    absurd (not_memory came c.in_err-told.ensures.fault (came_as_input c.from_residual-in_err-told.result p.0 came asked p.1 p.2))
+
+pub returns-in_err-write_reply-clause-input : goal.returns-in_err-write_reply-clause-input
+returns-in_err-write_reply-clause-input g c = λ asked.
+    let p = err_from_is_err_and c.from_residual-in_err-write_reply.result c.from_residual-in_err-write_reply.ensures.1 in
+    let came = c.in_err-write_reply.field-0.0 in
+    absurd (not_of_writing came c.in_err-write_reply.ensures.fault (came_as_input c.from_residual-in_err-write_reply.result p.0 came asked p.1 p.2))

@@ -1,8 +1,11 @@
-use Rattle.std.proofs.Common.{◌∙◌, ap, subst}
+use Rattle.std.proofs.Common.{[], ◌∙◌, ap, refl, subst}
 use Rattle.std.specs.Io.Buffered.{reader_remaining}
 use Rattle.std.specs.Io.KnownBytes.{Appends}
+use Rattle.std.proofs.lemmas.Result.{err_from_is_err_and}
 use Rattle.xa_log.proofs.Parts.{on_err}
-use Rattle.xa_server.proofs.SessionParts.{broken_off, greeted, no_more, not_greeted, one_more, the_last}
+use Rattle.xa_server.proofs.InputFaults.{came_as_input, came_so, not_of_writing}
+use Rattle.xa_server.proofs.LineLemmas.{consumed_none, keeps_all}
+use Rattle.xa_server.proofs.SessionParts.{broken_off, greeted, input_failed, no_line_found, no_more, not_greeted, one_more, the_last}
 use Rattle.xa_server.specs.Lines.{lone_reply}
 use Rattle.xa_server.specs.NamedLines.{BreaksSessionUnder, line_written}
 use Rattle.xa_server.specs.Replies.{greeting_of}
@@ -92,3 +95,30 @@ returns-clause-broken g c =
     let s = c.args.self.now in
     no_more g.L.DecisionLog.moment c.args.name.now (greeting_of s) (left c.args.input.now) (left c.loop.input) (contents c.args.output.now)
     (contents c.loop.output) s c.loop.self c.loop.invariant.some
+
+pub returns-in_err-write_reply-clause-input : goal.returns-in_err-write_reply-clause-input
+returns-in_err-write_reply-clause-input g c = λ asked.
+    let p = err_from_is_err_and c.from_residual.result c.from_residual.ensures.1 in
+    let came = c.in_err-write_reply.field-0.0 in
+    absurd (not_of_writing came c.in_err-write_reply.ensures.fault (came_as_input c.from_residual.result p.0 came asked p.1 p.2))
+
+pub returns-in_err-serve_line-clause-input : goal.returns-in_err-serve_line-clause-input
+returns-in_err-serve_line-clause-input g c = λ asked.
+    let p = err_from_is_err_and c.from_residual-in_err-serve_line.result c.from_residual-in_err-serve_line.ensures.1 in
+    let contents = g.W.Write.contents in
+    let left = reader_remaining g.R.Read.remaining in
+    let s = c.args.self.now in
+    no_line_found g.L.DecisionLog.moment c.args.name.now (greeting_of s) (left c.args.input.now) (left c.loop.input) (left c.serve_line.new.input)
+    (contents c.args.output.now) (contents c.loop.output) (contents c.serve_line.new.output) s c.loop.self c.serve_line.new.self
+    c.loop.invariant.some (c.in_err-serve_line.ensures.input
+    (came_so c.from_residual-in_err-serve_line.result p.0 c.in_err-serve_line.field-0.0 asked p.1 p.2))
+
+pub returns-clause-input : goal.returns-clause-input
+returns-clause-input g c = λ asked.
+    let contents = g.W.Write.contents in
+    let left = reader_remaining g.R.Read.remaining in
+    let s = c.args.self.now in
+    let mid = left c.loop.input in
+    input_failed g.L.DecisionLog.moment c.args.name.now (greeting_of s) (left c.args.input.now) mid mid (contents c.args.output.now)
+    (contents c.loop.output) s c.loop.self c.loop.invariant.some
+    (record { begun = []; plain = refl; consumed = consumed_none mid mid (keeps_all mid) })
