@@ -13,7 +13,7 @@ import subprocess
 import threading
 import time
 import weakref
-from typing import Deque, Iterator, List, Optional, Sequence, Tuple
+from typing import Deque, Dict, Iterable, Iterator, List, Optional, Sequence, Tuple
 
 from .errors import CoordinatorGone, LogInUse, NotNow, SetupError, log
 from .logs import MOMENT, REFUSED, Names, is_disk_full
@@ -83,9 +83,10 @@ class Coordinator:
         self._asked = 0
         # Whether one of the first is to be written as soon as no reply is waited for.
         self._is_due = False
-        # What is told after each reading, and at the end; and whether a thread reads.
-        self._reading = threading.Condition()
+        # Whether a thread reads; and what wakes those that wait meanwhile, by what they wait for. Both under the lock `_reading`.
+        self._reading = threading.RLock()
         self._is_read = False
+        self._asleep: Dict[Reply, threading.Condition] = {}
         # The beginning of a line whose end has yet to come.
         self._begun = b""
         self._ending = threading.Lock()
@@ -235,14 +236,33 @@ class Coordinator:
     def _read_until(self, reply: Reply) -> None:
         """Waits for a reply: reads, or lets another thread read, which wakes this one."""
         with self._reading:
-            while reply.words is None and self._fault is None:
+            try:
+                while reply.words is None and self._fault is None:
+                    if self._is_read:
+                        self._sleep(reply)
+                    else:
+                        self._read()
+            finally:
                 if not self._is_read:
-                    self._read()
-                # Who reads ends with a reply, or with the session.
-                elif not self._reading.wait(2 * self._patience + LONGEST_END):
-                    self._silent()
+                    # Somebody has to read on.
+                    self._wake(list(self._asleep)[:1])
         if reply.words is None:
             raise self._gone(self._fault or "")
+
+    def _sleep(self, reply: Reply) -> None:
+        """Sleeps until it is woken. Called with the lock `_reading`, which is free meanwhile."""
+        woken = self._asleep.setdefault(reply, threading.Condition(self._reading))
+        try:
+            # Who reads ends with a reply, or with the session.
+            if not woken.wait(2 * self._patience + LONGEST_END):
+                self._silent()
+        finally:
+            self._asleep.pop(reply, None)
+
+    def _wake(self, replies: Iterable[Reply]) -> None:
+        """Wakes those that wait for these. Called with the lock `_reading`."""
+        for reply in replies:
+            self._asleep.pop(reply).notify_all()
 
     def _read(self) -> None:
         """Reads what has come: the replies to the lines that were written first. Called with the lock `_reading`, which is free while it
@@ -258,7 +278,7 @@ class Coordinator:
         finally:
             self._reading.acquire()
             self._is_read = False
-            self._reading.notify_all()
+            self._wake([reply for reply in self._asleep if reply.words is not None])
 
     def _take(self, line: str) -> None:
         """Takes the reply to the line that was written first."""
@@ -352,7 +372,7 @@ class Coordinator:
         # Whoever still reads finds its end first.
         self._socket.close()
         with self._reading:
-            self._reading.notify_all()
+            self._wake(list(self._asleep))
 
     def _sees_its_end(self) -> bool:
         """Waits for the end of the process, and brings it about. It isn't to be had while its disk hangs."""

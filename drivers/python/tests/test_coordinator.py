@@ -45,6 +45,19 @@ def process(program):
     return Coordinator([sys.executable, "-c", program])
 
 
+#: Replies to a line once there is a file of its number, from 1.
+ONE_BY_ONE = """
+import os, sys, time
+print("restarted 1 0 0", flush=True)
+sys.stdin.readline()
+print("due", flush=True)
+for number, line in enumerate(sys.stdin, 1):
+    while not os.path.exists(f"{sys.argv[1]}/{number}"):
+        time.sleep(0.001)
+    print(line, end="", flush=True)
+"""
+
+
 class Coordinators(unittest.TestCase):
     def test_each_thread_gets_its_own_replies(self):
         coordinator = process(ECHO)
@@ -126,6 +139,32 @@ class Coordinators(unittest.TestCase):
             # Of the eight the first seven stand on two or three lines, as the second move of the thread comes among them.
             self.assertLessEqual(counts.count("1"), 3)
             coordinator.kill()
+
+    def test_a_reply_wakes_who_waits_for_it_and_one_that_reads_on(self):
+        woken, wait = [], threading.Condition.wait
+
+        def counted(condition, timeout=None):
+            is_woken = wait(condition, timeout)
+            # Who starts a thread waits without a limit.
+            woken.extend([is_woken] if timeout is not None else [])
+            return is_woken
+
+        with tempfile.TemporaryDirectory() as folder:
+            coordinator = Coordinator([sys.executable, "-c", ONE_BY_ONE, folder])
+            replies = [coordinator.post(f"join {number}", number) for number in range(8)]
+            with mock.patch("threading.Condition.wait", counted):
+                threads = [threading.Thread(target=coordinator.wait, args=[reply]) for reply in replies]
+                for thread in threads:
+                    thread.start()
+                for number, thread in enumerate(threads, 1):
+                    time.sleep(0.05)
+                    with open(os.path.join(folder, str(number)), "w"):
+                        pass
+                    thread.join()
+            coordinator.kill()
+        self.assertEqual([reply.words for reply in replies], [f"join {number}" for number in range(8)])
+        # Seven wait while one reads. Each is woken for its reply, or before that to read in place of one whose reply came.
+        self.assertLessEqual(len(woken), 14)
 
     def test_one_that_is_stopped_is_waited_for_no_longer_than_the_patience(self):
         # A reply that never comes, to who reads and to who waits for that one; and a pipe that is full.
