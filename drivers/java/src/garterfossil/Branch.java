@@ -17,7 +17,7 @@ final class Branch {
     final ResourceManager rm;
     final Gate gate = new Gate();
     private final ResourceManager.Lease lease;
-    private final XAResource resource;
+    final XAResource resource;
     // How long its transaction may still go on.
     private final Supplier<Duration> left;
     private boolean isBegun, isFailed, isEnded, isPrepareMade, isOver, isInHaste;
@@ -32,10 +32,6 @@ final class Branch {
         this.lease = lease;
         this.resource = resource;
         this.left = left;
-    }
-
-    XAResource resource() {
-        return resource;
     }
 
     Link link() {
@@ -107,7 +103,7 @@ final class Branch {
             }
             code = made(verb);
             // What is put off may be on the connection still.
-            isOver = !isPrepared(verb) && code != Code.RETRY;
+            isOver = code != Code.RETRY && !(verb.equals("prepare") && code == Code.OK);
             boolean isNo = Code.isRollback(code) || code == XAException.XAER_RMERR;
             fault = isNo ? new Fault.RolledBack(rm + " voted " + Code.name(code), null) : null;
         } catch (Fault.Lost error) {
@@ -115,17 +111,16 @@ final class Branch {
         }
     }
 
-    private boolean isPrepared(String verb) {
-        return verb.equals("prepare") && code == Code.OK;
-    }
-
     private int made(String verb) throws Fault.Lost {
-        switch (verb) {
-            case "prepare": return prepare();
-            case "commit-at-once": return commitAtOnce();
-            case "undo": return undo();
-            default: bound(false); return Calls.end("xa_" + verb, resource, xid);
-        }
+        return switch (verb) {
+            case "prepare" -> prepare();
+            case "commit-at-once" -> commitAtOnce();
+            case "undo" -> undo();
+            default -> {
+                bound(false);
+                yield Calls.end("xa_" + verb, resource, xid);
+            }
+        };
     }
 
     /** How the call was answered, as the coordinator is told. */
@@ -146,9 +141,9 @@ final class Branch {
         bound(true);
         shut(Manager.WORK_PATIENCE);
         int vote;
-        if (resource instanceof PreparesAtEnd) {
+        if (resource instanceof PreparesAtEnd both) {
             isEnded = isPrepareMade = true;
-            vote = Calls.answer("xa_prepare", () -> ((PreparesAtEnd) resource).endAndPrepare(xid));
+            vote = Calls.answer("xa_prepare", () -> both.endAndPrepare(xid));
         } else {
             vote = end(XAResource.TMSUCCESS);
             if (vote != Code.OK) {
@@ -258,7 +253,7 @@ final class Branch {
 
     /** Whether the connection, which another pool has, was ended. */
     private boolean isCut() {
-        boolean isSo = lease == null && !isOver && resource instanceof OwnedXaResource && ((OwnedXaResource) resource).cut();
+        boolean isSo = lease == null && !isOver && resource instanceof OwnedXaResource owned && owned.cut();
         if (isSo) {
             rm.noteStray();
         }

@@ -42,12 +42,9 @@ public final class BranchXid implements Xid {
      */
     public static BranchXid parse(String text) {
         String[] parts = text.split(":", -1);
-        if (parts.length != 3) {
-            throw new IllegalArgumentException("no branch: " + text);
-        }
-        BranchXid found = new BranchXid(Integer.parseInt(parts[0]), HEX.parseHex(parts[1]), HEX.parseHex(parts[2]));
+        BranchXid found = parts.length != 3 ? null : new BranchXid(Integer.parseInt(parts[0]), HEX.parseHex(parts[1]), HEX.parseHex(parts[2]));
         // Another spelling is the name of another branch.
-        if (!found.toString().equals(text)) {
+        if (found == null || !found.toString().equals(text)) {
             throw new IllegalArgumentException("no branch: " + text);
         }
         return found;
@@ -106,8 +103,7 @@ public final class BranchXid implements Xid {
     // Resources compare identifiers, and an array is equal to itself alone.
     @Override
     public boolean equals(Object other) {
-        return other instanceof BranchXid && format == ((BranchXid) other).format && Arrays.equals(gtrid, ((BranchXid) other).gtrid)
-            && Arrays.equals(bqual, ((BranchXid) other).bqual);
+        return other instanceof BranchXid it && format == it.format && Arrays.equals(gtrid, it.gtrid) && Arrays.equals(bqual, it.bqual);
     }
 
     @Override

@@ -16,9 +16,9 @@ final class Branches {
     private final GlobalTransaction transaction;
     private final Manager manager;
     // Another thread may look at them as the session or the time is over.
-    private final List<Branch> all = new CopyOnWriteArrayList<>();
+    final List<Branch> all = new CopyOnWriteArrayList<>();
     private final List<Integer> unjoined = new ArrayList<>();
-    private volatile Session session;
+    volatile Session session;
     private Session.Slot slot;
     private volatile String gtrid;
 
@@ -27,16 +27,8 @@ final class Branches {
         this.manager = manager;
     }
 
-    List<Branch> all() {
-        return all;
-    }
-
     private List<Branch> begun() {
-        return all.stream().filter(Branch::isBegun).collect(Collectors.toList());
-    }
-
-    Session session() {
-        return session;
+        return all.stream().filter(Branch::isBegun).toList();
     }
 
     /** The transaction's 32 digits, or null where nothing takes part in it yet. */
@@ -50,16 +42,11 @@ final class Branches {
     }
 
     Optional<Branch> at(ResourceManager rm) {
-        for (Branch branch : all) {
-            if (branch.rm == rm) {
-                return Optional.of(branch);
-            }
-        }
-        return Optional.empty();
+        return all.stream().filter(branch -> branch.rm == rm).findFirst();
     }
 
     Optional<Branch> of(XAResource xaResource) {
-        return all.stream().filter(branch -> branch.resource() == xaResource).findFirst();
+        return all.stream().filter(branch -> branch.resource == xaResource).findFirst();
     }
 
     // ** their beginning
@@ -92,7 +79,7 @@ final class Branches {
         }
         session = up;
         slot = taken;
-        session.add(transaction);
+        session.live.add(transaction);
     }
 
     private void join(boolean isNow) throws Fault.Gone {
@@ -166,7 +153,7 @@ final class Branches {
      */
     private void release(Iterator<Branch> left, Session.Slot over) {
         if (!left.hasNext()) {
-            session.remove(transaction);
+            session.live.remove(transaction);
             session.giveBack(over);
             return;
         }

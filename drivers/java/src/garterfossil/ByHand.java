@@ -32,7 +32,7 @@ final class ByHand implements AutoCloseable {
         Resource at = at(listings, xid, xid.isOf(kept.manager, xid.rm()));
         String call = Doubt.callFor(log, kept, xid);
         Coordinator hold = new Coordinator(starter, kept.served(log, program, 1), patience);
-        long incarnation = Long.parseLong(hold.greeting.split(" ")[1]);
+        long incarnation = hold.incarnation();
         if (xid.incarnation() >= incarnation || incarnation != kept.incarnation + 1) {
             hold.quit();
             throw new Fault.Unavailable(xid.incarnation() >= incarnation
@@ -70,12 +70,12 @@ final class ByHand implements AutoCloseable {
     /** The resource that lists the branch. */
     private static Resource at(List<Listing> listings, BranchXid xid, boolean isOfManager) throws Fault.Unavailable {
         for (Listing it : listings) {
-            if (isOfManager && it.all.contains(xid)) {
-                return it.resource;
+            if (isOfManager && it.all().contains(xid)) {
+                return it.resource();
             }
         }
-        throw new Fault.Unavailable("no resource lists a branch " + xid + " of this manager" + listings.stream().filter(it -> it.fault != null)
-            .map(it -> "; " + it.resource.name() + ": " + it.fault).collect(Collectors.joining()));
+        throw new Fault.Unavailable("no resource lists a branch " + xid + " of this manager" + listings.stream().filter(it -> it.fault() != null)
+            .map(it -> "; " + it.resource().name() + ": " + it.fault()).collect(Collectors.joining()));
     }
 
     /** What is about to be done, in the words of the resource. */
@@ -86,15 +86,8 @@ final class ByHand implements AutoCloseable {
 
     /** Does it: how it was answered. */
     String end() throws Fault {
-        Duration patience = resource.patience();
-        Link link = new ResourceManager(0, resource, false).connect(patience);
-        try {
-            link.bound(patience);
-            int code = Calls.end(call, link.xaResource(), xid);
-            return code == Code.OK ? "it is ended" : "it was over already: " + Code.name(code);
-        } finally {
-            link.close();
-        }
+        int code = Listing.apart(resource, link -> Calls.end(call, link.xaResource(), xid));
+        return code == Code.OK ? "it is ended" : "it was over already: " + Code.name(code);
     }
 
     @Override

@@ -45,15 +45,17 @@ final class Calls {
     static int end(String call, XAResource resource, Xid xid) throws Fault.Lost {
         try {
             switch (call) {
-                case "xa_commit": resource.commit(xid, false); break;
-                case "xa_rollback": resource.rollback(xid); break;
-                case "xa_forget": resource.forget(xid); break;
-                default: throw new IllegalArgumentException("the coordinator told " + call);
+                case "xa_commit" -> resource.commit(xid, false);
+                case "xa_rollback" -> resource.rollback(xid);
+                case "xa_forget" -> resource.forget(xid);
+                default -> throw new IllegalArgumentException("the coordinator told " + call);
             }
             return Code.OK;
         } catch (XAException error) {
-            if (error.errorCode == Code.NOTA && !call.equals("xa_forget")) {
-                seeUnlisted(resource, xid, error);
+            boolean isNone = error.errorCode == Code.NOTA && !call.equals("xa_forget");
+            // Some say so of one whose old connection is still there.
+            if (isNone && listed(resource).contains(BranchXid.copyOf(xid))) {
+                throw new Fault.Lost("XAER_NOTA of a branch that is listed", error);
             }
             return answered(call, error);
         } catch (RuntimeException error) {
@@ -74,13 +76,6 @@ final class Calls {
             return XAException.XAER_RMERR;
         }
         throw unanswered(call, error);
-    }
-
-    /** Some say that there is no such branch of one whose old connection is still there. */
-    private static void seeUnlisted(XAResource resource, Xid xid, XAException error) throws Fault.Lost {
-        if (listed(resource).contains(BranchXid.copyOf(xid))) {
-            throw new Fault.Lost("XAER_NOTA of a branch that is listed", error);
-        }
     }
 
     /**

@@ -15,16 +15,16 @@ final class Code {
     private static final Map<Integer, String> NAMES = new HashMap<>(Map.of(OK, "XA_OK", RDONLY, "XA_RDONLY"));
 
     static {
-        for (Field field : XAException.class.getFields()) {
-            try {
+        try {
+            for (Field field : XAException.class.getFields()) {
                 // XA_RBBASE and XA_RBEND are the first and the last of some that have names of
                 // their own.
-                if (Modifier.isStatic(field.getModifiers()) && field.getType() == int.class && !field.getName().matches("XA_RB(BASE|END)")) {
+                if (Modifier.isStatic(field.getModifiers()) && !field.getName().matches("XA_RB(BASE|END)")) {
                     NAMES.put(field.getInt(null), field.getName());
                 }
-            } catch (IllegalAccessException error) {
-                throw new ExceptionInInitializerError(error);
             }
+        } catch (IllegalAccessException error) {
+            throw new ExceptionInInitializerError(error);
         }
     }
 

@@ -20,6 +20,7 @@ import java.util.Map;
 import java.util.Properties;
 import java.util.Set;
 import java.util.TreeMap;
+import java.util.stream.Collectors;
 import javax.sql.DataSource;
 import javax.sql.XADataSource;
 
@@ -131,43 +132,38 @@ public final class Command {
         try (Reader reader = Files.newBufferedReader(file)) {
             found.load(reader);
         }
-        Manager.Builder builder = Manager.over(Path.of(required(found, "log")));
+        require(found.containsKey("log"), "there is no log");
+        Manager.Builder builder = Manager.over(Path.of(found.getProperty("log")));
         if (found.containsKey("program")) {
             builder.program(found.getProperty("program"));
         }
         for (Map.Entry<String, Map<String, String>> it : resources(found).entrySet()) {
             builder.resource(resource(it.getKey(), it.getValue()));
         }
-        Map<String, String> mirror = new LinkedHashMap<>();
-        found.stringPropertyNames().stream().filter(key -> key.startsWith(MIRROR))
-            .forEach(key -> mirror.put(key.substring(MIRROR.length()), found.getProperty(key)));
+        Map<String, String> mirror = found.stringPropertyNames().stream().filter(key -> key.startsWith(MIRROR))
+            .collect(Collectors.toMap(key -> key.substring(MIRROR.length()), found::getProperty));
         if (!mirror.isEmpty()) {
             Object source = made("mirror", mirror);
-            if (!(source instanceof DataSource)) {
-                throw new IllegalArgumentException(source.getClass().getName() + " is no DataSource");
-            }
+            require(source instanceof DataSource, source.getClass().getName() + " is no DataSource");
             builder.mirror((DataSource) source);
         }
         return builder;
     }
 
-    private static String required(Properties found, String key) {
-        if (!found.containsKey(key)) {
-            throw new IllegalArgumentException("there is no " + key);
+    private static void require(boolean isRight, String text) {
+        if (!isRight) {
+            throw new IllegalArgumentException(text);
         }
-        return found.getProperty(key);
     }
 
     /** What is set of each resource, by their names. */
     private static Map<String, Map<String, String>> resources(Properties found) {
         Map<String, Map<String, String>> all = new TreeMap<>();
         for (String key : found.stringPropertyNames()) {
-            String[] parts = key.split("\\.", 3);
-            if (key.startsWith(RESOURCE) && (parts.length < 3 || parts[1].isEmpty() || parts[2].isEmpty())) {
-                throw new IllegalArgumentException("a resource's line has NAME.class after " + RESOURCE
-                    + ", or NAME and what is to be set, and not: " + key);
-            }
             if (key.startsWith(RESOURCE)) {
+                String[] parts = key.split("\\.", 3);
+                require(parts.length == 3 && !parts[1].isEmpty() && !parts[2].isEmpty(), "a resource's line has NAME.class after " + RESOURCE
+                    + ", or NAME and what is to be set, and not: " + key);
                 all.computeIfAbsent(parts[1], it -> new LinkedHashMap<>()).put(parts[2], found.getProperty(key));
             }
         }
@@ -176,9 +172,7 @@ public final class Command {
 
     /** The object of a class, with what is to be set on it. */
     private static Object made(String what, Map<String, String> set) throws ReflectiveOperationException {
-        if (!set.containsKey("class")) {
-            throw new IllegalArgumentException("there is no " + what + ".class");
-        }
+        require(set.containsKey("class"), "there is no " + what + ".class");
         Object source = Class.forName(set.remove("class")).getDeclaredConstructor().newInstance();
         for (Map.Entry<String, String> it : set.entrySet()) {
             set(source, it.getKey(), it.getValue());
@@ -188,14 +182,12 @@ public final class Command {
 
     private static Resource resource(String name, Map<String, String> set) throws ReflectiveOperationException {
         Object source = made(RESOURCE + name, set);
-        if (source instanceof XADataSource) {
-            return JdbcResource.of(name, (XADataSource) source);
+        if (source instanceof XADataSource database) {
+            return JdbcResource.of(name, database);
         }
         // JMS isn't everywhere.
         Class<?> factory = Class.forName("javax.jms.XAConnectionFactory");
-        if (!factory.isInstance(source)) {
-            throw new IllegalArgumentException(source.getClass().getName() + " is no XADataSource, and no " + factory.getName());
-        }
+        require(factory.isInstance(source), source.getClass().getName() + " is no XADataSource, and no " + factory.getName());
         return (Resource) Class.forName("garterfossil.jms.JmsResource").getMethod("of", String.class, factory).invoke(null, name, source);
     }
 
@@ -216,20 +208,14 @@ public final class Command {
     }
 
     private static Object value(Class<?> kind, String name, String text) {
-        if (kind == String.class) {
-            return text;
-        }
-        if (kind == boolean.class && (text.equalsIgnoreCase("true") || text.equalsIgnoreCase("false"))) {
+        if (kind == boolean.class) {
+            require(text.equalsIgnoreCase("true") || text.equalsIgnoreCase("false"), name + " is to be true or false, and not: " + text);
             return Boolean.valueOf(text);
         }
         try {
-            if (kind == int.class) {
-                return Integer.valueOf(text);
-            }
+            return kind == int.class ? (Object) Integer.valueOf(text) : text;
         } catch (NumberFormatException error) {
-            // It is said below.
+            throw new IllegalArgumentException(name + " is to be a whole number, and not: " + text);
         }
-        String wanted = kind == int.class ? "a whole number" : "true or false";
-        throw new IllegalArgumentException(name + " is to be " + wanted + ", and not: " + text);
     }
 }

@@ -58,14 +58,7 @@ class Coordinator {
     }
 
     /** What was written as one line. */
-    private static final class Line {
-        final List<Reply> replies;
-        final boolean isGathered;
-
-        Line(List<Reply> replies, boolean isGathered) {
-            this.replies = replies;
-            this.isGathered = isGathered;
-        }
+    private record Line(List<Reply> replies, boolean isGathered) {
     }
 
     /** The first line of the session. */
@@ -148,8 +141,7 @@ class Coordinator {
             readUntil(reply);
         } catch (IOException error) {
             Fault.Gone gone = gone(error.getMessage());
-            boolean isOlder = gone.getMessage().contains("--moves");
-            throw isOlder ? new Fault.Gone("it is " + OLDER + ", which it has to conduct (--moves)") : gone;
+            throw gone.getMessage().contains("--moves") ? new Fault.Gone("it is " + OLDER + ", which it has to conduct (--moves)") : gone;
         }
         return reply.text;
     }
@@ -163,6 +155,11 @@ class Coordinator {
 
     boolean isGone() {
         return fault != null;
+    }
+
+    /** The number of the session. */
+    long incarnation() {
+        return Long.parseLong(greeting.split(" ")[1]);
     }
 
     /** Sees whether the process still runs, since nobody else does while nothing is asked. */
@@ -214,14 +211,14 @@ class Coordinator {
      */
     void flush() {
         if (!isDeciding) {
-            write();
+            write(true);
         }
     }
 
     /** The reply to a move that was posted. */
     String await(Reply reply) throws Fault.Gone {
         if (reply.text == null) {
-            write();
+            write(true);
             try {
                 readUntil(reply);
             } catch (IOException error) {
@@ -243,20 +240,9 @@ class Coordinator {
     /**
      * Writes what was posted, unless another thread does: that writes this too. If it can't be
      * written, the process is ended, and whoever waits finds that out by reading: what it had
-     * replied before is still to be read.
+     * replied before is still to be read. The thread that reads writes too, after the reply to a
+     * decision, so that the next one is made at once: that waits for no reply.
      */
-    private void write() {
-        write(true);
-    }
-
-    /**
-     * The same by the thread that reads, after the reply to a decision, so that the next one is
-     * made at once. It waits for no reply.
-     */
-    private void writeNext() {
-        write(false);
-    }
-
     private void write(boolean mayWait) {
         boolean isLeft = false;
         try {
@@ -430,7 +416,7 @@ class Coordinator {
         // What was gathered meanwhile goes first: the coordinator needn't wait until another thread
         // runs.
         if (isDecided || isPutOff) {
-            writeNext();
+            write(false);
         }
         for (Reply reply : given) {
             if (reply.waiter != null) {

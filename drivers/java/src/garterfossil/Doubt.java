@@ -33,7 +33,7 @@ public final class Doubt {
      * That of a log which holds this, as the resources list it; of a program that has the log
      * without what is listed for less than so long.
      */
-    Doubt(Path log, KeptLog kept, Supplier<List<Listing>> look, long young) throws Fault.Unavailable {
+    Doubt(Path log, KeptLog kept, Supplier<List<Listing>> look, long young) throws Fault {
         this.log = log;
         this.kept = kept;
         this.young = young;
@@ -44,7 +44,7 @@ public final class Doubt {
         List<String> waiting = new ArrayList<>(kept.decisions.keySet());
         for (Map.Entry<Integer, Listing> it : settled(look).entrySet()) {
             tell(it.getKey(), it.getValue());
-            it.getValue().all.forEach(xid -> waiting.remove(xid.transaction()));
+            it.getValue().all().forEach(xid -> waiting.remove(xid.transaction()));
         }
         if (!waiting.isEmpty() && !kept.isInUse) {
             lines.add(waiting.size() + " of the decisions have no branch " + (unreachable > 0 ? "at the resources that answered"
@@ -56,19 +56,14 @@ public final class Doubt {
      * What they list by their numbers: of a manager that has its log without what it is about to
      * end.
      */
-    private Map<Integer, Listing> settled(Supplier<List<Listing>> look) throws Fault.Unavailable {
+    private Map<Integer, Listing> settled(Supplier<List<Listing>> look) throws Fault {
         Map<Integer, Listing> found = numbered(look.get());
         long begun = System.nanoTime();
         while (kept.isInUse && seconds < young && found.entrySet().stream().anyMatch(it -> !own(it.getKey(), it.getValue()).isEmpty())) {
-            try {
-                Thread.sleep(PAUSE_MILLIS);
-            } catch (InterruptedException error) {
-                Thread.currentThread().interrupt();
-                throw new Fault.Unavailable("interrupted");
-            }
+            Apart.pause(PAUSE_MILLIS);
             Map<Integer, Listing> again = numbered(look.get());
             // What has come since is younger.
-            again.forEach((number, it) -> it.all.retainAll(found.get(number).all));
+            again.forEach((number, it) -> it.all().retainAll(found.get(number).all()));
             found.putAll(again);
             seconds = (System.nanoTime() - begun) / 1_000_000_000;
         }
@@ -77,24 +72,24 @@ public final class Doubt {
 
     private Map<Integer, Listing> numbered(List<Listing> listings) {
         Map<Integer, Listing> found = new TreeMap<>();
-        listings.forEach(it -> found.put(kept.numberOf(it.resource), it));
+        listings.forEach(it -> found.put(kept.numberOf(it.resource()), it));
         return found;
     }
 
     private List<BranchXid> own(int number, Listing it) {
-        return it.all.stream().filter(xid -> xid.isOf(kept.manager, number)).collect(Collectors.toList());
+        return it.all().stream().filter(xid -> xid.isOf(kept.manager, number)).collect(Collectors.toList());
     }
 
     private void tell(int number, Listing it) throws Fault.Unavailable {
         List<BranchXid> own = own(number, it);
-        String head = "resource " + number + ", " + it.resource.name() + ": ";
-        lines.add(head + (it.fault == null ? own.size() + " in doubt" : "not reached: " + it.fault));
-        unreachable += it.fault == null ? 0 : 1;
+        String head = "resource " + number + ", " + it.resource().name() + ": ";
+        lines.add(head + (it.fault() == null ? own.size() + " in doubt" : "not reached: " + it.fault()));
+        unreachable += it.fault() == null ? 0 : 1;
         branches += own.size();
         for (BranchXid xid : own) {
-            tell(it.resource, xid);
+            tell(it.resource(), xid);
         }
-        it.all.stream().filter(xid -> !xid.manager().equals(kept.manager)).collect(Collectors.groupingBy(BranchXid::manager, TreeMap::new, Collectors.toList()))
+        it.all().stream().filter(xid -> !xid.manager().equals(kept.manager)).collect(Collectors.groupingBy(BranchXid::manager, TreeMap::new, Collectors.toList()))
             .forEach(this::tellOthers);
     }
 

@@ -30,7 +30,7 @@ final class Fates {
     /** The next session begins, and is asked: which of them are committed. */
     Set<String> find(Coordinator coordinator) throws Fault {
         for (String gtrid : expected.keySet()) {
-            Outcome fate = coordinator.told(coordinator.post("fate " + gtrid)).outcome();
+            Outcome fate = coordinator.told(coordinator.post("fate " + gtrid)).outcome;
             if (fate == null) {
                 throw new Fault.Refused("the coordinator doesn't say what became of " + gtrid);
             }

@@ -1,16 +1,20 @@
 package garterfossil;
 
 /** What a driver's own work may end in. Its subclasses say what is so then. */
+@SuppressWarnings("serial")
 public abstract class Fault extends Exception {
-    private static final long serialVersionUID = 1;
-
     Fault(String text, Throwable cause) {
         super(text, cause);
     }
 
+    /** An exception with its cause, if its class has no constructor for that. */
+    public static <E extends Exception> E caused(E error, Throwable cause) {
+        error.initCause(cause);
+        return error;
+    }
+
     /** The coordinator has ended, or its log failed: the session is over. */
     public static final class Gone extends Fault {
-        private static final long serialVersionUID = 1;
         /** The status that the program ended with; 0 where that isn't known. */
         final int status;
 
@@ -29,8 +33,6 @@ public abstract class Fault extends Exception {
      * (docs/MOVES.md).
      */
     public static final class Refused extends Fault {
-        private static final long serialVersionUID = 1;
-
         Refused(String text) {
             super(text, null);
         }
@@ -41,8 +43,6 @@ public abstract class Fault extends Exception {
      * call that was under way was done.
      */
     public static final class Lost extends Fault {
-        private static final long serialVersionUID = 1;
-
         /** One of which the cause, if there is one, says more. */
         public Lost(String text, Throwable cause) {
             super(text + (cause == null ? "" : ": " + cause.getMessage()), cause);
@@ -51,8 +51,6 @@ public abstract class Fault extends Exception {
 
     /** What is asked for didn't come free in time, or isn't allowed now. Nothing was begun. */
     public static final class Unavailable extends Fault {
-        private static final long serialVersionUID = 1;
-
         /** One that says why, and what to do. */
         public Unavailable(String text) {
             super(text, null);
@@ -68,8 +66,6 @@ public abstract class Fault extends Exception {
      * soon as it can.
      */
     public static final class RolledBack extends Fault {
-        private static final long serialVersionUID = 1;
-
         RolledBack(String text, Throwable cause) {
             super(text, cause);
         }
@@ -80,8 +76,6 @@ public abstract class Fault extends Exception {
      * alike.
      */
     public static final class OutcomeUnknown extends Fault {
-        private static final long serialVersionUID = 1;
-
         OutcomeUnknown(String text, Throwable cause) {
             super(text, cause);
         }
@@ -89,7 +83,6 @@ public abstract class Fault extends Exception {
 
     /** A resource had ended its branch by itself. The coordinator's log has a record of it. */
     public static final class Heuristic extends Fault {
-        private static final long serialVersionUID = 1;
         /** Whether all branches are rolled back although it was decided to commit. */
         public final boolean isAllRolledBack;
         /** Whether nobody knows how some branch ended (XA_HEURHAZ). */

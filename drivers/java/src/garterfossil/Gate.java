@@ -75,23 +75,10 @@ public final class Gate {
     /** An interrupt waits: it isn't work that goes on. */
     private boolean isLeft(long patience) {
         long until = System.nanoTime() + patience * 1_000_000;
-        boolean isInterrupted = false;
-        try {
-            while (true) {
-                try {
-                    boolean isFree = lock.tryLock(until - System.nanoTime(), TimeUnit.NANOSECONDS);
-                    if (isFree) {
-                        lock.unlock();
-                    }
-                    return isFree;
-                } catch (InterruptedException error) {
-                    isInterrupted = true;
-                }
-            }
-        } finally {
-            if (isInterrupted) {
-                Thread.currentThread().interrupt();
-            }
+        boolean isFree = Apart.<Boolean, RuntimeException>uninterrupted(() -> lock.tryLock(until - System.nanoTime(), TimeUnit.NANOSECONDS));
+        if (isFree) {
+            lock.unlock();
         }
+        return isFree;
     }
 }

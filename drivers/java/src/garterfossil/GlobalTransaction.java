@@ -11,6 +11,7 @@ import java.util.StringJoiner;
 import java.util.concurrent.Future;
 import java.util.concurrent.TimeUnit;
 import java.util.concurrent.locks.ReentrantLock;
+import java.util.stream.Collectors;
 import javax.transaction.xa.XAResource;
 
 /**
@@ -18,23 +19,13 @@ import javax.transaction.xa.XAResource;
  * rolled back.
  */
 public final class GlobalTransaction {
-    /** A branch as the program has it. */
-    public static final class Enlisted {
-        private final Branch branch;
-
-        private Enlisted(Branch branch) {
-            this.branch = branch;
-        }
-
-        /** The connection that the branch works on. */
-        public Link link() {
-            return branch.link();
-        }
-
-        /** What the program's work on the connection goes through. */
-        public Gate gate() {
-            return branch.gate;
-        }
+    /**
+     * A branch as the program has it.
+     *
+     * @param link the connection that it works on
+     * @param gate what the program's work on that goes through
+     */
+    public record Enlisted(Link link, Gate gate) {
     }
 
     /**
@@ -80,8 +71,8 @@ public final class GlobalTransaction {
 
     /** Its name, and how it stands. */
     String told() {
-        return this + ": " + outcome + ", for " + (System.nanoTime() - begun) / 1_000_000_000 + " s, at " + branches.all().stream()
-            .map(branch -> branch.rm.toString()).collect(java.util.stream.Collectors.joining(", "));
+        return this + ": " + outcome + ", for " + (System.nanoTime() - begun) / 1_000_000_000 + " s, at " + branches.all.stream()
+            .map(branch -> branch.rm.toString()).collect(Collectors.joining(", "));
     }
 
     /** How it stands. */
@@ -232,7 +223,8 @@ public final class GlobalTransaction {
      * The branch at a resource, over a connection of the pool. It begins as it is first asked for.
      */
     public Enlisted enlist(Resource resource) throws Fault {
-        return new Enlisted(branchAt(resource, null));
+        Branch branch = branchAt(resource, null);
+        return new Enlisted(branch.link(), branch.gate);
     }
 
     /** The branch of a connection that the program brought, at the resource that it belongs to. */
@@ -252,7 +244,7 @@ public final class GlobalTransaction {
             if (brought == null && found.isLost()) {
                 throw new Fault.Unavailable("the connection of " + this + " to " + rm + " was lost: roll it back");
             }
-            if (brought == null ? found.link() == null : found.resource() != brought) {
+            if (brought == null ? found.link() == null : found.resource != brought) {
                 throw new Fault.Unavailable(this + " has a connection to " + rm + " already, and takes part there by one alone");
             }
             return found;
@@ -262,11 +254,11 @@ public final class GlobalTransaction {
     }
 
     private Branch begun(ResourceManager rm, XAResource brought) throws Fault {
-        int count = branches.all().size();
+        int count = branches.all.size();
         try {
             return branches.begin(rm, brought);
         } catch (Fault | RuntimeException | Error error) {
-            if (branches.all().size() > count) {
+            if (branches.all.size() > count) {
                 mark("no branch at " + rm + ": " + error.getMessage(), error);
             }
             throw error;
@@ -288,11 +280,10 @@ public final class GlobalTransaction {
 
     private void requireActive() throws Fault {
         requireOpen();
-        if (outcome == Outcome.MARKED_ROLLBACK) {
-            throw new Fault.Unavailable(this + " can only be rolled back: " + fault);
-        }
         if (branches.isSessionOver()) {
             mark("the coordinator ended", null);
+        }
+        if (outcome == Outcome.MARKED_ROLLBACK) {
             throw new Fault.Unavailable(this + " can only be rolled back: " + fault);
         }
     }
@@ -346,10 +337,10 @@ public final class GlobalTransaction {
     }
 
     private void commitLocked() throws Fault {
-        if (fault == null && branches.isSessionOver()) {
+        if (branches.isSessionOver()) {
             mark("the coordinator ended", null);
         }
-        for (Branch branch : branches.all()) {
+        for (Branch branch : branches.all) {
             if (branch.isLost()) {
                 mark("the connection to " + branch.rm + " was lost", null);
             }
@@ -365,12 +356,12 @@ public final class GlobalTransaction {
         Hands hands = branches.hands();
         Told told;
         try {
-            told = hands.commit();
+            told = hands.end("commit", false);
         } catch (Fault.Gone gone) {
             seeFate(hands, gone);
             return;
         }
-        outcome = told.outcome();
+        outcome = told.outcome;
         seePlain(told, hands);
         seeCommitted(told, hands);
     }
@@ -389,7 +380,7 @@ public final class GlobalTransaction {
         boolean isCommitted = outcome == Outcome.COMMITTED;
         long rolledBack = codes.stream().filter(code -> code == Code.HEURRB).count();
         String text = this + (isCommitted ? " is committed" : " is rolled back") + ", but not everywhere: " + how + ". See xatm log";
-        throw new Fault.Heuristic(text, isCommitted && rolledBack == hands.rows(), !isCommitted || codes.contains(Code.HEURHAZ));
+        throw new Fault.Heuristic(text, isCommitted && rolledBack == hands.rows, !isCommitted || codes.contains(Code.HEURHAZ));
     }
 
     private void seeCommitted(Told told, Hands hands) throws Fault {
@@ -411,12 +402,12 @@ public final class GlobalTransaction {
      * branches, too.
      */
     private void seeFate(Hands hands, Fault.Gone gone) throws Fault {
-        if (hands.sure() == null) {
+        if (hands.sure == null) {
             // Whoever begins the next session needn't wait for this thread, which waits for that.
             isGivenUp = true;
             branches.abandon("the coordinator ended");
         }
-        Outcome fate = hands.sure() != null ? hands.sure() : manager.fateOf(branches.gtrid());
+        Outcome fate = hands.sure != null ? hands.sure : manager.fateOf(branches.gtrid());
         outcome = fate;
         if (fate == Outcome.UNKNOWN) {
             throw new Fault.OutcomeUnknown(this + ": " + gone.getMessage() + ". The next session ends it everywhere alike", gone);
@@ -428,9 +419,9 @@ public final class GlobalTransaction {
 
     /** An error of the driver itself: the next session ends what is open. */
     private void giveUp(Throwable error) {
-        if (branches.session() != null) {
+        if (branches.session != null) {
             manager.fates.forget(branches.gtrid());
-            branches.session().coordinator.failed(error);
+            branches.session.coordinator.failed(error);
         }
     }
 
@@ -453,10 +444,10 @@ public final class GlobalTransaction {
         try {
             if (branches.gtrid() != null && !branches.isSessionOver()) {
                 if (isApart) {
-                    branches.all().forEach(Branch::makeHaste);
+                    branches.all.forEach(Branch::makeHaste);
                 }
                 Hands hands = branches.hands();
-                Told told = hands.rollBack(isApart);
+                Told told = hands.end("rollback", isApart);
                 outcome = Outcome.ROLLED_BACK;
                 seePlain(told, hands);
             }
@@ -482,24 +473,20 @@ public final class GlobalTransaction {
         String why = "the coordinator ended: roll " + this + " back";
         mark("the coordinator ended", null);
         branches.bar(why);
+        boolean isMine = false;
         try {
-            boolean isMine = false;
             while (!isMine && !isGivenUp && System.nanoTime() < until) {
                 isMine = lock.tryLock(20, TimeUnit.MILLISECONDS);
             }
             if (isMine) {
-                giveUpHere(why);
+                branches.abandon(why);
             }
         } catch (InterruptedException error) {
             Thread.currentThread().interrupt();
-        }
-    }
-
-    private void giveUpHere(String why) {
-        try {
-            branches.abandon(why);
         } finally {
-            lock.unlock();
+            if (isMine) {
+                lock.unlock();
+            }
         }
     }
 

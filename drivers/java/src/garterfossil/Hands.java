@@ -20,9 +20,9 @@ final class Hands {
     private final Session.Slot slot;
     private final Manager manager;
     // What becomes of the transaction if the coordinator ends now; null if the next session knows.
-    private Outcome sure = Outcome.ROLLED_BACK;
+    Outcome sure = Outcome.ROLLED_BACK;
     // How many branches were to be committed, as the log has them.
-    private int rows;
+    int rows;
 
     Hands(GlobalTransaction transaction, List<Branch> begun, Session session, Session.Slot slot, Manager manager) {
         this.transaction = transaction;
@@ -32,50 +32,29 @@ final class Hands {
         this.manager = manager;
     }
 
-    /** The work is over: how the transaction ended. */
-    Told commit() throws Fault.Gone {
+    /**
+     * The work is over, and is to be committed ("commit") or rolled back ("rollback"): how the
+     * transaction ended. With {@code isApart} no branch waits for another: one's resource may be
+     * silent.
+     */
+    Told end(String move, boolean isApart) throws Fault.Gone {
         try {
             Told joined = slot.joined();
-            return conduct(branches.size() > 1 ? joined : slot.end("commit"), false);
+            return conduct(move.equals("commit") && branches.size() > 1 ? joined : slot.end(move), isApart);
+        } catch (Fault.Gone gone) {
+            throw gone;
         } catch (Fault fault) {
-            throw gone(fault);
+            // It refused what can't be refused, and so is ended.
+            throw session.coordinator.failed(fault);
         }
-    }
-
-    /**
-     * Rolls back. With {@code isApart} no branch waits for another: one's resource may be silent.
-     */
-    Told rollBack(boolean isApart) throws Fault.Gone {
-        try {
-            return conduct(slot.end("rollback"), isApart);
-        } catch (Fault fault) {
-            throw gone(fault);
-        }
-    }
-
-    /**
-     * What becomes of the transaction now that the coordinator has ended; null if the next session
-     * knows.
-     */
-    Outcome sure() {
-        return sure;
-    }
-
-    int rows() {
-        return rows;
-    }
-
-    /** The coordinator has ended; or it refused what can't be refused, and so is ended. */
-    private Fault.Gone gone(Fault fault) {
-        return fault instanceof Fault.Gone ? (Fault.Gone) fault : session.coordinator.failed(fault);
     }
 
     private Told conduct(Told first, boolean isApart) throws Fault {
         Told told = first;
         // The first calls are at all branches: else the coordinator doesn't know of one.
         seeExpected(told, told.rms.size() == branches.size());
-        while (seen(told).outcome() == null) {
-            List<Branch> called = told.rms.stream().map(this::at).collect(Collectors.toList());
+        while (seen(told).outcome == null) {
+            List<Branch> called = told.rms.stream().map(this::at).toList();
             make(told, called, isApart);
             String answers = called.stream().map(branch -> " " + branch.answer()).collect(Collectors.joining());
             if (ENDS.contains(told.verb) && called.stream().allMatch(it -> !it.isLost() && it.code() == Code.OK)) {
@@ -85,7 +64,7 @@ final class Hands {
             }
             told = tell(answers, told.verb.equals("prepare"));
         }
-        slot.over(told);
+        slot.next = told.next;
         return over(told);
     }
 
@@ -100,7 +79,7 @@ final class Hands {
     }
 
     private List<BranchXid> xidsOf(List<Integer> rms) {
-        return rms.stream().map(rm -> at(rm).xid).collect(Collectors.toList());
+        return rms.stream().map(rm -> at(rm).xid).toList();
     }
 
     private static void seeExpected(Told told, boolean isExpected) throws Fault.Refused {
@@ -111,9 +90,9 @@ final class Hands {
 
     /** The same: an outcome, or calls, of which each branch is one of the transaction's. */
     private Told seen(Told told) throws Fault.Refused {
-        boolean isCall = told.outcome() == null;
-        seeExpected(told, isCall ? !told.rms.isEmpty() && (told.stage() != null || told.verb.equals("forget"))
-            : told.outcome() != Outcome.UNKNOWN || !told.owed.isEmpty());
+        boolean isCall = told.outcome == null;
+        seeExpected(told, isCall ? !told.rms.isEmpty() && (told.stage != null || told.verb.equals("forget"))
+            : told.outcome != Outcome.UNKNOWN || !told.owed.isEmpty());
         List<Integer> named = new ArrayList<>(told.owed);
         for (int at = 0; at < told.mixed.size(); at += 2) {
             named.add(told.mixed.get(at));
@@ -130,8 +109,8 @@ final class Hands {
     }
 
     private void make(Told told, List<Branch> called, boolean isApart) {
-        if (told.stage() != null) {
-            transaction.become(told.stage());
+        if (told.stage != null) {
+            transaction.become(told.stage);
         }
         if (told.verb.equals("commit")) {
             sure = Outcome.COMMITTED;
@@ -141,7 +120,7 @@ final class Hands {
         }
         // An xa_commit in one phase may have been made whatever comes.
         sure = told.verb.equals("commit-at-once") ? Outcome.UNKNOWN : sure;
-        manager.helpers.each(called, isApart, session.isBusy(), branch -> branch.make(told.verb));
+        manager.helpers.each(called, isApart, session.open(), branch -> branch.make(told.verb));
         note(told.verb, called);
     }
 
@@ -156,7 +135,7 @@ final class Hands {
         } else if (verb.equals("commit-at-once") && !called.get(0).isLost()) {
             sure = isYes ? Outcome.COMMITTED : Outcome.ROLLED_BACK;
         } else if (verb.equals("rollback")) {
-            called.stream().filter(it -> !it.isLost()).forEach(it -> session.noteUndone(it.xid));
+            called.stream().filter(it -> !it.isLost()).forEach(it -> session.undone.add(it.xid));
         }
     }
 

@@ -1,5 +1,6 @@
 package garterfossil;
 
+import java.lang.management.ManagementFactory;
 import java.util.ArrayList;
 import java.util.List;
 import java.util.concurrent.ExecutionException;
@@ -10,6 +11,7 @@ import java.util.concurrent.ThreadFactory;
 import java.util.concurrent.ThreadPoolExecutor;
 import java.util.concurrent.TimeUnit;
 import java.util.concurrent.atomic.AtomicInteger;
+import java.util.function.Consumer;
 
 /**
  * Threads that make calls at several resources at the same time: the thread that asks makes one,
@@ -17,44 +19,50 @@ import java.util.concurrent.atomic.AtomicInteger;
  * so it never waits for a helper to come free.
  */
 final class Helpers {
-    /** What is done for each of several branches. */
-    interface Step {
-        void make(Branch branch);
-    }
+    private static final int PROCESSORS = Runtime.getRuntime().availableProcessors();
+    private static final double HIGH = 0.75;
 
+    // Whether the machine's processors are busy; they are taken to be if the system doesn't say.
+    private volatile boolean isHigh = true;
     private final int most;
     private final ThreadPoolExecutor threads;
     // How many threads have steps made at this moment.
     private final AtomicInteger asking = new AtomicInteger();
 
     Helpers(int most) {
-        this(most, Thread::new);
+        this(most, Apart.daemons("helper"));
     }
 
     Helpers(int most, ThreadFactory made) {
         this.most = most;
         // Nothing waits there: whom no helper takes a part from makes it itself.
-        threads = new ThreadPoolExecutor(0, Math.max(1, most), 60, TimeUnit.SECONDS, new SynchronousQueue<>(), work -> {
-            Thread thread = made.newThread(work);
-            thread.setName("garterfossil helper");
-            thread.setDaemon(true);
-            return thread;
-        }, (part, full) -> { });
+        threads = new ThreadPoolExecutor(0, Math.max(1, most), 60, TimeUnit.SECONDS, new SynchronousQueue<>(), made, (part, full) -> { });
+    }
+
+    /** Looks how busy the processors are, once in a while. */
+    void look() {
+        try {
+            double load = ManagementFactory.getOperatingSystemMXBean() instanceof com.sun.management.OperatingSystemMXBean it ? it.getCpuLoad() : 1;
+            isHigh = load < 0 || load > HIGH;
+        } catch (LinkageError error) {
+            isHigh = true;
+        }
     }
 
     /**
-     * Makes a step for each branch, and returns once all are made. Where the processors are busy,
-     * this thread makes them all: a helper would only cost one the time to change threads. A branch
-     * on a connection of the program's own stays in this thread, too.
+     * Makes a step for each branch, and returns once all are made. If the processors are busy with
+     * the transactions that are open, this thread makes them all: a helper would only cost one the
+     * time to change threads. A branch on a connection of the program's own stays in this thread,
+     * too.
      *
      * <p>With {@code isApart} each has a thread of its own in any case, since a resource may be
      * silent, and keeps no other waiting.
      */
-    void each(List<Branch> branches, boolean isApart, boolean isBusy, Step step) {
+    void each(List<Branch> branches, boolean isApart, int open, Consumer<Branch> step) {
         List<FutureTask<Void>> parts = new ArrayList<>(branches.size());
-        branches.forEach(branch -> parts.add(new FutureTask<>(() -> step.make(branch), null)));
+        branches.forEach(branch -> parts.add(new FutureTask<>(() -> step.accept(branch), null)));
         try {
-            boolean isHelped = asking.incrementAndGet() <= most && !isBusy;
+            boolean isHelped = asking.incrementAndGet() <= most && !(open > PROCESSORS && isHigh);
             for (int at = 1; at < parts.size(); at++) {
                 if (isApart || isHelped && branches.get(at).link() != null) {
                     give(isApart ? Apart::run : threads, parts.get(at));
@@ -77,29 +85,18 @@ final class Helpers {
         }
     }
 
-    /** Waits until all are made. An interrupt waits, too: how they ended has to be known. */
+    /** Waits until all are made: how they ended has to be known. */
     private static void seeMade(List<FutureTask<Void>> parts) {
-        Throwable thrown = null;
-        boolean isInterrupted = false;
-        for (int at = 0; at < parts.size();) {
+        ExecutionException failed = null;
+        for (FutureTask<Void> part : parts) {
             try {
-                parts.get(at).get();
-                at++;
+                Apart.<Void, ExecutionException>uninterrupted(part::get);
             } catch (ExecutionException error) {
-                thrown = thrown == null ? error.getCause() : thrown;
-                at++;
-            } catch (InterruptedException error) {
-                isInterrupted = true;
+                failed = failed == null ? error : failed;
             }
         }
-        if (isInterrupted) {
-            Thread.currentThread().interrupt();
-        }
-        if (thrown instanceof Error) {
-            throw (Error) thrown;
-        }
-        if (thrown != null) {
-            throw (RuntimeException) thrown;
+        if (failed != null) {
+            throw (RuntimeException) Apart.causeOf(failed);
         }
     }
 

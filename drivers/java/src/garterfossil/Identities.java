@@ -29,17 +29,7 @@ import java.util.concurrent.ConcurrentHashMap;
 final class Identities {
     private static final long VERSION = 1;
 
-    private static final class Entry {
-        final String at, identity;
-
-        Entry(String at, String identity) {
-            this.at = at;
-            this.identity = identity;
-        }
-
-        static Entry of(Map<?, ?> found) {
-            return new Entry(part(found, "at", String.class), part(found, "identity", String.class));
-        }
+    private record Entry(String at, String identity) {
     }
 
     private final Path log, file;
@@ -84,11 +74,9 @@ final class Identities {
 
     private Map<?, ?> read() throws Fault.Unavailable {
         try {
-            Object read = Json.read(Files.readString(file));
-            if (!(read instanceof Map)) {
+            if (!(Json.read(Files.readString(file)) instanceof Map<?, ?> found)) {
                 throw new IllegalArgumentException("it is no map");
             }
-            Map<?, ?> found = (Map<?, ?>) read;
             if (!Long.valueOf(VERSION).equals(found.get("version"))) {
                 throw new IllegalArgumentException("it is of another version");
             }
@@ -115,11 +103,11 @@ final class Identities {
     private void take(Map<?, ?> found) throws Fault.Unavailable {
         try {
             for (Object it : part(found, "databases", List.class)) {
-                if (!(it instanceof Map)) {
+                if (!(it instanceof Map<?, ?> entry)) {
                     throw new IllegalArgumentException("one of the \"databases\" is no map");
                 }
-                Map<?, ?> entry = (Map<?, ?>) it;
-                known.put(Math.toIntExact(part(entry, "number", Long.class)), Entry.of(entry));
+                known.put(Math.toIntExact(part(entry, "number", Long.class)),
+                    new Entry(part(entry, "at", String.class), part(entry, "identity", String.class)));
             }
             shut = found.get("shut") == null ? null : part(found, "shut", String.class);
             incarnation = found.get("incarnation") == null ? 0 : part(found, "incarnation", Long.class);
@@ -250,7 +238,9 @@ final class Identities {
                 channel.force(true);
             }
             Files.move(made, file, StandardCopyOption.ATOMIC_MOVE);
-            syncFolder();
+            try (FileChannel folder = FileChannel.open(file.toAbsolutePath().getParent(), StandardOpenOption.READ)) {
+                folder.force(true);
+            }
         } catch (IOException error) {
             throw new Fault.Lost(file + " can't be written", error);
         }
@@ -261,9 +251,4 @@ final class Identities {
         return text.replaceFirst("\\{", "{\n ").replaceAll(", (?=\"(manager|incarnation|databases|shut)\": )", ",\n ").replaceFirst("}$", "\n}");
     }
 
-    private void syncFolder() throws IOException {
-        try (FileChannel folder = FileChannel.open(file.toAbsolutePath().getParent(), StandardOpenOption.READ)) {
-            folder.force(true);
-        }
-    }
 }

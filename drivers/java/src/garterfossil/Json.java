@@ -5,6 +5,7 @@ import java.util.HexFormat;
 import java.util.LinkedHashMap;
 import java.util.List;
 import java.util.Map;
+import java.util.stream.Collectors;
 
 /**
  * JSON, as far as the file beside a log needs it: maps, lists, texts, whole numbers, true, false
@@ -122,14 +123,12 @@ final class Json {
             at++;
         }
         String word = text.substring(from, at);
-        switch (word) {
-            case "null": return null;
-            case "true": return true;
-            case "false": return false;
-            default:
-        }
         try {
-            return Long.parseLong(word);
+            return switch (word) {
+                case "null" -> null;
+                case "true", "false" -> Boolean.valueOf(word);
+                default -> Long.valueOf(word);
+            };
         } catch (NumberFormatException error) {
             throw wrong();
         }
@@ -137,17 +136,13 @@ final class Json {
 
     /** The text of maps, lists, texts, numbers and the rest. */
     static String write(Object value) {
-        if (value instanceof Map) {
-            List<String> parts = new ArrayList<>();
-            ((Map<?, ?>) value).forEach((key, it) -> parts.add(quoted(key.toString()) + ": " + write(it)));
-            return "{" + String.join(", ", parts) + "}";
+        if (value instanceof Map<?, ?> map) {
+            return map.entrySet().stream().map(it -> quoted(it.getKey().toString()) + ": " + write(it.getValue())).collect(Collectors.joining(", ", "{", "}"));
         }
-        if (value instanceof List) {
-            List<String> parts = new ArrayList<>();
-            ((List<?>) value).forEach(it -> parts.add(write(it)));
-            return "[" + String.join(", ", parts) + "]";
+        if (value instanceof List<?> list) {
+            return list.stream().map(Json::write).collect(Collectors.joining(", ", "[", "]"));
         }
-        return value instanceof String ? quoted((String) value) : String.valueOf(value);
+        return value instanceof String text ? quoted(text) : String.valueOf(value);
     }
 
     private static String quoted(String text) {

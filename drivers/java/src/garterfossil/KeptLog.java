@@ -60,7 +60,7 @@ final class KeptLog {
     static KeptLog of(Path log, Coordinator.Starter starter, String program, String given, List<Resource> resources) throws Fault {
         KeptLog kept = isThere(log) ? read(log, starter, program) : drawn(log, given, resources);
         kept.seeManager(log, given);
-        kept.add(resources.stream().map(Resource::name).collect(Collectors.toList()), log);
+        kept.add(resources.stream().map(Resource::name).toList(), log);
         return kept;
     }
 
@@ -69,18 +69,15 @@ final class KeptLog {
      * from its next start on.
      */
     private void add(List<String> names, Path log) throws Fault.Unavailable {
-        boolean areAllKnown = names.containsAll(resources);
-        for (String name : names) {
-            if (!resources.contains(name) && !areAllKnown) {
-                // It may be one of them, by another name.
-                throw new Fault.Unavailable("the log " + log + " is that of the resources " + resources + ", and " + name + " isn't one of them. To"
-                    + " add one, give the manager the others, too; if one of them is called " + name + " now, stop the program, and say xatm log"
-                    + " --rename-rm OLD " + name + " " + log);
-            }
-            if (!resources.contains(name)) {
-                resources.add(name);
-            }
+        List<String> added = names.stream().filter(name -> !resources.contains(name)).toList();
+        if (!added.isEmpty() && !names.containsAll(resources)) {
+            // It may be one of them, by another name.
+            String name = added.get(0);
+            throw new Fault.Unavailable("the log " + log + " is that of the resources " + resources + ", and " + name + " isn't one of them. To"
+                + " add one, give the manager the others, too; if one of them is called " + name + " now, stop the program, and say xatm log"
+                + " --rename-rm OLD " + name + " " + log);
         }
+        resources.addAll(added);
     }
 
     /**
@@ -117,14 +114,11 @@ final class KeptLog {
      * What may become of a log on a kind of file system; empty for those of which nothing is known.
      */
     static String dangerOf(String kind) {
-        switch (kind) {
-            case "nfs": case "nfs4": case "cifs": case "smb3": case "fuse.sshfs": case "fuse.glusterfs":
-                return "nothing sees there whether a program of another machine has it too";
-            case "overlay": case "tmpfs": case "ramfs":
-                return "it is lost with the container or the machine, and what is prepared then waits for somebody";
-            default:
-                return "";
-        }
+        return switch (kind) {
+            case "nfs", "nfs4", "cifs", "smb3", "fuse.sshfs", "fuse.glusterfs" -> "nothing sees there whether a program of another machine has it too";
+            case "overlay", "tmpfs", "ramfs" -> "it is lost with the container or the machine, and what is prepared then waits for somebody";
+            default -> "";
+        };
     }
 
     private static KeptLog drawn(Path log, String given, List<Resource> resources) throws Fault.Unavailable {
@@ -132,13 +126,9 @@ final class KeptLog {
             throw new Fault.Unavailable("the log " + log + " is new, and the name " + given + " too long: it has at most "
                 + (LONGEST - 1 - DRAWN) + " letters, since " + DRAWN + " are drawn after it");
         }
-        SecureRandom random = new SecureRandom();
-        StringBuilder name = new StringBuilder(given.isEmpty() ? "" : given + "-");
-        int length = Math.max(name.length() + DRAWN, given.isEmpty() ? LONGEST - 4 : 0);
-        while (name.length() < length) {
-            name.append(LETTERS.charAt(random.nextInt(LETTERS.length())));
-        }
-        return new KeptLog(name.toString(), resources.stream().map(Resource::name).collect(Collectors.toList()), 0, false);
+        String drawn = new SecureRandom().ints(given.isEmpty() ? LONGEST - 4 : DRAWN, 0, LETTERS.length()).mapToObj(LETTERS::charAt)
+            .map(String::valueOf).collect(Collectors.joining());
+        return new KeptLog(given.isEmpty() ? drawn : given + "-" + drawn, resources.stream().map(Resource::name).toList(), 0, false);
     }
 
     // ** what the program prints
@@ -154,10 +144,10 @@ final class KeptLog {
             String[] words = line.split(" ", -1);
             try {
                 switch (words[0]) {
-                    case "name": manager = words[1]; break;
-                    case "rm": resources.add(words[2]); break;
-                    case "incarnation": incarnation = Long.parseLong(words[1]); break;
-                    default: rows.add(line);
+                    case "name" -> manager = words[1];
+                    case "rm" -> resources.add(words[2]);
+                    case "incarnation" -> incarnation = Long.parseLong(words[1]);
+                    default -> rows.add(line);
                 }
             } catch (IndexOutOfBoundsException | NumberFormatException error) {
                 throw new Fault.Unavailable("what " + program + " prints of the log " + log + " isn't what xatm log prints: " + line);

@@ -3,35 +3,36 @@ package garterfossil;
 import java.util.ArrayList;
 import java.util.List;
 
-/** What a resource lists of branches in doubt; or why nobody knows. */
-final class Listing {
-    final Resource resource;
-    /** Those of managers, of whatever names. */
-    final List<BranchXid> all;
-    /** Why they can't be looked at; null if they can. */
-    final String fault;
+/**
+ * What a resource lists of branches in doubt, of managers of whatever names; or why nobody knows
+ * (fault).
+ */
+record Listing(Resource resource, List<BranchXid> all, String fault) {
+    /** Something that is done over a connection of its own. */
+    interface Work<T> {
+        T over(Link link) throws Fault.Lost;
+    }
 
-    private Listing(Resource resource, List<BranchXid> all, String fault) {
-        this.resource = resource;
-        this.all = all;
-        this.fault = fault;
+    /** What a resource lists. */
+    static Listing of(Resource resource) {
+        try {
+            return new Listing(resource, apart(resource, link -> Calls.listed(link.xaResource())), null);
+        } catch (Fault | RuntimeException error) {
+            return new Listing(resource, new ArrayList<>(), error.getMessage());
+        }
     }
 
     /**
-     * What a resource lists. It only looks: no connections of others are ended, and its own isn't
-     * taken for one of the manager's.
+     * Has something done at a resource, and nothing else: no connections of others are ended, and
+     * its own isn't taken for one of the manager's.
      */
-    static Listing of(Resource resource) {
+    static <T> T apart(Resource resource, Work<T> work) throws Fault.Lost {
+        Link link = new ResourceManager(0, resource, false).connect(resource.patience());
         try {
-            Link link = new ResourceManager(0, resource, false).connect(resource.patience());
-            try {
-                link.bound(resource.patience());
-                return new Listing(resource, Calls.listed(link.xaResource()), null);
-            } finally {
-                link.close();
-            }
-        } catch (Fault | RuntimeException error) {
-            return new Listing(resource, new ArrayList<>(), error.getMessage());
+            link.bound(resource.patience());
+            return work.over(link);
+        } finally {
+            link.close();
         }
     }
 }

@@ -24,7 +24,8 @@ import javax.transaction.xa.XAResource;
  * the coordinator ends, it is started again, and what was in doubt is ended first.
  */
 public final class Manager implements AutoCloseable {
-    static final Logger LOG = System.getLogger("garterfossil");
+    /** What warnings go to. */
+    public static final Logger LOG = System.getLogger("garterfossil");
     /**
      * What the program ends with if a file is no log, or another's; if only a part of a log is
      * there; and if it is shut (docs/SERVE.md).
@@ -61,9 +62,7 @@ public final class Manager implements AutoCloseable {
          * -. Behind it stands what is drawn for each new log. It stays as long as the log does.
          */
         public Builder name(String given) {
-            if (!given.matches("[A-Za-z0-9_-]{1," + KeptLog.LONGEST + "}")) {
-                throw new IllegalArgumentException("the name of a manager has letters, digits, _ and -, and so not: " + given);
-            }
+            require(given.matches("[A-Za-z0-9_-]{1," + KeptLog.LONGEST + "}"), "the name of a manager has letters, digits, _ and -, and so not: " + given);
             name = given;
             return this;
         }
@@ -82,9 +81,7 @@ public final class Manager implements AutoCloseable {
 
         /** How many transactions may run at once, 1 to 1,023. Others wait. */
         public Builder threads(int count) {
-            if (count < 1 || count > 1023) {
-                throw new IllegalArgumentException("threads: 1 to 1,023, and not " + count);
-            }
+            require(count >= 1 && count <= 1023, "threads: 1 to 1,023, and not " + count);
             threads = count;
             return this;
         }
@@ -95,9 +92,7 @@ public final class Manager implements AutoCloseable {
          * all calls of a transaction are made by the thread that commits, one after the other.
          */
         public Builder helpers(int count) {
-            if (count < 0) {
-                throw new IllegalArgumentException("helpers: 0 or more, and not " + count);
-            }
+            require(count >= 0, "helpers: 0 or more, and not " + count);
             helpers = count;
             return this;
         }
@@ -134,14 +129,17 @@ public final class Manager implements AutoCloseable {
          * long as the log does.
          */
         public Builder resource(Resource resource) {
-            if (!resource.name().matches("[A-Za-z0-9_-]{1,64}")) {
-                throw new IllegalArgumentException("the name of a resource has 1 to 64 letters, digits, _ and -, and so not: " + resource.name());
-            }
-            if (resources.stream().anyMatch(it -> it.name().equals(resource.name()))) {
-                throw new IllegalArgumentException("two resources of the name " + resource.name());
-            }
+            String given = resource.name();
+            require(given.matches("[A-Za-z0-9_-]{1,64}"), "the name of a resource has 1 to 64 letters, digits, _ and -, and so not: " + given);
+            require(resources.stream().noneMatch(it -> it.name().equals(given)), "two resources of the name " + given);
             resources.add(resource);
             return this;
+        }
+
+        private static void require(boolean isRight, String text) {
+            if (!isRight) {
+                throw new IllegalArgumentException(text);
+            }
         }
 
         /**
@@ -195,7 +193,7 @@ public final class Manager implements AutoCloseable {
         }
 
         private List<Listing> listings() {
-            return resources.stream().map(Listing::of).collect(Collectors.toList());
+            return resources.stream().map(Listing::of).toList();
         }
 
         /** A branch that is to be ended by hand, as the log says. It has the log meanwhile. */
@@ -227,7 +225,7 @@ public final class Manager implements AutoCloseable {
             try (Manager manager = start()) {
                 long until = System.nanoTime() + longest.toNanos();
                 while (manager.owing() > 0 && System.nanoTime() < until) {
-                    pause();
+                    Apart.pause(100);
                 }
                 return manager.owing();
             }
@@ -252,8 +250,8 @@ public final class Manager implements AutoCloseable {
     private final List<ResourceManager> rms = new ArrayList<>();
     // Time-outs, and what is done each second. That may wait for the coordinator, until its watch
     // ends it.
-    private final ScheduledThreadPoolExecutor clock = new ScheduledThreadPoolExecutor(1, work -> daemon(work, "garterfossil alarm"));
-    private final ScheduledThreadPoolExecutor seconds = new ScheduledThreadPoolExecutor(2, work -> daemon(work, "garterfossil seconds"));
+    private final ScheduledThreadPoolExecutor clock = new ScheduledThreadPoolExecutor(1, Apart.daemons("alarm"));
+    private final ScheduledThreadPoolExecutor seconds = new ScheduledThreadPoolExecutor(2, Apart.daemons("seconds"));
     private final ThreadLocal<GlobalTransaction> current = new ThreadLocal<>();
     private final Object starting = new Object();
     // As the log keeps them, and as the file beside it does.
@@ -269,12 +267,8 @@ public final class Manager implements AutoCloseable {
         this.made = made;
         helpers = new Helpers(made.helpers < 0 ? made.threads : made.helpers);
         clock.setRemoveOnCancelPolicy(true);
-    }
-
-    private static Thread daemon(Runnable work, String name) {
-        Thread thread = new Thread(work, name);
-        thread.setDaemon(true);
-        return thread;
+        // It is due before the time-out of what begins, for which the clock's thread needn't wake.
+        clock.scheduleWithFixedDelay(helpers::look, 1, 1, TimeUnit.SECONDS);
     }
 
     /** A manager over the log in this file, which is made where there was none before. */
@@ -370,7 +364,7 @@ public final class Manager implements AutoCloseable {
         }
         Mirror found = new Mirror(made.mirror, made.log, KeptLog.isThere(made.log) ? untilFree(this::keptLog) : names, names.resources, made.patience);
         found.look(made.name, number -> rms.stream().filter(rm -> rm.number == number).map(rm -> Listing.of(rm.resource))
-            .filter(it -> it.fault == null).map(it -> it.all).findFirst().orElse(null));
+            .filter(it -> it.fault() == null).map(Listing::all).findFirst().orElse(null));
         return found;
     }
 
@@ -412,20 +406,21 @@ public final class Manager implements AutoCloseable {
         return untilFree(() -> new Coordinator(made.starter, words, made.patience));
     }
 
-    private interface Start<T> {
-        T make() throws Fault;
+    /** What may fail. */
+    private interface Duty<T> {
+        T fulfil() throws Fault;
     }
 
     /** Starts the program, as soon as no other one has the log. */
-    private <T> T untilFree(Start<T> start) throws Fault {
+    private <T> T untilFree(Duty<T> start) throws Fault {
         long until = System.nanoTime() + made.patience.toNanos();
         while (true) {
             try {
-                return start.make();
+                return start.fulfil();
             } catch (Fault.Gone gone) {
                 seeWorthwhile(gone, until);
             }
-            pause();
+            Apart.pause(100);
         }
     }
 
@@ -448,20 +443,13 @@ public final class Manager implements AutoCloseable {
         }
     }
 
-    private static void pause() {
-        try {
-            Thread.sleep(100);
-        } catch (InterruptedException error) {
-            Thread.currentThread().interrupt();
-        }
-    }
-
     private void tick() {
         seeDone(() -> {
             rms.forEach(ResourceManager::tidy);
             if (!isClosed) {
                 session().tick();
             }
+            return null;
         });
     }
 
@@ -471,15 +459,12 @@ public final class Manager implements AutoCloseable {
             if (up != null && !up.coordinator.isGone()) {
                 up.watch(made.patience.toNanos());
             }
+            return null;
         });
     }
 
-    private interface Duty {
-        void fulfil() throws Fault;
-    }
-
     /** Whatever goes wrong in it, it is done again a second later. */
-    private static void seeDone(Duty duty) {
+    private static void seeDone(Duty<?> duty) {
         try {
             duty.fulfil();
         } catch (Fault | RuntimeException | Error error) {

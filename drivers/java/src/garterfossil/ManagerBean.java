@@ -2,9 +2,9 @@ package garterfossil;
 
 import java.lang.System.Logger.Level;
 import java.lang.management.ManagementFactory;
-import java.util.LinkedHashMap;
 import java.util.List;
 import java.util.Map;
+import java.util.stream.Collectors;
 import javax.management.JMException;
 import javax.management.ObjectName;
 
@@ -64,14 +64,12 @@ final class ManagerBean implements ManagerMXBean {
     @Override
     public String getWhyNot() {
         Session up = manager.up();
-        return up == null ? "there is no session" : up.fatal() != null ? up.fatal() : up.coordinator.isGone() ? up.coordinator.lost().getMessage() : null;
+        return up == null ? "there is no session" : up.whyNot();
     }
 
     @Override
     public Map<String, Double> getCounts() {
-        Map<String, Double> found = new LinkedHashMap<>();
-        manager.counts().forEach((name, count) -> found.put(name, count.doubleValue()));
-        return found;
+        return manager.counts().entrySet().stream().collect(Collectors.toMap(Map.Entry::getKey, it -> it.getValue().doubleValue()));
     }
 
     @Override
@@ -88,21 +86,13 @@ final class ManagerBean implements ManagerMXBean {
     @Override
     public Map<String, Map<String, Integer>> getResources() {
         Session up = manager.up();
-        Map<String, Map<String, Integer>> found = new LinkedHashMap<>();
-        if (up != null) {
-            up.recoveries().forEach(recovery -> found.put(recovery.rm.toString(), of(recovery)));
-        }
-        return found;
+        return up == null ? Map.of() : up.recoveries.stream().collect(Collectors.toMap(it -> it.rm.toString(), ManagerBean::of));
     }
 
     private static Map<String, Integer> of(Recovery recovery) {
-        Map<String, Integer> found = new LinkedHashMap<>();
-        found.put("used", recovery.rm.used());
-        found.put("idle", recovery.rm.idle());
-        found.put("most", recovery.rm.resource.maxConnections());
-        found.put("owed", recovery.owed());
-        found.put("recovered", recovery.isRecovered() ? 1 : 0);
-        return found;
+        ResourceManager rm = recovery.rm;
+        return Map.of("used", rm.used(), "idle", rm.idle(), "most", rm.resource.maxConnections(), "owed", recovery.owed(),
+            "recovered", recovery.isRecovered() ? 1 : 0);
     }
 
     @Override

@@ -11,6 +11,7 @@ import java.util.List;
 import java.util.Map;
 import java.util.Queue;
 import java.util.Set;
+import java.util.concurrent.CompletableFuture;
 import java.util.concurrent.ConcurrentLinkedQueue;
 import javax.sql.DataSource;
 
@@ -22,18 +23,10 @@ import javax.sql.DataSource;
 final class Mirror {
     /** So long a log may take that is made: each of its incarnations is a write that is synced. */
     private static final Duration TO_MAKE = Duration.ofDays(1);
+    private static final String FAILED = "a decision was told to the mirror, and that failed";
 
-    /** A decision that a thread tells, and waits for. */
-    private static final class Decision {
-        final String gtrid;
-        final List<BranchXid> xids;
-        boolean isOver;
-        String error;
-
-        Decision(String gtrid, List<BranchXid> xids) {
-            this.gtrid = gtrid;
-            this.xids = xids;
-        }
+    /** A decision that a thread tells, and waits for: why it can't be told, or an empty text. */
+    private record Decision(String gtrid, List<BranchXid> xids, CompletableFuture<String> told) {
     }
 
     /** What a resource lists of the manager's; null if it can't be looked at. */
@@ -190,10 +183,10 @@ final class Mirror {
      * is to end. It stands all the same, as the log has it.
      */
     void add(String gtrid, List<BranchXid> xids) throws Fault.Lost {
-        Decision mine = new Decision(gtrid, xids);
+        Decision mine = new Decision(gtrid, xids, new CompletableFuture<>());
         asked.add(mine);
         synchronized (asked) {
-            if (!mine.isOver) {
+            if (!mine.told.isDone()) {
                 List<Decision> some = new ArrayList<>();
                 for (Decision one = asked.poll(); one != null; one = asked.poll()) {
                     some.add(one);
@@ -201,24 +194,25 @@ final class Mirror {
                 addAll(some);
             }
         }
-        if (mine.error != null) {
-            throw new Fault.Lost(mine.error, null);
+        // Not even told, if the thread that had taken it met an error of the Java machine.
+        String error = mine.told.getNow(FAILED);
+        if (!error.isEmpty()) {
+            throw new Fault.Lost(error, null);
         }
     }
 
     private void addAll(List<Decision> some) {
-        Map<String, List<BranchXid>> all = new LinkedHashMap<>();
-        some.forEach(one -> all.put(one.gtrid, one.xids));
-        String error = "a decision was told to the mirror, and that failed";
+        String error = FAILED;
         try {
-            error = adding.once(at -> adding.insert(at, all, incarnation)) ? null
+            Map<String, List<BranchXid>> all = new LinkedHashMap<>();
+            some.forEach(one -> all.put(one.gtrid, one.xids));
+            error = adding.once(at -> adding.insert(at, all, incarnation)) ? ""
                 : "the mirror is in a later session of this manager: another machine has taken over";
         } catch (Fault raised) {
             error = "decisions can't be told to the mirror: " + raised.getMessage();
         } finally {
             for (Decision one : some) {
-                one.error = error;
-                one.isOver = true;
+                one.told.complete(error);
             }
         }
     }
@@ -280,11 +274,9 @@ final class Mirror {
         List<String> names = new ArrayList<>();
         try {
             any.make();
-            any.once(any::managers).forEach((name, path) -> {
-                if (Path.of(path).getFileName().equals(here.getFileName()) && KeptLog.isNamed(name, given)) {
-                    names.add(name);
-                }
-            });
+            Map<String, String> known = any.once(any::managers);
+            known.values().removeIf(path -> !Path.of(path).getFileName().equals(here.getFileName()));
+            known.keySet().stream().filter(name -> KeptLog.isNamed(name, given)).forEach(names::add);
         } catch (Fault.Lost error) {
             throw new Fault.Unavailable("the mirror can't be read", error);
         } finally {

@@ -150,33 +150,32 @@ final class MirrorTables {
         }
     }
 
+    private static PreparedStatement prepared(Connection at, String text, Object... words) throws SQLException {
+        PreparedStatement statement = at.prepareStatement(text);
+        for (int place = 0; place < words.length; place++) {
+            statement.setObject(place + 1, words[place]);
+        }
+        return statement;
+    }
+
     private static int change(Connection at, String text, Object... words) throws SQLException {
-        try (PreparedStatement statement = at.prepareStatement(text)) {
-            for (int place = 0; place < words.length; place++) {
-                statement.setObject(place + 1, words[place]);
-            }
+        try (PreparedStatement statement = prepared(at, text, words)) {
             return statement.executeUpdate();
         }
     }
 
     /** The rows that a query finds, by the texts in their columns. */
-    private static List<List<String>> rows(Connection at, String text, String... words) throws SQLException {
-        try (PreparedStatement statement = at.prepareStatement(text)) {
-            for (int place = 0; place < words.length; place++) {
-                statement.setString(place + 1, words[place]);
-            }
-            try (ResultSet found = statement.executeQuery()) {
-                List<List<String>> rows = new ArrayList<>();
-                int columns = found.getMetaData().getColumnCount();
-                while (found.next()) {
-                    List<String> row = new ArrayList<>();
-                    for (int column = 1; column <= columns; column++) {
-                        row.add(found.getString(column));
-                    }
-                    rows.add(row);
+    private static List<List<String>> rows(Connection at, String text, Object... words) throws SQLException {
+        try (PreparedStatement statement = prepared(at, text, words); ResultSet found = statement.executeQuery()) {
+            List<List<String>> rows = new ArrayList<>();
+            while (found.next()) {
+                List<String> row = new ArrayList<>();
+                for (int column = 1; column <= found.getMetaData().getColumnCount(); column++) {
+                    row.add(found.getString(column));
                 }
-                return rows;
+                rows.add(row);
             }
+            return rows;
         }
     }
 

@@ -4,11 +4,12 @@ import java.lang.System.Logger.Level;
 import java.util.ArrayList;
 import java.util.HashSet;
 import java.util.List;
+import java.util.Map;
 import java.util.Set;
 import java.util.TreeSet;
+import java.util.stream.Collectors;
 import java.util.concurrent.CountDownLatch;
 import java.util.concurrent.TimeUnit;
-import javax.transaction.xa.XAResource;
 
 /**
  * Recovers a resource as the coordinator says, in a thread of its own: at the start of a session,
@@ -32,26 +33,25 @@ final class Recovery {
     private volatile int owed;
     private volatile boolean isOver;
     private Link link;
-    private XAResource resource;
     // What the resource listed, and how much of that was told.
     private List<BranchXid> listed = List.of();
     private int told;
     // The call that was made last, and how it was answered.
-    private String call = "";
-    private BranchXid xid;
-    private int code;
+    private Made last = new Made("", null, 0);
     // What was ended in this session, and how many branches of earlier sessions weren't there.
     private final Recent<BranchXid> ended = new Recent<>(10_000);
     private int gone;
     private final Set<String> noted = new HashSet<>();
     private boolean areOthersNoted;
 
+    private record Made(String call, BranchXid xid, int code) {
+    }
+
     Recovery(Session session, ResourceManager rm) {
         this.session = session;
         this.rm = rm;
         coordinator = session.coordinator;
-        thread = new Thread(this::keep, "garterfossil recovery of " + rm);
-        thread.setDaemon(true);
+        thread = Apart.daemons("recovery of " + rm).newThread(this::keep);
     }
 
     void start() {
@@ -155,7 +155,6 @@ final class Recovery {
         disconnect();
         link = rm.connect(rm.resource.patience());
         link.bound(rm.resource.patience());
-        resource = link.xaResource();
     }
 
     private void disconnect() {
@@ -205,14 +204,17 @@ final class Recovery {
         String[] words = asked("recover");
         while (true) {
             switch (words[0]) {
-                case "recover": words = page(words.length == 3); break;
-                case "xa_commit": case "xa_rollback": case "xa_forget":
-                    words = asked("end", make(words[0], named(words)));
-                    break;
-                case "recovered": noteGone(); return left(words);
-                case "later": return -1;
-                case "strange": session.strange(rm, named(words).toString()); break;
-                default: throw refused(words);
+                case "recover" -> words = page(words.length == 3);
+                case "xa_commit", "xa_rollback", "xa_forget" -> words = asked("end", make(words[0], named(words)));
+                case "recovered" -> {
+                    noteGone();
+                    return left(words);
+                }
+                case "later" -> {
+                    return -1;
+                }
+                case "strange" -> session.strange(rm, named(words).toString());
+                default -> throw refused(words);
             }
         }
     }
@@ -235,13 +237,11 @@ final class Recovery {
 
     /** How many branches can't be ended yet. */
     private int left(String[] words) throws Fault.Gone {
-        if (words.length == 1) {
-            return 0;
-        }
-        if (words.length != 3 || !words[2].matches("[0-9]{1,9}")) {
+        boolean isRight = words.length == 1 || words.length == 3 && words[2].matches("[0-9]{1,9}");
+        if (!isRight) {
             throw refused(words);
         }
-        return Integer.parseInt(words[2]);
+        return words.length == 1 ? 0 : Integer.parseInt(words[2]);
     }
 
     private String[] asked(String move, String... words) throws Fault.Gone {
@@ -270,7 +270,7 @@ final class Recovery {
     private String make(String asked, BranchXid of) {
         try {
             connect();
-            int answer = Calls.end(asked, resource, of);
+            int answer = Calls.end(asked, link.xaResource(), of);
             note(asked, of, answer);
             return Integer.toString(answer);
         } catch (Fault.Lost error) {
@@ -286,23 +286,21 @@ final class Recovery {
             () -> rm + ": " + asked + " of " + of + ", which was in doubt, is answered " + Code.name(answer));
         // One that isn't there any more was ended by somebody else, if the coordinator has it
         // forgotten.
-        boolean wasGone = asked.equals("xa_forget") && of.equals(xid) && code == Code.NOTA;
+        boolean wasGone = asked.equals("xa_forget") && of.equals(last.xid) && last.code == Code.NOTA;
         if (wasGone || Code.isAlone(asked, answer)) {
-            session.counts.heuristicEnd(of, rm, wasGone ? call : asked, wasGone ? code : answer);
+            session.counts.heuristicEnd(of, rm, wasGone ? last.call : asked, wasGone ? last.code : answer);
         }
         if (asked.equals("xa_commit") && answer == Code.NOTA && of.incarnation() != session.incarnation && !ended.contains(of)) {
             gone++;
         }
         if (asked.equals("xa_rollback")) {
-            session.noteUndone(of);
+            session.undone.add(of);
         }
         if (answer != Code.RETRY) {
             session.noteEnded(of);
         }
         ended.add(of);
-        call = asked;
-        xid = of;
-        code = answer;
+        last = new Made(asked, of, answer);
     }
 
     private void noteGone() {
@@ -330,27 +328,16 @@ final class Recovery {
     }
 
     private List<BranchXid> listed() throws Fault.Lost {
-        List<BranchXid> found = Calls.listed(resource);
-        Set<String> others = new TreeSet<>();
-        found.stream().filter(it -> !isOwn(it)).forEach(it -> others.add(it.manager()));
-        noteOthers(others);
-        found.removeIf(it -> !isOwn(it));
-        return found;
-    }
-
-    private boolean isOwn(BranchXid it) {
-        return it.isOf(session.name, rm.number);
-    }
-
-    /**
-     * What others have in doubt stays: those of managers that run, and of logs that are lost. A new
-     * log says so, once.
-     */
-    private void noteOthers(Set<String> others) {
-        if (session.incarnation == 1 && !others.isEmpty() && !areOthersNoted) {
+        Map<Boolean, List<BranchXid>> found = Calls.listed(link.xaResource()).stream()
+            .collect(Collectors.partitioningBy(it -> it.isOf(session.name, rm.number)));
+        // What others have in doubt stays: those of managers that run, and of logs that are lost. A
+        // new log says so, once.
+        if (session.incarnation == 1 && !found.get(false).isEmpty() && !areOthersNoted) {
             areOthersNoted = true;
-            Manager.LOG.log(Level.WARNING, () -> rm + " lists branches in doubt of other managers: " + others
+            Manager.LOG.log(Level.WARNING, () -> rm + " lists branches in doubt of other managers: "
+                + found.get(false).stream().map(BranchXid::manager).collect(Collectors.toCollection(TreeSet::new))
                 + ". Where one of them doesn't run any more, its log ends them");
         }
+        return found.get(true);
     }
 }

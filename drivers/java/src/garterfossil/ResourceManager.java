@@ -2,7 +2,9 @@ package garterfossil;
 
 import java.time.Duration;
 import java.util.ArrayDeque;
+import java.util.ArrayList;
 import java.util.Collections;
+import java.util.List;
 import java.util.Set;
 import java.util.concurrent.CompletableFuture;
 import java.util.concurrent.ConcurrentHashMap;
@@ -19,14 +21,8 @@ final class ResourceManager {
     /** For so long a connection that is being made is waited for, by whoever wants one. */
     private static final long LONGEST = TimeUnit.SECONDS.toNanos(60);
 
-    private static final class Idle {
-        final Link link;
-        final long born, since = System.nanoTime();
-
-        Idle(Link link, long born) {
-            this.link = link;
-            this.born = born;
-        }
+    /** A connection that nobody has: since when it was made, and since when that is so. */
+    private record Idle(Link link, long born, long since) {
     }
 
     final int number;
@@ -40,10 +36,11 @@ final class ResourceManager {
     private final ArrayDeque<Idle> idle = new ArrayDeque<>();
     private int session;
     private boolean isClosed;
-    // One connection is made at a time: those that are no one's are ended first.
+    // One connection is made at a time: those that are no one's are ended first. One that took too
+    // long, or null, and since when; under that lock.
     private final ReentrantLock connecting = new ReentrantLock();
-    // One that took too long, or null; under that lock.
-    private Attempt pending;
+    private CompletableFuture<Link> pending;
+    private long pendingSince;
     private final Set<Long> kept = ConcurrentHashMap.newKeySet();
     // Those of them that are lent for work outside of transactions.
     private final Set<Long> outside = ConcurrentHashMap.newKeySet();
@@ -73,17 +70,13 @@ final class ResourceManager {
 
     /** A connection, of the pool or a new one. Waits for a place. */
     Lease borrow(Duration patience) throws Fault {
+        Apart.take(places, patience, "a connection to " + this, () -> "all " + resource.maxConnections() + " connections to " + this + " are in use for "
+            + patience.toSeconds() + " s, by " + holders + ". Let the pool have more, or end transactions sooner");
         try {
-            if (!places.tryAcquire() && !places.tryAcquire(patience.toNanos(), TimeUnit.NANOSECONDS)) {
-                throw new Fault.Unavailable("all " + resource.maxConnections() + " connections to " + this + " are in use for "
-                    + patience.toSeconds() + " s, by " + holders + ". Let the pool have more, or end transactions sooner");
+            int lentIn;
+            synchronized (this) {
+                lentIn = session;
             }
-        } catch (InterruptedException error) {
-            Thread.currentThread().interrupt();
-            throw new Fault.Unavailable("interrupted while a connection to " + this + " was waited for");
-        }
-        try {
-            int lentIn = session();
             Idle found = fromPool();
             return found != null ? new Lease(found.link, lentIn, found.born) : new Lease(connect(patience), lentIn, System.nanoTime());
         } catch (Fault | RuntimeException | Error error) {
@@ -98,20 +91,17 @@ final class ResourceManager {
             synchronized (this) {
                 found = idle.pollLast();
             }
-            if (found == null || isFresh(found) || found.link.isUsable()) {
+            boolean isFresh = found != null && found.since - lostAt > 0 && System.nanoTime() - found.since < pooling.test.toNanos();
+            if (found == null || isFresh || found.link.isUsable()) {
                 return found;
             }
             discard(found.link);
         }
     }
 
-    private boolean isFresh(Idle it) {
-        return it.since - lostAt > 0 && System.nanoTime() - it.since < pooling.test.toNanos();
-    }
-
     /** Closes what is idle for too long, or too old, and warns of what is in use for too long. */
     void tidy() {
-        ArrayDeque<Idle> over = new ArrayDeque<>();
+        List<Idle> over = new ArrayList<>();
         long now = System.nanoTime();
         synchronized (this) {
             idle.removeIf(it -> (now - it.since > pooling.idle.toNanos() || now - it.born > pooling.life.toNanos()) && over.add(it));
@@ -120,10 +110,8 @@ final class ResourceManager {
         holders.warn(this, pooling.leak);
     }
 
-    int idle() {
-        synchronized (this) {
-            return idle.size();
-        }
+    synchronized int idle() {
+        return idle.size();
     }
 
     int used() {
@@ -135,10 +123,6 @@ final class ResourceManager {
         Lease lease = borrow(patience);
         outside.add(lease.link.number());
         return lease;
-    }
-
-    private synchronized int session() {
-        return session;
     }
 
     /** A connection that is lent, in a session. */
@@ -155,10 +139,6 @@ final class ResourceManager {
             holders.add(this, pooling.leak.compareTo(Duration.ofDays(365)) < 0);
         }
 
-        ResourceManager owner() {
-            return ResourceManager.this;
-        }
-
         @Override
         public Link link() {
             return link;
@@ -167,15 +147,14 @@ final class ResourceManager {
         /** It isn't needed any more, and has no branch. */
         @Override
         public void giveBack() {
-            if (isOver) {
-                return;
-            }
-            isOver = true;
-            boolean isKept = false;
-            try {
-                isKept = !link.isLetOut() && link.reset() && keep();
-            } finally {
-                leave(isKept);
+            if (!isOver) {
+                isOver = true;
+                boolean isKept = false;
+                try {
+                    isKept = !link.isLetOut() && link.reset() && keep();
+                } finally {
+                    leave(isKept);
+                }
             }
         }
 
@@ -183,7 +162,7 @@ final class ResourceManager {
         private boolean keep() {
             synchronized (ResourceManager.this) {
                 return lentIn == session && !isClosed && System.nanoTime() - born < pooling.life.toNanos()
-                    && idle.offerLast(new Idle(link, born));
+                    && idle.offerLast(new Idle(link, born, System.nanoTime()));
             }
         }
 
@@ -223,36 +202,12 @@ final class ResourceManager {
         }
     }
 
-    /** A connection that is being made, by a thread of its own: a resource may be silent. */
-    private final class Attempt {
-        private final CompletableFuture<Link> made = new CompletableFuture<>();
-        private final long since = System.nanoTime();
+    // ** new connections
 
-        void begin() {
-            Apart.run(() -> {
-                try {
-                    if (hasStrays) {
-                        hasStrays = false;
-                        endStrays();
-                    }
-                    made.complete(resource.connect());
-                } catch (Fault.Lost | RuntimeException | Error error) {
-                    made.completeExceptionally(error);
-                }
-            });
-        }
-
-        boolean isOld() {
-            return System.nanoTime() - since > LONGEST;
-        }
-
-        /** Nobody waits for it any more. */
-        void giveUp() {
-            made.thenAccept(Link::close);
-        }
-    }
-
-    /** A connection that isn't the pool's. Waits so long for it. */
+    /**
+     * A connection that isn't the pool's. Waits so long for it: a thread of its own makes it, since
+     * a resource may be silent, and whoever asks next waits for the same.
+     */
     Link connect(Duration patience) throws Fault.Lost {
         Duration longest = patience.compareTo(resource.patience()) < 0 ? patience : resource.patience();
         long until = System.nanoTime() + longest.toNanos();
@@ -260,17 +215,29 @@ final class ResourceManager {
         try {
             isMine = connecting.tryLock() || connecting.tryLock(longest.toNanos(), TimeUnit.NANOSECONDS);
             if (!isMine) {
-                throw silent(longest);
+                throw new TimeoutException();
             }
             // One that was begun before another connection was lost hasn't seen that this is gone.
-            if (pending != null && (hasStrays || pending.isOld())) {
+            if (hasStrays || System.nanoTime() - pendingSince > LONGEST) {
                 giveUpPending();
             }
             if (pending == null) {
-                pending = new Attempt();
-                pending.begin();
+                pendingSince = System.nanoTime();
+                pending = begun();
             }
-            return made(pending, until, longest);
+            Link link = pending.get(Math.max(1, until - System.nanoTime()), TimeUnit.NANOSECONDS);
+            pending = null;
+            kept.add(link.number());
+            return link;
+        } catch (TimeoutException error) {
+            throw new Fault.Lost("no connection to " + this + ", which has said nothing for " + longest.toMillis() + " ms", null);
+        } catch (ExecutionException error) {
+            pending = null;
+            Exception cause = Apart.causeOf(error);
+            if (cause instanceof Fault.Lost lost) {
+                throw lost;
+            }
+            throw (RuntimeException) cause;
         } catch (InterruptedException error) {
             Thread.currentThread().interrupt();
             throw new Fault.Lost("interrupted while a connection to " + this + " was made", error);
@@ -281,36 +248,27 @@ final class ResourceManager {
         }
     }
 
-    private Link made(Attempt attempt, long until, Duration longest) throws Fault.Lost, InterruptedException {
-        try {
-            Link link = attempt.made.get(Math.max(1, until - System.nanoTime()), TimeUnit.NANOSECONDS);
-            pending = null;
-            kept.add(link.number());
-            return link;
-        } catch (TimeoutException error) {
-            throw silent(longest);
-        } catch (ExecutionException error) {
-            pending = null;
-            Throwable cause = error.getCause();
-            if (cause instanceof Fault.Lost) {
-                throw (Fault.Lost) cause;
+    private CompletableFuture<Link> begun() {
+        CompletableFuture<Link> made = new CompletableFuture<>();
+        Apart.run(() -> {
+            try {
+                if (hasStrays) {
+                    hasStrays = false;
+                    endStrays();
+                }
+                made.complete(resource.connect());
+            } catch (Fault.Lost | RuntimeException | Error error) {
+                made.completeExceptionally(error);
             }
-            if (cause instanceof Error) {
-                throw (Error) cause;
-            }
-            throw (RuntimeException) cause;
-        }
+        });
+        return made;
     }
 
-    private Fault.Lost silent(Duration longest) {
-        return new Fault.Lost("no connection to " + this + ", which has said nothing for " + longest.toMillis() + " ms", null);
-    }
-
+    /** Nobody waits for it any more. */
     private void giveUpPending() {
-        Attempt old = pending;
-        pending = null;
-        if (old != null) {
-            old.giveUp();
+        if (pending != null) {
+            pending.thenAccept(Link::close);
+            pending = null;
         }
     }
 
@@ -324,11 +282,14 @@ final class ResourceManager {
     }
 
     private void endStrays() throws Fault.Lost {
+        boolean isDone = false;
         try {
             resource.endOthers(Collections.unmodifiableSet(kept));
-        } catch (Fault.Lost | RuntimeException | Error error) {
-            hasStrays = true;
-            throw error;
+            isDone = true;
+        } finally {
+            if (!isDone) {
+                hasStrays = true;
+            }
         }
     }
 
@@ -347,10 +308,10 @@ final class ResourceManager {
      * happen any more.
      */
     void startAnew() {
-        ArrayDeque<Idle> old;
+        List<Idle> old;
         synchronized (this) {
             session++;
-            old = new ArrayDeque<>(idle);
+            old = List.copyOf(idle);
             idle.clear();
         }
         old.forEach(it -> it.link.close());

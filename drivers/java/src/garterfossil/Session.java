@@ -2,7 +2,6 @@ package garterfossil;
 
 import java.lang.System.Logger.Level;
 import java.time.Duration;
-import java.util.ArrayList;
 import java.util.List;
 import java.util.Queue;
 import java.util.Set;
@@ -28,14 +27,13 @@ final class Session {
     private static final int UNDONE = 10_000;
     /** The coordinator has 1,024 threads at most, of which the first is the recoveries'. */
     private static final int MOST = 1023;
-    private static final int PROCESSORS = Runtime.getRuntime().availableProcessors();
 
     /** A thread of the coordinator, for one transaction at a time. */
     final class Slot {
         final int number;
         // The thread's next transaction; or the reply that has it, after an end of this outcome.
         // Neither before its first.
-        private String next;
+        String next;
         private Coordinator.Reply last, joined;
         private Outcome expected;
 
@@ -54,28 +52,28 @@ final class Session {
 
         /** The transaction that a reply names, after what a program was told. */
         private String named(Coordinator.Reply asked) throws Fault {
+            String told;
             try {
-                Told told = coordinator.told(asked);
-                if (told.outcome() == expected && told.next != null) {
-                    return told.next;
+                Told found = coordinator.told(asked);
+                if (found.outcome == expected && found.next != null) {
+                    return found.next;
                 }
-                throw coordinator.failed(new IllegalStateException("a program was told " + expected + ", and the coordinator tells " + told.reply));
+                told = found.reply;
             } catch (Fault.Refused refused) {
-                if (expected != null) {
-                    // It isn't what was told either.
-                    throw coordinator.failed(new IllegalStateException("a program was told " + expected + ", and the coordinator tells "
-                        + refused.getMessage()));
+                if (expected == null) {
+                    String missing = recoveries.stream().filter(it -> !it.isRecovered()).map(it -> it.rm.toString()).collect(Collectors.joining(", "));
+                    throw new Fault.Unavailable("the log is new, and no transaction begins before each of its resources was reached once: " + missing);
                 }
-                String missing = recoveries.stream().filter(it -> !it.isRecovered()).map(it -> it.rm.toString()).collect(Collectors.joining(", "));
-                throw new Fault.Unavailable("the log is new, and no transaction begins before each of its resources was reached once: " + missing);
+                told = refused.getMessage();
             }
+            throw coordinator.failed(new IllegalStateException("a program was told " + expected + ", and the coordinator tells " + told));
         }
 
         /**
          * Branches began there. The coordinator is told now, if the calls of the first phase wait
          * after that.
          */
-        void join(List<Integer> rms, boolean isNow) throws Fault.Gone {
+        void join(List<Integer> rms, boolean isNow) {
             joined = coordinator.post("join " + number + rms.stream().map(rm -> " " + rm).collect(Collectors.joining()));
             if (isNow) {
                 coordinator.flush();
@@ -110,31 +108,25 @@ final class Session {
             last = coordinator.post("tell " + number + answers);
             expected = outcome;
         }
-
-        /** The transaction is over, and this was told. */
-        void over(Told told) {
-            next = told.next;
-        }
     }
 
     final Coordinator coordinator;
     final String name;
     final long incarnation;
+    final Counts counts;
     private final List<ResourceManager> rms;
-    private final List<Recovery> recoveries = new ArrayList<>();
+    final List<Recovery> recoveries;
     // Of so many that at least half have their last reply: whoever begins then waits for none.
     private final Queue<Slot> free = new ConcurrentLinkedQueue<>();
     private final Semaphore places;
     private final int threads;
     private final Identities identities;
-    final Counts counts;
     private final Committed committed;
     private final Mirror mirror;
-    private final Load load = new Load();
-    private final Set<GlobalTransaction> live = ConcurrentHashMap.newKeySet();
+    final Set<GlobalTransaction> live = ConcurrentHashMap.newKeySet();
     // Prepared branches that this session rolled back: a resource may forget that in a crash of its
     // own.
-    private final Recent<BranchXid> undone = new Recent<>(UNDONE);
+    final Recent<BranchXid> undone = new Recent<>(UNDONE);
     // Whether a transaction with a row was over since the coordinator was asked last what is due:
     // then rows leave that may.
     private volatile boolean hasRows;
@@ -153,12 +145,12 @@ final class Session {
         this.counts = counts;
         this.committed = committed;
         this.mirror = mirror;
-        incarnation = Long.parseLong(coordinator.greeting.split(" ")[1]);
+        incarnation = coordinator.incarnation();
         places = new Semaphore(threads, true);
         for (int thread = 1; thread <= slots(threads); thread++) {
             free.add(new Slot(thread));
         }
-        rms.forEach(rm -> recoveries.add(new Recovery(this, rm)));
+        recoveries = rms.stream().map(rm -> new Recovery(this, rm)).toList();
     }
 
     /** How many threads of the coordinator serve so many transactions at once. */
@@ -176,22 +168,12 @@ final class Session {
         for (Recovery recovery : recoveries) {
             recovery.awaitFirst(until);
             String wrong = identities.wrong(recovery.rm.number);
-            if (wrong != null && fatal == null) {
-                fatal = wrong;
-            }
+            fatal = fatal == null ? wrong : fatal;
         }
         seeWhole();
     }
 
     // ** transactions
-
-    void add(GlobalTransaction transaction) {
-        live.add(transaction);
-    }
-
-    void remove(GlobalTransaction transaction) {
-        live.remove(transaction);
-    }
 
     /** Whether a transaction has a branch that isn't over, as far as it isn't owed. */
     boolean has(String gtrid) {
@@ -201,16 +183,9 @@ final class Session {
     /** A thread of the coordinator, for one transaction. */
     Slot take(Duration patience) throws Fault {
         seeWhole();
-        try {
-            if (places.tryAcquire() || places.tryAcquire(patience.toMillis(), TimeUnit.MILLISECONDS)) {
-                return free.remove();
-            }
-        } catch (InterruptedException error) {
-            Thread.currentThread().interrupt();
-            throw new Fault.Unavailable("interrupted, while all " + threads + " transactions that may run at once do so");
-        }
-        throw new Fault.Unavailable("all " + threads + " transactions that may run at once do so, for " + patience.toSeconds()
-            + " s. Give the manager more threads; a REQUIRES_NEW in a transaction needs a second one while the first waits");
+        Apart.take(places, patience, "a thread of the coordinator", () -> "all " + threads + " transactions that may run at once do so, for "
+            + patience.toSeconds() + " s. Give the manager more threads; a REQUIRES_NEW in a transaction needs a second one while the first waits");
+        return free.remove();
     }
 
     /**
@@ -229,14 +204,13 @@ final class Session {
     /** It is decided that a transaction commits, and no resource has heard of it. */
     void noteDecision(String gtrid, List<BranchXid> xids) throws Fault.Gone {
         committed.add(gtrid);
-        if (mirror != null) {
-            try {
+        try {
+            if (mirror != null) {
                 mirror.add(gtrid, xids);
-            } catch (Fault.Lost error) {
-                // The next session tells it what the log has.
-                coordinator.kill(error.getMessage());
-                throw coordinator.lost();
             }
+        } catch (Fault.Lost error) {
+            // The next session tells it what the log has.
+            throw killed(error.getMessage());
         }
     }
 
@@ -255,11 +229,6 @@ final class Session {
         }
     }
 
-    /** A prepared branch was rolled back. */
-    void noteUndone(BranchXid xid) {
-        undone.add(xid);
-    }
-
     // ** what must not be
 
     /**
@@ -267,7 +236,7 @@ final class Session {
      * somebody has looked.
      */
     void strange(ResourceManager rm, String xid) throws Fault.Gone {
-        shut("the log isn't that of " + rm + ", which lists " + xid + " of a later session than any that the log knows. Was its file"
+        throw shut("the log isn't that of " + rm + ", which lists " + xid + " of a later session than any that the log knows. Was its file"
             + " lost, or another one put in its place? Start with the right one: this one would roll back what is decided");
     }
 
@@ -278,15 +247,16 @@ final class Session {
     void seeKnown(ResourceManager rm, List<BranchXid> listed) throws Fault.Gone {
         for (BranchXid xid : listed) {
             String gtrid = xid.transaction();
+            boolean isEarlier = xid.incarnation() < incarnation;
             if (mirror != null && mirror.isUnknownToLog(gtrid)) {
-                shut(rm + " lists " + xid + ", which the mirror has decided to commit, and of which this log knows nothing: it is older than the mirror."
+                throw shut(rm + " lists " + xid + ", which the mirror has decided to commit, and of which this log knows nothing: it is older than the mirror."
                     + " Put the right one back, or make it of the mirror (garterfossil.Command failover)");
             }
-            if (xid.incarnation() < incarnation && undone.contains(xid)) {
+            if (isEarlier && undone.contains(xid)) {
                 returned(rm, List.of(xid));
             }
-            if (xid.incarnation() < incarnation && committed.has(gtrid) && !coordinator.ask("fate " + gtrid).equals("committed")) {
-                shut(rm + " lists " + xid + " as prepared, which is over: it isn't as it was, or the log isn't. Its transaction was committed, so by hand: "
+            if (isEarlier && committed.has(gtrid) && !coordinator.ask("fate " + gtrid).equals("committed")) {
+                throw shut(rm + " lists " + xid + " as prepared, which is over: it isn't as it was, or the log isn't. Its transaction was committed, so by hand: "
                     + rm.resource.byHand("xa_commit", xid));
             }
         }
@@ -299,18 +269,21 @@ final class Session {
     void returned(ResourceManager rm, List<BranchXid> listed) throws Fault.Gone {
         if (listed.stream().allMatch(undone::contains)) {
             Manager.LOG.log(Level.WARNING, () -> rm + " lists again what was rolled back: the next session sees to it");
-            coordinator.kill("what was rolled back at " + rm + " is there again");
-            throw coordinator.lost();
+            throw killed("what was rolled back at " + rm + " is there again");
         }
-        shut(rm + " lists " + listed + ", which were over. Somebody else ends its branches, or it isn't the resource that it is taken for");
+        throw shut(rm + " lists " + listed + ", which were over. Somebody else ends its branches, or it isn't the resource that it is taken for");
     }
 
-    private void shut(String why) throws Fault.Gone {
+    private Fault.Gone shut(String why) {
         fatal = why;
         Manager.LOG.log(Level.ERROR, why);
         identities.shut(why);
+        return killed(why);
+    }
+
+    private Fault.Gone killed(String why) {
         coordinator.kill(why);
-        throw coordinator.lost();
+        return coordinator.lost();
     }
 
     void seeWhole() throws Fault {
@@ -319,8 +292,9 @@ final class Session {
         }
     }
 
-    String fatal() {
-        return fatal;
+    /** Why it isn't up; null if it is. */
+    String whyNot() {
+        return fatal != null ? fatal : coordinator.isGone() ? coordinator.lost().getMessage() : null;
     }
 
     /**
@@ -344,23 +318,18 @@ final class Session {
      * that may.
      */
     void tick() {
-        load.look();
         if (hasRows) {
             hasRows = false;
             coordinator.post("due");
         }
         coordinator.flush();
+        finishMirror();
+    }
+
+    private void finishMirror() {
         if (mirror != null) {
             mirror.finish();
         }
-    }
-
-    /**
-     * Whether the processors are busy with other transactions: then a second thread for one costs
-     * more than it gains.
-     */
-    boolean isBusy() {
-        return open() > PROCESSORS && load.isHigh();
     }
 
     int open() {
@@ -368,13 +337,7 @@ final class Session {
     }
 
     List<String> openTransactions() {
-        List<String> found = new ArrayList<>();
-        live.forEach(transaction -> found.add(transaction.told()));
-        return found;
-    }
-
-    List<Recovery> recoveries() {
-        return List.copyOf(recoveries);
+        return live.stream().map(GlobalTransaction::told).toList();
     }
 
     int owing() {
@@ -414,9 +377,7 @@ final class Session {
     void quit() {
         recoveries.forEach(Recovery::stop);
         coordinator.quit();
-        if (mirror != null) {
-            mirror.finish();
-        }
+        finishMirror();
     }
 
     /**

@@ -14,7 +14,8 @@ final class Told {
         "unknown", Outcome.UNKNOWN);
     private static final Map<String, Outcome> STAGES = Map.of("prepare", Outcome.PREPARING, "commit", Outcome.COMMITTING,
         "commit-at-once", Outcome.COMMITTING, "rollback", Outcome.ROLLING_BACK, "undo", Outcome.ROLLING_BACK);
-    private static final Pattern NEXT = Pattern.compile(" next( |$)");
+    private static final String NEXT = " next ";
+    private static final Pattern GTRID = Pattern.compile("[0-9a-f]{32}");
 
     /** The whole line. */
     final String reply;
@@ -32,12 +33,19 @@ final class Told {
     final List<Integer> owed = new ArrayList<>(), mixed = new ArrayList<>();
     /** The thread's next transaction, or null. */
     final String next;
+    /** The outcome; null if calls are to be made. */
+    final Outcome outcome;
+    /** How a transaction stands while these calls are made; null if they don't say so. */
+    final Outcome stage;
 
     private Told(String reply) {
-        String[] parts = NEXT.split(reply, 2), words = parts[0].split(" ", -1);
         this.reply = reply;
+        int end = (reply + " ").indexOf(NEXT);
+        String[] words = (end < 0 ? reply : reply.substring(0, end)).split(" ", -1);
         verb = words[0];
-        next = parts.length > 1 ? parts[1] : null;
+        outcome = OUTCOMES.get(verb);
+        stage = STAGES.get(verb);
+        next = end < 0 ? null : reply.substring(Math.min(reply.length(), end + NEXT.length()));
         List<Integer> list = rms;
         for (int at = 1; at < words.length; at++) {
             if (words[at].equals("owed") || words[at].equals("mixed")) {
@@ -46,7 +54,7 @@ final class Told {
                 list.add(Integer.parseInt(words[at]));
             }
         }
-        if (next != null && !next.matches("[0-9a-f]{32}") || mixed.size() % 2 != 0) {
+        if (next != null && !GTRID.matcher(next).matches() || mixed.size() % 2 != 0) {
             throw new IllegalArgumentException(reply);
         }
     }
@@ -61,15 +69,5 @@ final class Told {
         } catch (IllegalArgumentException error) {
             throw new IllegalArgumentException("the coordinator replied: " + reply);
         }
-    }
-
-    /** The outcome; null if calls are to be made. */
-    Outcome outcome() {
-        return OUTCOMES.get(verb);
-    }
-
-    /** How a transaction stands while these calls are made; null if they don't say so. */
-    Outcome stage() {
-        return STAGES.get(verb);
     }
 }

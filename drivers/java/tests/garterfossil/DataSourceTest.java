@@ -11,6 +11,7 @@ import garterfossil.jdbc.JdbcResource;
 import java.nio.file.Files;
 import java.sql.Connection;
 import java.sql.SQLException;
+import java.sql.SQLFeatureNotSupportedException;
 import java.sql.Statement;
 import java.time.Duration;
 import javax.sql.DataSource;
@@ -116,6 +117,23 @@ public class DataSourceTest {
             assertEquals(Connection.TRANSACTION_READ_COMMITTED, connection.getTransactionIsolation());
         }
         transaction.commit();
+    }
+
+    @Test
+    public void aSettingThatCantBeRead() throws Exception {
+        try (Connection connection = source.getConnection()) {
+            SQLException error = assertThrows(SQLException.class, () -> connection.setCatalog("other"));
+            assertEquals("no catalog", error.getMessage());
+        }
+    }
+
+    @Test
+    public void whatElseADataSourceHas() throws Exception {
+        assertEquals(0, source.getLoginTimeout());
+        assertTrue(source.isWrapperFor(javax.sql.XADataSource.class) && source.unwrap(DataSource.class) == source);
+        assertThrows(SQLException.class, () -> source.unwrap(String.class));
+        assertThrows(SQLFeatureNotSupportedException.class, () -> source.getConnection("user", "password"));
+        assertThrows(SQLFeatureNotSupportedException.class, source::createConnectionBuilder);
     }
 
     @Test

@@ -31,7 +31,7 @@ public class HelpersTest {
         }
         CountDownLatch othersMade = new CountDownLatch(2);
         Set<Branch> made = ConcurrentHashMap.newKeySet();
-        helpers.each(branches, false, false, branch -> {
+        helpers.each(branches, false, 0, branch -> {
             // The one helper's call takes longer than those of the thread that asks.
             if (Thread.currentThread() == threads.get(0)) {
                 await(othersMade);

@@ -166,8 +166,8 @@ public class MirrorTest {
         Session session = manager.up();
         assertEquals(Set.of(gtrid), mirror.decided());
         world.b.isDown = false;
-        World.eventually(() -> session.fatal() != null);
-        assertTrue(session.fatal(), session.fatal().contains("which the mirror has decided to commit, and of which this log knows nothing"));
+        World.eventually(() -> session.whyNot() != null);
+        assertTrue(session.whyNot(), session.whyNot().contains("which the mirror has decided to commit, and of which this log knows nothing"));
         // It is neither rolled back nor forgotten.
         assertEquals(1, world.b.branches.size());
         assertEquals(Set.of(gtrid), mirror.decided());

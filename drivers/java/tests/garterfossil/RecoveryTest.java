@@ -189,7 +189,7 @@ public class RecoveryTest {
         world.a.branches.put(world.own(2, 1), StandInResource.State.PREPARED);
         Session session = world.manager.session();
         world.loseOneAt(world.a);
-        World.eventually(() -> session.fatal() != null);
+        World.eventually(() -> session.whyNot() != null);
         assertThrows(Fault.Unavailable.class, () -> world.begin().enlist(world.a));
         assertEquals(1, world.a.branches.size());
     }

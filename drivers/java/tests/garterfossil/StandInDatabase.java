@@ -65,6 +65,9 @@ final class StandInDatabase {
                 isolation[0] = (int) words[0];
                 return null;
             },
+            "getCatalog", (proxy, method, words) -> {
+                throw new SQLException("no catalog");
+            },
             "getAutoCommit", (proxy, method, words) -> true,
             "unwrap", (proxy, method, words) -> (Plain) text -> done.add(number + " " + text),
             "isValid", (proxy, method, words) -> link.isUsable()));

@@ -1,37 +1,38 @@
 package garterfossil.jdbc;
 
 import garterfossil.Fault;
+import garterfossil.Front;
 import garterfossil.Gate;
 import garterfossil.GlobalTransaction;
 import garterfossil.Manager;
-import java.lang.reflect.InvocationHandler;
-import java.lang.reflect.InvocationTargetException;
 import java.lang.reflect.Method;
-import java.lang.reflect.Proxy;
+import java.sql.CallableStatement;
 import java.sql.Connection;
+import java.sql.DatabaseMetaData;
+import java.sql.PreparedStatement;
+import java.sql.ResultSet;
 import java.sql.SQLException;
 import java.sql.Statement;
-import java.util.ArrayList;
-import java.util.Collections;
-import java.util.IdentityHashMap;
-import java.util.Set;
+import java.util.Map;
 
 /**
- * A connection as a program has it. All its work goes through a gate, which is shut as the
- * transaction ends.
+ * A connection as a program has it. All its work, and that of what it gives out, goes through a
+ * gate, which is shut as the transaction ends.
  */
-final class ConnectionHandle implements InvocationHandler {
-    static final Gate.Work NOTHING = () -> { };
+final class ConnectionHandle {
+    private static final Gate.Work NOTHING = () -> { };
+    /** The settings that are taken back, and how each is read. */
+    private static final Map<String, String> SETTINGS = Map.of("setTransactionIsolation", "getTransactionIsolation", "setReadOnly", "isReadOnly",
+        "setCatalog", "getCatalog", "setSchema", "getSchema");
 
     private final Manager manager;
     private final JdbcLink link;
+    private final Connection connection;
     private final Gate gate;
     // The transaction, or null outside of any.
     private final GlobalTransaction transaction;
     private final Runnable whenClosed;
-    // Those that are open on it: they are closed with it.
-    private final Set<Statement> statements = Collections.synchronizedSet(Collections.newSetFromMap(new IdentityHashMap<>()));
-    private final Children children = new Children(this);
+    private final Connection front;
     private volatile boolean isClosed;
 
     private ConnectionHandle(Manager manager, JdbcLink link, Gate gate, GlobalTransaction transaction, Runnable whenClosed) {
@@ -40,115 +41,146 @@ final class ConnectionHandle implements InvocationHandler {
         this.gate = gate;
         this.transaction = transaction;
         this.whenClosed = whenClosed;
+        connection = link.connection;
+        front = Front.of(Connection.class, (it, method, words) -> ofConnection(method, words));
     }
 
     static Connection inTransaction(Manager manager, JdbcLink link, Gate gate, GlobalTransaction transaction) {
-        return proxy(new ConnectionHandle(manager, link, gate, transaction, () -> { }));
+        return new ConnectionHandle(manager, link, gate, transaction, () -> { }).front;
     }
 
     static Connection alone(Manager manager, JdbcLink link, Runnable whenClosed) {
-        return proxy(new ConnectionHandle(manager, link, new Gate(), null, whenClosed));
+        return new ConnectionHandle(manager, link, new Gate(), null, whenClosed).front;
     }
 
-    private static Connection proxy(ConnectionHandle handle) {
-        return (Connection) Proxy.newProxyInstance(ConnectionHandle.class.getClassLoader(), new Class<?>[] {Connection.class}, handle);
+    /** Whether a call ends the transaction of a connection by itself. */
+    static boolean isEnd(Method method, Object[] words) {
+        return switch (method.getName()) {
+            case "commit" -> true;
+            case "rollback" -> words == null;
+            case "setAutoCommit" -> (boolean) words[0];
+            default -> false;
+        };
     }
 
-    @Override
-    public Object invoke(Object proxy, Method method, Object[] words) throws Throwable {
+    private Object ofConnection(Method method, Object[] words) throws Throwable {
         switch (method.getName()) {
-            case "equals": return proxy == words[0];
-            case "hashCode": return System.identityHashCode(proxy);
             case "toString": return "a connection of " + (transaction == null ? "no transaction" : transaction);
             case "isClosed": return isOver();
-            case "isValid": return !isOver() && (boolean) through(link.connection(), method, words, NOTHING);
-            case "close": return close();
-            case "abort": isClosed = true; link.suspect(); return through(link.connection(), method, words, NOTHING);
-            case "isWrapperFor": return ((Class<?>) words[0]).isInstance(proxy) || ((Class<?>) words[0]).isInstance(link.connection());
-            case "unwrap": return ((Class<?>) words[0]).isInstance(proxy) ? proxy : unwrapped(link.connection(), method, words);
-            default: return inner(proxy, method, words);
+            case "isValid": return !isOver() && (boolean) through(connection, method, words, NOTHING);
+            case "close": close(); return null;
+            case "abort": isClosed = true; link.suspect(); return through(connection, method, words, NOTHING);
+            case "isWrapperFor": case "unwrap": return face(front, connection, method, words);
+            default: return inner(method, words);
         }
     }
 
-    private Object close() throws SQLException {
+    private void close() throws SQLException {
         if (!isClosed) {
             isClosed = true;
             try {
-                for (Statement statement : new ArrayList<>(statements)) {
-                    closed(statement);
-                    statement.close();
-                }
+                link.closeStatements(this);
             } finally {
                 whenClosed.run();
             }
         }
-        return null;
     }
 
-    private Object inner(Object proxy, Method method, Object[] words) throws Throwable {
+    private Object inner(Method method, Object[] words) throws Throwable {
         seeOpen();
-        if (!isHarmless(method.getName())) {
+        String name = method.getName();
+        boolean isHarmless = name.startsWith("get") || name.startsWith("is") || name.equals("clearWarnings") || name.equals("rollback");
+        if (!isHarmless) {
             seeOwn();
         }
-        if (transaction != null && isOfTransaction(method, words)) {
-            return ownTransaction(method, words);
+        if (transaction != null && isEnd(method, words)) {
+            throw new SQLException(name + " isn't for a connection that takes part in " + transaction
+                + ": end that by the UserTransaction or TransactionManager, or mark it by setRollbackOnly", "2D000");
         }
-        rememberSetting(method);
-        return children.wrapped((Connection) proxy, through(link.connection(), method, words, NOTHING));
-    }
-
-    /** Whether it does no work, or undoes it. */
-    private static boolean isHarmless(String name) {
-        return name.startsWith("get") || name.startsWith("is") || name.equals("clearWarnings") || name.equals("rollback");
-    }
-
-    private static boolean isOfTransaction(Method method, Object[] words) {
-        String name = method.getName();
-        return name.equals("commit") || name.equals("setAutoCommit") || name.equals("getAutoCommit") || name.equals("rollback") && words == null;
-    }
-
-    private Object ownTransaction(Method method, Object[] words) throws SQLException {
-        if (method.getName().equals("getAutoCommit")) {
-            return false;
+        if (transaction != null && name.endsWith("etAutoCommit")) {
+            return words == null ? false : null;
         }
-        if (method.getName().equals("setAutoCommit") && !(boolean) words[0]) {
-            return null;
+        if (SETTINGS.containsKey(name)) {
+            // The next transaction finds the connection as it was.
+            Object[] before = {Front.direct(connection, Connection.class.getMethod(SETTINGS.get(name)), null)};
+            link.undoLater(() -> method.invoke(connection, before));
         }
-        throw new SQLException(method.getName() + " isn't for a connection that takes part in " + transaction
-            + ": end that by the UserTransaction or TransactionManager, or mark it by setRollbackOnly", "2D000");
+        return wrapped(through(connection, method, words, NOTHING));
     }
 
-    /** The next transaction finds the connection as it was. */
-    private void rememberSetting(Method method) throws SQLException {
-        Connection connection = link.connection();
+    // ** what it gives out
+
+    private Object wrapped(Object made) {
+        if (made instanceof Statement target) {
+            link.opened(target, this);
+            Class<?> face = made instanceof CallableStatement ? CallableStatement.class
+                : made instanceof PreparedStatement ? PreparedStatement.class : Statement.class;
+            return Front.of(face, (it, method, words) -> ofStatement(it, target, method, words));
+        }
+        return made instanceof DatabaseMetaData
+            ? Front.of(DatabaseMetaData.class, (it, method, words) -> ofChild(it, null, made, method, words, NOTHING)) : made;
+    }
+
+    private Object ofStatement(Object it, Statement target, Method method, Object[] words) throws Throwable {
         switch (method.getName()) {
-            case "setTransactionIsolation":
-                int isolation = connection.getTransactionIsolation();
-                link.undoLater(() -> connection.setTransactionIsolation(isolation));
-                break;
-            case "setReadOnly":
-                boolean isReadOnly = connection.isReadOnly();
-                link.undoLater(() -> connection.setReadOnly(isReadOnly));
-                break;
-            case "setCatalog":
-                String catalog = connection.getCatalog();
-                link.undoLater(() -> connection.setCatalog(catalog));
-                break;
-            case "setSchema":
-                String schema = connection.getSchema();
-                link.undoLater(() -> connection.setSchema(schema));
-                break;
+            // Neither does work, so both may come at any time.
+            case "close": link.closed(target); return Front.direct(target, method, words);
+            case "cancel": return Front.direct(target, method, words);
+            case "isClosed": return isOver() || (boolean) Front.direct(target, method, words);
+            default: return ofChild(it, it, target, method, words, target::cancel);
+        }
+    }
+
+    private Object ofChild(Object it, Object statement, Object target, Method method, Object[] words, Gate.Work work) throws Throwable {
+        String name = method.getName();
+        switch (name) {
+            case "getConnection": return front;
+            case "toString": return target.toString();
+            case "isWrapperFor": case "unwrap": return face(it, target, method, words);
             default:
         }
+        seeOpen();
+        if (name.startsWith("execute") || name.equals("updateRow") || name.equals("insertRow") || name.equals("deleteRow")) {
+            seeOwn();
+        }
+        Object made = through(target, method, words, work);
+        return made instanceof ResultSet found ? rows(found, statement) : made;
     }
 
-    // ** what its statements need of it
+    /** Rows are read as they are; what can change them goes through the gate. */
+    private Object rows(ResultSet target, Object statement) throws SQLException {
+        boolean canChange = target.getConcurrency() == ResultSet.CONCUR_UPDATABLE;
+        return Front.of(ResultSet.class, (it, method, words) -> switch (method.getName()) {
+            case "getStatement" -> statement;
+            case "toString", "isWrapperFor", "unwrap" -> ofChild(it, statement, target, method, words, NOTHING);
+            default -> canChange ? ofChild(it, statement, target, method, words, NOTHING) : Front.direct(target, method, words);
+        });
+    }
 
-    boolean isOver() {
+    /**
+     * Whether a thing has an interface, or what has it. Work on what lies under it goes past the
+     * gate.
+     */
+    private Object face(Object it, Object target, Method method, Object[] words) throws Throwable {
+        Class<?> wanted = (Class<?>) words[0];
+        if (method.getName().equals("isWrapperFor")) {
+            return wanted.isInstance(it) || wanted.isInstance(target);
+        }
+        if (wanted.isInstance(it)) {
+            return it;
+        }
+        Object found = through(target, method, words, NOTHING);
+        link.letOut();
+        return found;
+    }
+
+    // ** what may be done
+
+    private boolean isOver() {
         return isClosed || gate.isShut();
     }
 
-    void seeOpen() throws SQLException {
+    private void seeOpen() throws SQLException {
         if (isClosed) {
             throw new SQLException("the connection is closed", "08003");
         }
@@ -158,54 +190,23 @@ final class ConnectionHandle implements InvocationHandler {
      * Sees that work on it is of the thread's transaction, if that has one: else it would stay, or
      * not, whatever becomes of that.
      */
-    void seeOwn() throws SQLException {
+    private void seeOwn() throws SQLException {
         GlobalTransaction current = manager.current();
-        if (current == null || current == transaction) {
-            return;
+        if (current != null && current != transaction) {
+            throw new SQLException("this connection " + (transaction == null ? "was got outside of any transaction" : "takes part in " + transaction)
+                + ", and so its work would be no part of " + current + ", which the thread has: get one from the DataSource now that this has begun", "25000");
         }
-        throw new SQLException("this connection " + (transaction == null ? "was got outside of any transaction" : "takes part in " + transaction)
-            + ", and so its work would be no part of " + current + ", which the thread has: get one from the DataSource now that this has begun", "25000");
-    }
-
-    void opened(Statement statement) {
-        statements.add(statement);
-        link.opened(statement);
-    }
-
-    void closed(Statement statement) {
-        statements.remove(statement);
-        link.closed(statement);
-    }
-
-    /** What lies under a thing, if it has such a face. Work on that goes past the gate. */
-    Object unwrapped(Object target, Method method, Object[] words) throws Throwable {
-        Object found = through(target, method, words, NOTHING);
-        link.letOut();
-        return found;
     }
 
     /** Has work done, if the gate is open. */
-    Object through(Object target, Method method, Object[] words, Gate.Work work) throws Throwable {
+    private Object through(Object target, Method method, Object[] words, Gate.Work work) throws Throwable {
         try {
-            gate.enter(work);
+            return Front.through(gate, work, target, method, words);
         } catch (Fault.Unavailable fault) {
             throw new SQLException(fault.getMessage(), "25000", fault);
-        }
-        try {
-            return direct(target, method, words);
         } catch (SQLException error) {
             link.suspect();
             throw error;
-        } finally {
-            gate.leave();
-        }
-    }
-
-    static Object direct(Object target, Method method, Object[] words) throws Throwable {
-        try {
-            return method.invoke(target, words);
-        } catch (InvocationTargetException error) {
-            throw error.getCause();
         }
     }
 }

@@ -1,5 +1,6 @@
 package garterfossil.jdbc;
 
+import garterfossil.Apart;
 import garterfossil.BranchXid;
 import garterfossil.Fault;
 import garterfossil.Resource;
@@ -14,14 +15,21 @@ import java.sql.Statement;
 import java.util.ArrayList;
 import java.util.HexFormat;
 import java.util.List;
+import java.util.Locale;
 import java.util.Set;
 import java.util.stream.Collectors;
 import java.util.stream.IntStream;
 import javax.transaction.xa.XAResource;
 
-/** How a kind of database knows its connections, and how they are ended from outside. */
+/**
+ * What kinds of databases differ in: how one knows its connections, and itself; how these are ended
+ * from outside; and how it makes XA's calls. Each constant says what is otherwise than below.
+ */
 enum Dialect {
     POSTGRESQL {
+        // Of the driver's class that was met last.
+        private volatile Method stateOf;
+
         @Override
         long number(Connection connection, String label) throws SQLException {
             try (PreparedStatement statement = connection.prepareStatement("SELECT set_config('application_name', ?, false), pg_backend_pid()")) {
@@ -33,10 +41,28 @@ enum Dialect {
             }
         }
 
+        /** PostgreSQL keeps 63 bytes of it. */
+        private String application(String label) {
+            return label.length() < 64 ? label : String.format("%s~%08x", label.substring(0, 54), label.hashCode());
+        }
+
+        @Override
+        void labelAgain(Connection connection, String label) throws SQLException {
+            // The server tells its driver of each change of it.
+            if (!application(label).equals(connection.getClientInfo("ApplicationName"))) {
+                number(connection, label);
+            }
+        }
+
         @Override
         List<Long> all(Connection connection, String label) throws SQLException {
             return numbers(connection, "SELECT pid FROM pg_stat_activity WHERE application_name = '" + application(label)
                 + "' AND datname = current_database() AND usename = current_user");
+        }
+
+        @Override
+        void end(Connection connection, long number) throws SQLException {
+            execute(connection, "SELECT pg_terminate_backend(" + number + ")");
         }
 
         @Override
@@ -49,24 +75,6 @@ enum Dialect {
             return Traits.weaknessesOfPostgreSql(connection);
         }
 
-        /** The server tells its driver of each change of it. */
-        @Override
-        void labelAgain(Connection connection, String label) throws SQLException {
-            if (!application(label).equals(connection.getClientInfo("ApplicationName"))) {
-                number(connection, label);
-            }
-        }
-
-        /** PostgreSQL keeps 63 bytes of it. */
-        private String application(String label) {
-            return label.length() < 64 ? label : String.format("%s~%08x", label.substring(0, 54), label.hashCode());
-        }
-
-        @Override
-        void end(Connection connection, long number) throws SQLException {
-            execute(connection, "SELECT pg_terminate_backend(" + number + ")");
-        }
-
         @Override
         String byHand(String verb, BranchXid xid) {
             return verb + " PREPARED '" + PreparedNames.of(xid) + "';";
@@ -77,14 +85,10 @@ enum Dialect {
             return new PostgreSqlXaResource(owner, this, inner, connection);
         }
 
-        // Of the driver's class that was met last.
-        private volatile Method stateOf;
-
         @Override
         boolean isGivenUp(Connection connection) throws SQLException {
             try {
-                // The driver knows it from the last answer of the server, so that it needn't be
-                // asked.
+                // The driver knows it from the server's last answer, so that needn't be asked.
                 Method asked = stateMethod(connection.getClass().getClassLoader());
                 return asked.invoke(connection.unwrap(asked.getDeclaringClass())).toString().equals("FAILED");
             } catch (ReflectiveOperationException error) {
@@ -113,6 +117,7 @@ enum Dialect {
             }
         }
     },
+
     MARIADB {
         // Each connection holds a named lock, by which the next run of the manager knows it.
         private static final int LOCKS = 512;
@@ -125,9 +130,40 @@ enum Dialect {
             long number = numbers(connection, "SELECT CONNECTION_ID()").get(0);
             // Mostly the first is free. Only where it isn't, all are looked at.
             if (!takes(connection, label, (int) (number % LOCKS))) {
-                takeAny(connection, label);
+                List<Long> holders = holders(connection, label);
+                for (int slot = 0; holders.get(slot) != 0 || !takes(connection, label, slot); slot++) {
+                    if (slot == LOCKS - 1) {
+                        throw new SQLException("all " + LOCKS + " named locks of the manager's connections are taken");
+                    }
+                }
             }
             return number;
+        }
+
+        private boolean takes(Connection connection, String label, int slot) throws SQLException {
+            return numbers(connection, "SELECT GET_LOCK('" + lock(label, slot) + "', 0)").get(0) == 1;
+        }
+
+        /** The number of the connection that holds each lock, or 0. */
+        private List<Long> holders(Connection connection, String label) throws SQLException {
+            return numbers(connection, IntStream.range(0, LOCKS).mapToObj(slot -> "SELECT IS_USED_LOCK('" + lock(label, slot) + "')")
+                .collect(Collectors.joining(" UNION ALL ")));
+        }
+
+        @Override
+        List<Long> all(Connection connection, String label) throws SQLException {
+            return holders(connection, label).stream().filter(number -> number != 0).toList();
+        }
+
+        @Override
+        void end(Connection connection, long number) throws SQLException {
+            try {
+                execute(connection, "KILL CONNECTION " + number);
+            } catch (SQLException error) {
+                if (error.getErrorCode() != 1094) {
+                    throw error;
+                }
+            }
         }
 
         @Override
@@ -145,34 +181,6 @@ enum Dialect {
             return "XA " + verb + " " + MariaDbXaResource.text(xid) + ";";
         }
 
-        private void takeAny(Connection connection, String label) throws SQLException {
-            List<Long> holders = holders(connection, label);
-            for (int slot = 0; slot < LOCKS; slot++) {
-                if (holders.get(slot) == 0 && takes(connection, label, slot)) {
-                    return;
-                }
-            }
-            throw new SQLException("all " + LOCKS + " named locks of the manager's connections are taken");
-        }
-
-        private boolean takes(Connection connection, String label, int slot) throws SQLException {
-            return numbers(connection, "SELECT GET_LOCK('" + lock(label, slot) + "', 0)").get(0) == 1;
-        }
-
-        /** The number of the connection that holds each lock, or 0. */
-        private List<Long> holders(Connection connection, String label) throws SQLException {
-            String asked = IntStream.range(0, LOCKS).mapToObj(slot -> "SELECT IS_USED_LOCK('" + lock(label, slot) + "')")
-                .collect(Collectors.joining(" UNION ALL "));
-            return numbers(connection, asked);
-        }
-
-        @Override
-        List<Long> all(Connection connection, String label) throws SQLException {
-            List<Long> found = holders(connection, label);
-            found.removeIf(number -> number == 0);
-            return found;
-        }
-
         @Override
         JdbcXaResource xaResource(Resource owner, XAResource inner, Connection connection) throws SQLException {
             DatabaseMetaData data = connection.getMetaData();
@@ -180,37 +188,18 @@ enum Dialect {
                 && 100 * data.getDatabaseMajorVersion() + data.getDatabaseMinorVersion() >= FIRST_WITH_BLOCKS;
             return hasBlocks ? new MariaDbXaResource(owner, this, inner, connection) : super.xaResource(owner, inner, connection);
         }
-
-        @Override
-        void end(Connection connection, long number) throws SQLException {
-            try {
-                execute(connection, "KILL CONNECTION " + number);
-            } catch (SQLException error) {
-                if (error.getErrorCode() != 1094) {
-                    throw error;
-                }
-            }
-        }
     },
+
     /**
      * A database in this process, or one whose connections nothing here can end: they end as the
      * process does.
      */
-    OTHER {
-        @Override
-        long number(Connection connection, String label) {
-            return 0;
-        }
+    OTHER;
 
-        @Override
-        List<Long> all(Connection connection, String label) {
-            return List.of();
-        }
-
-        @Override
-        void end(Connection connection, long number) {
-        }
-    };
+    static Dialect of(Connection connection) throws SQLException {
+        String product = connection.getMetaData().getDatabaseProductName().toLowerCase(Locale.ROOT);
+        return product.contains("postgresql") ? POSTGRESQL : product.contains("mariadb") || product.contains("mysql") ? MARIADB : OTHER;
+    }
 
     /**
      * The name of one of the locks at MariaDB, which takes at most 192 letters there, and doesn't
@@ -222,9 +211,21 @@ enum Dialect {
         return "garterfossil." + text + "." + slot;
     }
 
-    static Dialect of(Connection connection) throws SQLException {
-        String product = connection.getMetaData().getDatabaseProductName().toLowerCase(java.util.Locale.ROOT);
-        return product.contains("postgresql") ? POSTGRESQL : product.contains("mariadb") || product.contains("mysql") ? MARIADB : OTHER;
+    /** The number by which the database knows the connection, which has this label from now on. */
+    long number(Connection connection, String label) throws SQLException {
+        return 0;
+    }
+
+    /** The connection has its label again, if a program took it away. */
+    void labelAgain(Connection connection, String label) throws SQLException {
+    }
+
+    /** The numbers of all connections of this label, of this one too. */
+    List<Long> all(Connection connection, String label) throws SQLException {
+        return List.of();
+    }
+
+    void end(Connection connection, long number) throws SQLException {
     }
 
     /**
@@ -235,9 +236,7 @@ enum Dialect {
         return null;
     }
 
-    /**
-     * How the database is set so that it may not keep what it voted for, as somebody is to read it.
-     */
+    /** How the database is set so that it may not keep what it voted for, as texts to be read. */
     List<String> weaknesses(Connection connection) {
         return List.of();
     }
@@ -246,18 +245,6 @@ enum Dialect {
     String byHand(String verb, BranchXid xid) {
         return verb + " of " + xid;
     }
-
-    /** The number by which the database knows the connection, which has this label from now on. */
-    abstract long number(Connection connection, String label) throws SQLException;
-
-    /** The connection has its label again, if a program took it away. */
-    void labelAgain(Connection connection, String label) throws SQLException {
-    }
-
-    /** The numbers of all connections of this label, of this one too. */
-    abstract List<Long> all(Connection connection, String label) throws SQLException;
-
-    abstract void end(Connection connection, long number) throws SQLException;
 
     /** The XAResource of a connection, as the manager calls it: over that of the driver. */
     JdbcXaResource xaResource(Resource owner, XAResource inner, Connection connection) throws SQLException {
@@ -272,15 +259,11 @@ enum Dialect {
         return false;
     }
 
-    /**
-     * Ends the connections of this label, except those that are kept, and waits until they are
-     * gone.
-     */
+    /** Ends the connections of this label except those that are kept. Waits until they are gone. */
     void endOthers(Connection connection, String label, long own, Set<Long> kept) throws SQLException, Fault.Lost {
         long until = System.nanoTime() + 20_000_000_000L;
         while (true) {
-            List<Long> numbers = new ArrayList<>(all(connection, label));
-            numbers.removeIf(number -> number == own || kept.contains(number));
+            List<Long> numbers = all(connection, label).stream().filter(number -> number != own && !kept.contains(number)).toList();
             if (numbers.isEmpty()) {
                 return;
             }
@@ -290,26 +273,29 @@ enum Dialect {
             for (long number : numbers) {
                 end(connection, number);
             }
-            try {
-                Thread.sleep(20);
-            } catch (InterruptedException error) {
-                Thread.currentThread().interrupt();
-                throw new Fault.Lost("interrupted", error);
-            }
+            Apart.pause(20);
         }
     }
 
-    private static List<Long> numbers(Connection connection, String query) throws SQLException {
-        List<Long> found = new ArrayList<>();
+    // ** statements
+
+    /** What a query finds in its first column. */
+    static List<String> rows(Connection connection, String query) throws SQLException {
+        List<String> found = new ArrayList<>();
         try (Statement statement = connection.createStatement(); ResultSet rows = statement.executeQuery(query)) {
             while (rows.next()) {
-                found.add(rows.getLong(1));
+                found.add(rows.getString(1));
             }
         }
         return found;
     }
 
-    private static void execute(Connection connection, String text) throws SQLException {
+    /** The same of numbers, of which one that is missing is 0. */
+    private static List<Long> numbers(Connection connection, String query) throws SQLException {
+        return rows(connection, query).stream().map(text -> text == null ? 0 : Long.parseLong(text)).toList();
+    }
+
+    static void execute(Connection connection, String text) throws SQLException {
         try (Statement statement = connection.createStatement()) {
             statement.execute(text);
         }

@@ -2,15 +2,18 @@ package garterfossil.jdbc;
 
 import garterfossil.Fault;
 import garterfossil.Link;
+import garterfossil.Manager;
+import java.lang.System.Logger.Level;
 import java.sql.Connection;
 import java.sql.SQLException;
 import java.sql.Statement;
 import java.time.Duration;
+import java.util.ArrayDeque;
 import java.util.ArrayList;
-import java.util.Collections;
+import java.util.Deque;
 import java.util.IdentityHashMap;
 import java.util.List;
-import java.util.Set;
+import java.util.Map;
 import javax.sql.XAConnection;
 import javax.transaction.xa.XAResource;
 
@@ -18,15 +21,15 @@ import javax.transaction.xa.XAResource;
 final class JdbcLink implements Link {
     /** What takes a setting of the connection back. */
     interface Undo {
-        void run() throws SQLException;
+        void run() throws Exception;
     }
 
     private final JdbcResource owner;
     private final XAConnection xa;
-    private final Connection connection;
-    private final List<Undo> undos = new ArrayList<>();
-    // Those that are open on it, under the monitor of this object.
-    private final Set<Statement> statements = Collections.newSetFromMap(new IdentityHashMap<>());
+    final Connection connection;
+    private final Deque<Undo> undos = new ArrayDeque<>();
+    // Those that are open on it, each with the handle that made it. Under the monitor of this.
+    private final Map<Statement, Object> statements = new IdentityHashMap<>();
     private final JdbcXaResource resource;
     private final long number;
     private boolean isSuspect;
@@ -47,13 +50,9 @@ final class JdbcLink implements Link {
         }
     }
 
-    Connection connection() {
-        return connection;
-    }
-
     /** A setting was changed: this takes it back. */
     void undoLater(Undo undo) {
-        undos.add(undo);
+        undos.push(undo);
     }
 
     /** An error was met on it: it is asked before it is used again. */
@@ -76,20 +75,24 @@ final class JdbcLink implements Link {
         resource.bound(longest);
     }
 
-    synchronized void opened(Statement statement) {
-        statements.add(statement);
+    synchronized void opened(Statement statement, Object handle) {
+        statements.put(statement, handle);
     }
 
     synchronized void closed(Statement statement) {
         statements.remove(statement);
     }
 
-    /** Rows that are still read would be read in the next transaction, and fail there. */
-    private void closeStatements() throws SQLException {
-        List<Statement> open;
+    /** Closes what a handle has opened, or with null what all have. */
+    void closeStatements(Object handle) throws SQLException {
+        List<Statement> open = new ArrayList<>();
         synchronized (this) {
-            open = new ArrayList<>(statements);
-            statements.clear();
+            statements.forEach((statement, of) -> {
+                if (handle == null || of == handle) {
+                    open.add(statement);
+                }
+            });
+            statements.keySet().removeAll(open);
         }
         for (Statement statement : open) {
             statement.close();
@@ -118,18 +121,18 @@ final class JdbcLink implements Link {
     @Override
     public boolean reset() {
         try {
-            closeStatements();
-            for (int at = undos.size() - 1; at >= 0; at--) {
-                undos.get(at).run();
+            // Rows that are still read would be read in the next transaction, and fail there.
+            closeStatements(null);
+            while (!undos.isEmpty()) {
+                undos.pop().run();
             }
-            undos.clear();
             if (!connection.getAutoCommit()) {
                 connection.rollback();
                 connection.setAutoCommit(true);
             }
             owner.dialect(connection).labelAgain(connection, owner.label());
             connection.clearWarnings();
-        } catch (SQLException | RuntimeException error) {
+        } catch (Exception error) {
             return false;
         }
         boolean isGood = !isSuspect || isUsable();
@@ -139,10 +142,14 @@ final class JdbcLink implements Link {
 
     @Override
     public void close() {
+        close(xa);
+    }
+
+    static void close(XAConnection xa) {
         try {
             xa.close();
         } catch (SQLException | RuntimeException error) {
-            System.getLogger("garterfossil").log(System.Logger.Level.DEBUG, "a connection can't be closed", error);
+            Manager.LOG.log(Level.DEBUG, "a connection can't be closed", error);
         }
     }
 }

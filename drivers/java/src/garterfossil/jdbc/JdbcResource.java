@@ -6,6 +6,7 @@ import garterfossil.Known;
 import garterfossil.Link;
 import garterfossil.Manager;
 import garterfossil.PooledResource;
+import java.lang.System.Logger.Level;
 import java.sql.Connection;
 import java.sql.SQLException;
 import java.util.HashSet;
@@ -45,7 +46,7 @@ public final class JdbcResource extends PooledResource<JdbcResource> {
 
     /** Connections for programs: in a transaction of the manager each takes part in it. */
     public DataSource dataSource(Manager of) {
-        return new PooledDataSource(of, this, source);
+        return new PooledDataSource(of, this, source).front();
     }
 
     /**
@@ -53,12 +54,20 @@ public final class JdbcResource extends PooledResource<JdbcResource> {
      * they say whose they are.
      */
     public XADataSource xaDataSource() {
-        return owned.proxy();
+        return owned.front();
     }
 
     @Override
     public Link connect() throws Fault.Lost {
         return connection();
+    }
+
+    private JdbcLink connection() throws Fault.Lost {
+        try {
+            return new JdbcLink(source.getXAConnection(), this);
+        } catch (SQLException | RuntimeException error) {
+            throw new Fault.Lost("no connection to " + name(), error);
+        }
     }
 
     /**
@@ -75,17 +84,7 @@ public final class JdbcResource extends PooledResource<JdbcResource> {
         }
         if (!isLookedAt) {
             isLookedAt = true;
-            for (String weakness : kind.weaknesses(connection)) {
-                System.getLogger("garterfossil").log(System.Logger.Level.WARNING, name() + ": " + weakness);
-            }
-        }
-    }
-
-    private JdbcLink connection() throws Fault.Lost {
-        try {
-            return new JdbcLink(source.getXAConnection(), this);
-        } catch (SQLException | RuntimeException error) {
-            throw new Fault.Lost("no connection to " + name(), error);
+            kind.weaknesses(connection).forEach(weakness -> Manager.LOG.log(Level.WARNING, name() + ": " + weakness));
         }
     }
 
@@ -123,7 +122,7 @@ public final class JdbcResource extends PooledResource<JdbcResource> {
         Set<Long> all = new HashSet<>(kept);
         all.addAll(owned.open());
         try {
-            dialect.endOthers(link.connection(), label(), link.number(), all);
+            dialect.endOthers(link.connection, label(), link.number(), all);
         } catch (SQLException | RuntimeException error) {
             throw new Fault.Lost("connections to " + name() + " can't be ended", error);
         } finally {

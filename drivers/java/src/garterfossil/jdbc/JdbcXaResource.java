@@ -1,5 +1,6 @@
 package garterfossil.jdbc;
 
+import garterfossil.Fault;
 import garterfossil.OwnedXaResource;
 import garterfossil.Resource;
 import java.sql.Connection;
@@ -28,10 +29,10 @@ class JdbcXaResource implements OwnedXaResource {
         void made() throws XAException;
     }
 
+    final Connection connection;
     private final Resource owner;
     private final Dialect dialect;
     private final XAResource inner;
-    private final Connection connection;
     private volatile int longest;
     // What ends the connection, where it is another pool's.
     private volatile Runnable cutting;
@@ -83,17 +84,14 @@ class JdbcXaResource implements OwnedXaResource {
         }
     }
 
-    private void does(Does does) throws XAException {
+    final void does(Does does) throws XAException {
         bounded(() -> {
             does.made();
             return null;
         });
     }
 
-    /**
-     * Sets how long the connection waits for an answer: what that was before. Some drivers know no
-     * bound.
-     */
+    /** Sets how long an answer is waited for: what that was before. Some drivers know no bound. */
     private int setLongest(int millis) {
         try {
             int before = connection.getNetworkTimeout();
@@ -103,6 +101,34 @@ class JdbcXaResource implements OwnedXaResource {
             isUnbounded = true;
             return 0;
         }
+    }
+
+    /** Sees that the database hasn't given up the transaction of the connection. */
+    final void seeWhole(Xid xid) throws XAException {
+        boolean isGivenUp;
+        try {
+            isGivenUp = dialect.isGivenUp(connection);
+        } catch (SQLException error) {
+            throw failed(XAException.XAER_RMFAIL, error);
+        }
+        if (isGivenUp) {
+            rollback(xid);
+            throw failed(XAException.XA_RBROLLBACK, new SQLException("a statement had failed, and the database has given the transaction up"));
+        }
+    }
+
+    static XAException failed(int code, SQLException cause) {
+        return Fault.caused(new XAException(code), cause);
+    }
+
+    @Override
+    public void start(Xid xid, int flags) throws XAException {
+        does(() -> inner.start(xid, flags));
+    }
+
+    @Override
+    public void end(Xid xid, int flags) throws XAException {
+        does(() -> inner.end(xid, flags));
     }
 
     @Override
@@ -119,48 +145,14 @@ class JdbcXaResource implements OwnedXaResource {
             if (isOnePhase) {
                 seeWhole(xid);
             }
-            commitInner(xid, isOnePhase);
+            try {
+                inner.commit(xid, isOnePhase);
+            } catch (XAException error) {
+                // By XA the branch is rolled back then. MariaDB says so of whatever went wrong.
+                boolean isNoAnswer = error.errorCode == XAException.XAER_RMERR && dialect == Dialect.MARIADB;
+                throw isNoAnswer ? failed(XAException.XAER_RMFAIL, new SQLException(error)) : error;
+            }
         });
-    }
-
-    private void commitInner(Xid xid, boolean isOnePhase) throws XAException {
-        try {
-            inner.commit(xid, isOnePhase);
-        } catch (XAException error) {
-            // By XA the branch is rolled back then. MariaDB says so of whatever went wrong in its
-            // commit.
-            boolean isNoAnswer = error.errorCode == XAException.XAER_RMERR && dialect == Dialect.MARIADB;
-            throw isNoAnswer ? failed(XAException.XAER_RMFAIL, new SQLException(error)) : error;
-        }
-    }
-
-    final void seeWhole(Xid xid) throws XAException {
-        boolean isGivenUp;
-        try {
-            isGivenUp = dialect.isGivenUp(connection);
-        } catch (SQLException error) {
-            throw failed(XAException.XAER_RMFAIL, error);
-        }
-        if (isGivenUp) {
-            rollback(xid);
-            throw failed(XAException.XA_RBROLLBACK, new SQLException("a statement had failed, and the database has given the transaction up"));
-        }
-    }
-
-    static XAException failed(int code, SQLException cause) {
-        XAException error = new XAException(code);
-        error.initCause(cause);
-        return error;
-    }
-
-    @Override
-    public void start(Xid xid, int flags) throws XAException {
-        does(() -> inner.start(xid, flags));
-    }
-
-    @Override
-    public void end(Xid xid, int flags) throws XAException {
-        does(() -> inner.end(xid, flags));
     }
 
     @Override
@@ -180,7 +172,7 @@ class JdbcXaResource implements OwnedXaResource {
 
     @Override
     public boolean isSameRM(XAResource other) throws XAException {
-        return other instanceof JdbcXaResource ? owner == ((JdbcXaResource) other).owner : inner.isSameRM(other);
+        return other instanceof JdbcXaResource it ? owner == it.owner : inner.isSameRM(other);
     }
 
     @Override

@@ -1,12 +1,15 @@
 package garterfossil.jdbc;
 
 import garterfossil.BranchXid;
+import garterfossil.Manager;
 import garterfossil.PreparesAtEnd;
 import garterfossil.Resource;
+import java.lang.System.Logger.Level;
 import java.sql.Connection;
 import java.sql.SQLException;
 import java.sql.SQLWarning;
 import java.sql.Statement;
+import java.util.Arrays;
 import java.util.HexFormat;
 import javax.transaction.xa.XAException;
 import javax.transaction.xa.XAResource;
@@ -17,19 +20,11 @@ import javax.transaction.xa.Xid;
  * where the first fails.
  */
 final class MariaDbXaResource extends JdbcXaResource implements PreparesAtEnd {
-    /**
-     * XAER_RMFAIL, which it answers to XA END after a deadlock; XA_RBROLLBACK, XA_RBTIMEOUT and
-     * XA_RBDEADLOCK.
-     */
-    private static final int RMFAIL = 1399, RBROLLBACK = 1402, RBTIMEOUT = 1613, RBDEADLOCK = 1614;
     /** What it warns of as it rolls a branch back that wrote in a table without transactions. */
     private static final int KEPT = 1196;
 
-    private final Connection connection;
-
     MariaDbXaResource(Resource owner, Dialect dialect, XAResource inner, Connection connection) {
         super(owner, dialect, inner, connection);
-        this.connection = connection;
     }
 
     @Override
@@ -61,47 +56,40 @@ final class MariaDbXaResource extends JdbcXaResource implements PreparesAtEnd {
         }
     }
 
-    @Override
-    public void rollback(Xid xid) throws XAException {
-        super.rollback(xid);
-        bounded(() -> {
-            seeTakenBack(xid);
-            return null;
-        });
-    }
-
     /**
      * Warns if a table has kept what the branch wrote: it may have been made since the tables were
      * looked at.
      */
-    private void seeTakenBack(Xid xid) {
-        try {
-            for (SQLWarning it = connection.getWarnings(); it != null; it = it.getNextWarning()) {
-                if (it.getErrorCode() == KEPT) {
-                    System.getLogger("garterfossil").log(System.Logger.Level.WARNING, BranchXid.copyOf(xid)
-                        + " is rolled back, but wrote in a table of MariaDB that keeps it (MyISAM, Aria, MEMORY ..)");
+    @Override
+    public void rollback(Xid xid) throws XAException {
+        super.rollback(xid);
+        does(() -> {
+            try {
+                for (SQLWarning it = connection.getWarnings(); it != null; it = it.getNextWarning()) {
+                    if (it.getErrorCode() == KEPT) {
+                        Manager.LOG.log(Level.WARNING, BranchXid.copyOf(xid)
+                            + " is rolled back, but wrote in a table of MariaDB that keeps it (MyISAM, Aria, MEMORY ..)");
+                    }
                 }
+            } catch (SQLException error) {
+                // The branch is over. A connection that is lost is found by whoever uses it next.
             }
-        } catch (SQLException error) {
-            // The branch is over. A connection that is lost is found by whoever uses it next.
-        }
+        });
     }
 
     private boolean isListed(Xid xid) throws XAException {
-        for (Xid it : recover(TMSTARTRSCAN | TMENDRSCAN)) {
-            if (BranchXid.copyOf(it).equals(BranchXid.copyOf(xid))) {
-                return true;
-            }
-        }
-        return false;
+        return Arrays.stream(recover(TMSTARTRSCAN | TMENDRSCAN)).anyMatch(it -> BranchXid.copyOf(it).equals(BranchXid.copyOf(xid)));
     }
 
-    /**
-     * Rolls back what MariaDB has given up: the vote. What it was that failed is known by the code
-     * alone.
-     */
+    /** Rolls back what MariaDB has given up: the vote. What failed is known by the code alone. */
     private int rolledBack(Xid xid, SQLException error) throws XAException {
-        int vote = vote(error.getErrorCode());
+        int vote = switch (error.getErrorCode()) {
+            case 1402 -> XAException.XA_RBROLLBACK;
+            case 1613 -> XAException.XA_RBTIMEOUT;
+            // XAER_RMFAIL, as it answers to XA END after a deadlock, and XA_RBDEADLOCK.
+            case 1399, 1614 -> XAException.XA_RBDEADLOCK;
+            default -> XAException.XAER_RMFAIL;
+        };
         if (vote != XAException.XAER_RMFAIL) {
             try {
                 rollback(xid);
@@ -114,15 +102,6 @@ final class MariaDbXaResource extends JdbcXaResource implements PreparesAtEnd {
             }
         }
         return vote;
-    }
-
-    private static int vote(int code) {
-        switch (code) {
-            case RBROLLBACK: return XAException.XA_RBROLLBACK;
-            case RBTIMEOUT: return XAException.XA_RBTIMEOUT;
-            case RMFAIL: case RBDEADLOCK: return XAException.XA_RBDEADLOCK;
-            default: return XAException.XAER_RMFAIL;
-        }
     }
 
     static String text(Xid xid) {

@@ -1,7 +1,7 @@
 package garterfossil.jdbc;
 
 import garterfossil.Fault;
-import java.lang.reflect.Proxy;
+import garterfossil.Front;
 import java.sql.Connection;
 import java.sql.SQLException;
 import java.util.Set;
@@ -28,10 +28,10 @@ final class OwnedXaDataSource {
         return open;
     }
 
-    XADataSource proxy() {
-        return (XADataSource) Proxy.newProxyInstance(getClass().getClassLoader(), new Class<?>[] {XADataSource.class}, (proxy, method, words) -> {
-            Object made = ConnectionHandle.direct(source, method, words);
-            return made instanceof XAConnection ? owned((XAConnection) made) : made;
+    XADataSource front() {
+        return Front.of(XADataSource.class, (it, method, words) -> {
+            Object made = Front.direct(source, method, words);
+            return made instanceof XAConnection xa ? owned(xa) : made;
         });
     }
 
@@ -46,31 +46,23 @@ final class OwnedXaDataSource {
         Dialect dialect = owner.dialect(first);
         long number = dialect.number(first, owner.label());
         JdbcXaResource resource = dialect.xaResource(owner, xa.getXAResource(), first);
-        Connection given = resource instanceof PostgreSqlXaResource ? guarded(first, (PostgreSqlXaResource) resource) : first;
+        Connection given = resource instanceof PostgreSqlXaResource guard ? guarded(first, guard) : first;
         open.add(number);
         if (dialect != Dialect.OTHER) {
-            resource.cutBy(() -> cut(xa, number));
+            resource.cutBy(() -> {
+                open.remove(number);
+                JdbcLink.close(xa);
+            });
         }
-        return (XAConnection) Proxy.newProxyInstance(getClass().getClassLoader(), new Class<?>[] {XAConnection.class}, (proxy, method, words) -> {
+        return Front.of(XAConnection.class, (it, method, words) -> {
             switch (method.getName()) {
                 case "getXAResource": return resource;
                 // A new one would shut the first.
                 case "getConnection": return given;
-                case "close": open.remove(number); return ConnectionHandle.direct(xa, method, words);
-                case "equals": return proxy == words[0];
-                case "hashCode": return System.identityHashCode(proxy);
-                default: return ConnectionHandle.direct(xa, method, words);
+                case "close": open.remove(number); return Front.direct(xa, method, words);
+                default: return Front.direct(xa, method, words);
             }
         });
-    }
-
-    private void cut(XAConnection xa, long number) {
-        open.remove(number);
-        try {
-            xa.close();
-        } catch (SQLException | RuntimeException error) {
-            System.getLogger("garterfossil").log(System.Logger.Level.DEBUG, "a connection can't be closed", error);
-        }
     }
 
     /**
@@ -78,17 +70,11 @@ final class OwnedXaDataSource {
      * drivers see to that themselves.
      */
     private static Connection guarded(Connection plain, PostgreSqlXaResource resource) {
-        return (Connection) Proxy.newProxyInstance(OwnedXaDataSource.class.getClassLoader(), new Class<?>[] {Connection.class}, (proxy, method, words) -> {
-            String name = method.getName();
-            boolean isEnd = name.equals("commit") || name.equals("rollback") && words == null || name.equals("setAutoCommit") && (boolean) words[0];
-            if (isEnd && resource.hasBranch()) {
-                throw new SQLException(name + " isn't for a connection that has a branch", "2D000");
+        return Front.of(Connection.class, (it, method, words) -> {
+            if (resource.hasBranch() && ConnectionHandle.isEnd(method, words)) {
+                throw new SQLException(method.getName() + " isn't for a connection that has a branch", "2D000");
             }
-            switch (name) {
-                case "equals": return proxy == words[0];
-                case "hashCode": return System.identityHashCode(proxy);
-                default: return ConnectionHandle.direct(plain, method, words);
-            }
+            return Front.direct(plain, method, words);
         });
     }
 }

@@ -1,11 +1,10 @@
 package garterfossil.jdbc;
 
 import java.sql.Connection;
-import java.sql.ResultSet;
 import java.sql.SQLException;
-import java.sql.Statement;
 import java.util.ArrayList;
 import java.util.List;
+import java.util.Objects;
 import java.util.Optional;
 import java.util.UUID;
 
@@ -49,16 +48,14 @@ final class Traits {
         String asked = "SELECT id FROM " + VIEW;
         try {
             try {
-                return Optional.of(rows(connection, asked).get(0));
+                return Optional.of(Dialect.rows(connection, asked).get(0));
             } catch (SQLException error) {
                 if (error.getErrorCode() != NO_SUCH_TABLE) {
                     return Optional.empty();
                 }
-                try (Statement statement = connection.createStatement()) {
-                    // Of several that make it at once one does.
-                    statement.execute("CREATE SQL SECURITY INVOKER VIEW IF NOT EXISTS " + VIEW + " AS SELECT '" + UUID.randomUUID() + "' AS id");
-                }
-                return Optional.of(rows(connection, asked).get(0));
+                // Of several that make it at once one does.
+                Dialect.execute(connection, "CREATE SQL SECURITY INVOKER VIEW IF NOT EXISTS " + VIEW + " AS SELECT '" + UUID.randomUUID() + "' AS id");
+                return Optional.of(Dialect.rows(connection, asked).get(0));
             }
         } catch (SQLException | IndexOutOfBoundsException error) {
             return Optional.empty();
@@ -96,32 +93,22 @@ final class Traits {
 
     /** The names that a query finds, of which some are told; none if it finds none. */
     private static Optional<String> named(Connection connection, String query) {
-        try {
-            List<String> names = rows(connection, query);
-            String more = names.size() > MOST_NAMED ? " and " + (names.size() - MOST_NAMED) + " more" : "";
-            return names.isEmpty() ? Optional.empty() : Optional.of(String.join(", ", names.subList(0, Math.min(MOST_NAMED, names.size()))) + more);
-        } catch (SQLException error) {
-            return Optional.empty();
-        }
+        List<String> names = rows(connection, query);
+        String more = names.size() > MOST_NAMED ? " and " + (names.size() - MOST_NAMED) + " more" : "";
+        return names.isEmpty() ? Optional.empty() : Optional.of(String.join(", ", names.subList(0, Math.min(MOST_NAMED, names.size()))) + more);
     }
 
-    /** The first that a query finds. None if the user may not ask. */
+    /** The first that a query finds. */
     private static Optional<String> first(Connection connection, String query) {
-        try {
-            List<String> found = rows(connection, query);
-            return found.isEmpty() ? Optional.empty() : Optional.ofNullable(found.get(0));
-        } catch (SQLException error) {
-            return Optional.empty();
-        }
+        return rows(connection, query).stream().findFirst();
     }
 
-    private static List<String> rows(Connection connection, String query) throws SQLException {
-        try (Statement statement = connection.createStatement(); ResultSet rows = statement.executeQuery(query)) {
-            List<String> found = new ArrayList<>();
-            while (rows.next()) {
-                found.add(rows.getString(1));
-            }
-            return found;
+    /** None if the user may not ask. */
+    private static List<String> rows(Connection connection, String query) {
+        try {
+            return Dialect.rows(connection, query).stream().filter(Objects::nonNull).toList();
+        } catch (SQLException error) {
+            return List.of();
         }
     }
 }

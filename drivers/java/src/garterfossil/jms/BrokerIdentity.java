@@ -1,6 +1,7 @@
 package garterfossil.jms;
 
 import garterfossil.BranchXid;
+import garterfossil.Fault;
 import java.lang.reflect.InvocationTargetException;
 import java.nio.charset.StandardCharsets;
 import java.util.Enumeration;
@@ -64,7 +65,7 @@ final class BrokerIdentity {
         try {
             Enumeration<?> messages = browser.getEnumeration();
             Object message = messages.hasMoreElements() ? messages.nextElement() : null;
-            return message instanceof TextMessage ? ((TextMessage) message).getText() : null;
+            return message instanceof TextMessage text ? text.getText() : null;
         } finally {
             browser.close();
         }
@@ -72,11 +73,11 @@ final class BrokerIdentity {
 
     /** Sends a message, with a text that is drawn. */
     private static String sent(XASession session, Queue queue) throws JMSException {
-        String drawn = UUID.randomUUID().toString();
         MessageProducer producer = session.createProducer(queue);
-        producer.send(session.createTextMessage(drawn));
+        TextMessage message = session.createTextMessage(UUID.randomUUID().toString());
+        producer.send(message);
         producer.close();
-        return drawn;
+        return message.getText();
     }
 
     private interface Work {
@@ -103,9 +104,7 @@ final class BrokerIdentity {
                 }
             }
         } catch (XAException error) {
-            JMSException failed = new JMSException("the broker can't be asked which one it is");
-            failed.initCause(error);
-            throw failed;
+            throw Fault.caused(new JMSException("the broker can't be asked which one it is"), error);
         }
     }
 

@@ -1,11 +1,13 @@
 package garterfossil.jms;
 
 import garterfossil.Apart;
+import garterfossil.Front;
 import garterfossil.Gate;
 import garterfossil.Link;
+import garterfossil.Manager;
+import java.lang.System.Logger.Level;
 import java.lang.reflect.InvocationTargetException;
 import java.lang.reflect.Method;
-import java.lang.reflect.Proxy;
 import java.time.Duration;
 import java.util.ArrayList;
 import java.util.List;
@@ -19,11 +21,11 @@ import javax.transaction.xa.XAResource;
 /** A connection to a broker, with one session. */
 final class JmsLink implements Link {
     private final XAConnection connection;
-    private final XASession session;
+    final XASession session;
     private final long number;
     private final Runnable whenClosed;
     private final List<Gate.Work> opened = new ArrayList<>();
-    private final XAResource resource;
+    private final XAResource resource = Front.of(XAResource.class, this::bounded);
     private volatile Duration longest;
     private volatile boolean isFailed, isSilent;
 
@@ -39,14 +41,13 @@ final class JmsLink implements Link {
             connection.close();
             throw error;
         }
-        resource = (XAResource) Proxy.newProxyInstance(getClass().getClassLoader(), new Class<?>[] {XAResource.class}, this::bounded);
     }
 
     /**
      * A call of XA, which takes as long as the link is bound: a client may wait without end for a
      * broker that is silent.
      */
-    private Object bounded(Object proxy, Method method, Object[] words) throws Throwable {
+    private Object bounded(Object front, Method method, Object[] words) throws Throwable {
         try {
             return Apart.within(longest, () -> method.invoke(session.getXAResource(), words), late -> { });
         } catch (InvocationTargetException error) {
@@ -55,10 +56,6 @@ final class JmsLink implements Link {
             isSilent = true;
             throw new XAException(XAException.XAER_RMFAIL);
         }
-    }
-
-    XASession session() {
-        return session;
     }
 
     /** An error was met on it: it isn't used again. */
@@ -128,7 +125,7 @@ final class JmsLink implements Link {
         try {
             connection.close();
         } catch (JMSException | RuntimeException error) {
-            System.getLogger("garterfossil").log(System.Logger.Level.DEBUG, "a connection can't be closed", error);
+            Manager.LOG.log(Level.DEBUG, "a connection can't be closed", error);
         }
     }
 }

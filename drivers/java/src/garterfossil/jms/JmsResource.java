@@ -1,5 +1,6 @@
 package garterfossil.jms;
 
+import garterfossil.Apart;
 import garterfossil.Fault;
 import garterfossil.Known;
 import garterfossil.Link;
@@ -61,7 +62,7 @@ public final class JmsResource extends PooledResource<JmsResource> {
      * is a QueueConnectionFactory and a TopicConnectionFactory too.
      */
     public ConnectionFactory connectionFactory(Manager of) {
-        return PooledConnectionFactory.of(of, this, outside);
+        return new PooledConnectionFactory(of, this, outside).front();
     }
 
     @Override
@@ -81,38 +82,36 @@ public final class JmsResource extends PooledResource<JmsResource> {
         }
     }
 
-    private int take() {
-        synchronized (used) {
-            int number = used.nextClearBit(0);
-            used.set(number);
-            return number;
-        }
+    private synchronized int take() {
+        int number = used.nextClearBit(0);
+        used.set(number);
+        return number;
     }
 
-    private void giveBack(int number) {
-        synchronized (used) {
-            used.clear(number);
-            left.set(number);
-        }
+    private synchronized void giveBack(int number) {
+        used.clear(number);
+        left.set(number);
     }
 
     @Override
-    public void startAnew() {
-        synchronized (used) {
-            areSeen = false;
-        }
+    public synchronized void startAnew() {
+        areSeen = false;
     }
 
     /** The identifiers of which connections may be there that nobody has. */
-    private BitSet unseen() {
-        synchronized (used) {
-            BitSet found = (BitSet) left.clone();
-            if (!areSeen) {
-                found.set(0, maxConnections() + 1);
-            }
-            left.clear();
-            return found;
+    private synchronized BitSet unseen() {
+        BitSet found = (BitSet) left.clone();
+        if (!areSeen) {
+            found.set(0, maxConnections() + 1);
         }
+        left.clear();
+        return found;
+    }
+
+    /** They were looked at, except for these. */
+    private synchronized void looked(BitSet unseen) {
+        left.or(unseen);
+        areSeen |= unseen.isEmpty();
     }
 
     /**
@@ -140,7 +139,7 @@ public final class JmsResource extends PooledResource<JmsResource> {
                 connection.close();
                 throw error;
             }
-            pause();
+            Apart.pause(50);
         }
     }
 
@@ -148,15 +147,6 @@ public final class JmsResource extends PooledResource<JmsResource> {
         Known it = known();
         if (it != null) {
             it.see(BrokerIdentity.of(connection, it.identity()), BrokerIdentity.placeOf(factory));
-        }
-    }
-
-    private static void pause() throws Fault.Lost {
-        try {
-            Thread.sleep(50);
-        } catch (InterruptedException error) {
-            Thread.currentThread().interrupt();
-            throw new Fault.Lost("interrupted", error);
         }
     }
 
@@ -176,15 +166,10 @@ public final class JmsResource extends PooledResource<JmsResource> {
                 }
                 unseen.clear(number);
             }
-            synchronized (used) {
-                areSeen = true;
-            }
         } catch (JMSException | RuntimeException error) {
             throw new Fault.Lost("no connection to " + name(), error);
         } finally {
-            synchronized (used) {
-                left.or(unseen);
-            }
+            looked(unseen);
         }
     }
 }

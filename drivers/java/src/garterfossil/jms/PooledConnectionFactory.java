@@ -1,17 +1,21 @@
 package garterfossil.jms;
 
 import garterfossil.Fault;
+import garterfossil.Front;
 import garterfossil.GlobalTransaction;
 import garterfossil.Manager;
-import java.lang.reflect.InvocationTargetException;
 import java.lang.reflect.Method;
+import java.util.List;
 import javax.jms.Connection;
 import javax.jms.ConnectionFactory;
-import javax.jms.ExceptionListener;
 import javax.jms.IllegalStateException;
 import javax.jms.JMSException;
+import javax.jms.QueueConnection;
+import javax.jms.QueueConnectionFactory;
 import javax.jms.QueueSession;
 import javax.jms.Session;
+import javax.jms.TopicConnection;
+import javax.jms.TopicConnectionFactory;
 import javax.jms.TopicSession;
 
 /**
@@ -19,36 +23,21 @@ import javax.jms.TopicSession;
  * it is an ordinary one, of another factory. No class implements the interface, since that has more
  * methods from JMS 2.0 on, which the jar may run over.
  */
-final class PooledConnectionFactory {
-    private final Manager manager;
-    private final JmsResource resource;
-    private final ConnectionFactory outside;
-
-    private PooledConnectionFactory(Manager manager, JmsResource resource, ConnectionFactory outside) {
-        this.manager = manager;
-        this.resource = resource;
-        this.outside = outside;
+record PooledConnectionFactory(Manager manager, JmsResource resource, ConnectionFactory outside) {
+    ConnectionFactory front() {
+        return (ConnectionFactory) Front.of(List.of(ConnectionFactory.class, QueueConnectionFactory.class, TopicConnectionFactory.class), this::invoke);
     }
 
-    static ConnectionFactory of(Manager manager, JmsResource resource, ConnectionFactory outside) {
-        return (ConnectionFactory) Faces.proxied(Faces.FACTORIES, new PooledConnectionFactory(manager, resource, outside)::invoke);
-    }
-
-    private Object invoke(Object proxy, Method method, Object[] words) throws JMSException {
+    private Object invoke(Object front, Method method, Object[] words) throws JMSException {
         switch (method.getName()) {
-            case "equals": return proxy == words[0];
-            case "hashCode": return System.identityHashCode(proxy);
             case "toString": return "connections to " + resource.name();
-            case "createConnection": case "createQueueConnection": case "createTopicConnection": return connection(words);
+            case "createConnection": case "createQueueConnection": case "createTopicConnection":
+                if (words != null) {
+                    throw new JMSException("the user is that of the XAConnectionFactory");
+                }
+                return Front.of(List.of(Connection.class, QueueConnection.class, TopicConnection.class), new ConnectionHandle()::invoke);
             default: throw new UnsupportedOperationException(method.getName() + ": connections are made by createConnection");
         }
-    }
-
-    private Connection connection(Object[] words) throws JMSException {
-        if (words != null) {
-            throw new JMSException("the user is that of the XAConnectionFactory");
-        }
-        return (Connection) Faces.proxied(Faces.CONNECTIONS, new ConnectionHandle()::invoke);
     }
 
     /** A connection as a program has it. */
@@ -57,36 +46,32 @@ final class PooledConnectionFactory {
         private Connection alone;
         private boolean isClosed, isStarted;
 
-        Object invoke(Object proxy, Method method, Object[] words) throws Throwable {
-            switch (method.getName()) {
-                case "equals": return proxy == words[0];
-                case "hashCode": return System.identityHashCode(proxy);
-                case "toString": return "a connection to " + resource.name();
-                case "close": return close();
-                default:
+        Object invoke(Object front, Method method, Object[] words) throws Throwable {
+            String name = method.getName();
+            if (name.equals("toString")) {
+                return "a connection to " + resource.name();
+            }
+            if (name.equals("close")) {
+                isClosed = true;
+                return ofAlone(method, words);
             }
             if (isClosed) {
                 throw new IllegalStateException("the connection is closed");
             }
-            switch (method.getName()) {
-                case "start": isStarted = true; return alone == null ? null : direct(alone, method, words);
-                case "stop": isStarted = false; return alone == null ? null : direct(alone, method, words);
+            switch (name) {
+                case "start": case "stop": isStarted = name.equals("start"); return ofAlone(method, words);
                 case "createSession": return session(method, words);
                 case "createQueueSession": return of(QueueSession.class, session(method, words));
                 case "createTopicSession": return of(TopicSession.class, session(method, words));
                 case "setClientID": throw new IllegalStateException("the connections of a pool have identifiers of their own");
                 case "getClientID": return null;
-                case "getExceptionListener": return alone == null ? null : alone.getExceptionListener();
-                case "setExceptionListener": return listen((ExceptionListener) words[0]);
-                default: return direct(alone(), method, words);
+                case "getExceptionListener": case "setExceptionListener": return ofAlone(method, words);
+                default: return Front.direct(alone(), method, words);
             }
         }
 
-        private Object listen(ExceptionListener listener) throws JMSException {
-            if (alone != null) {
-                alone.setExceptionListener(listener);
-            }
-            return null;
+        private Object ofAlone(Method method, Object[] words) throws Throwable {
+            return alone == null ? null : Front.direct(alone, method, words);
         }
 
         /** The session, if those of this broker's client have the interface. */
@@ -102,16 +87,14 @@ final class PooledConnectionFactory {
             GlobalTransaction transaction = manager.current();
             if (transaction == null) {
                 boolean isPlain = method.getName().equals("createSession");
-                return OutsideSession.of(manager,
-                    isPlain ? (Session) direct(alone(), method, words) : alone().createSession((boolean) words[0], (int) words[1]));
+                return SessionHandle.outside(manager,
+                    isPlain ? (Session) Front.direct(alone(), method, words) : alone().createSession((boolean) words[0], (int) words[1]));
             }
             try {
                 GlobalTransaction.Enlisted branch = transaction.enlist(resource);
                 return SessionHandle.of(manager, (JmsLink) branch.link(), branch.gate(), transaction);
             } catch (Fault fault) {
-                JMSException error = new JMSException(fault.getMessage());
-                error.initCause(fault);
-                throw error;
+                throw Fault.caused(new JMSException(fault.getMessage()), fault);
             }
         }
 
@@ -126,22 +109,6 @@ final class PooledConnectionFactory {
                 }
             }
             return alone;
-        }
-
-        private Object close() throws JMSException {
-            isClosed = true;
-            if (alone != null) {
-                alone.close();
-            }
-            return null;
-        }
-    }
-
-    static Object direct(Object target, Method method, Object[] words) throws Throwable {
-        try {
-            return method.invoke(target, words);
-        } catch (InvocationTargetException error) {
-            throw error.getCause();
         }
     }
 }

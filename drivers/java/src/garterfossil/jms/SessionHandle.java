@@ -1,9 +1,11 @@
 package garterfossil.jms;
 
 import garterfossil.Fault;
+import garterfossil.Front;
 import garterfossil.Gate;
 import garterfossil.GlobalTransaction;
 import garterfossil.Manager;
+import java.lang.reflect.InvocationHandler;
 import java.lang.reflect.Method;
 import java.util.ArrayList;
 import java.util.List;
@@ -12,7 +14,13 @@ import javax.jms.JMSException;
 import javax.jms.MessageConsumer;
 import javax.jms.MessageProducer;
 import javax.jms.QueueBrowser;
+import javax.jms.QueueReceiver;
+import javax.jms.QueueSender;
+import javax.jms.QueueSession;
 import javax.jms.Session;
+import javax.jms.TopicPublisher;
+import javax.jms.TopicSession;
+import javax.jms.TopicSubscriber;
 import javax.jms.TransactionInProgressException;
 
 /**
@@ -21,6 +29,9 @@ import javax.jms.TransactionInProgressException;
  */
 final class SessionHandle {
     private static final Gate.Work NOTHING = () -> { };
+    /** The interfaces of sessions and of what they make: JMS 1.1's, and older ones of queues and topics. */
+    private static final List<Class<?>> FACES = List.of(Session.class, QueueSession.class, TopicSession.class, MessageConsumer.class,
+        QueueReceiver.class, TopicSubscriber.class, MessageProducer.class, QueueSender.class, TopicPublisher.class, QueueBrowser.class);
 
     private final Manager manager;
     private final JmsLink link;
@@ -37,30 +48,56 @@ final class SessionHandle {
     }
 
     static Session of(Manager manager, JmsLink link, Gate gate, GlobalTransaction transaction) {
-        SessionHandle handle = new SessionHandle(manager, link, gate, transaction);
-        return (Session) Faces.like(link.session(), handle::invoke);
+        return (Session) like(link.session, new SessionHandle(manager, link, gate, transaction)::ofSession);
     }
 
-    private Object invoke(Object proxy, Method method, Object[] words) throws Throwable {
-        switch (method.getName()) {
-            case "equals": return proxy == words[0];
-            case "hashCode": return System.identityHashCode(proxy);
+    /** Something with those of JMS's interfaces that a session, or what one makes, has. */
+    private static Object like(Object target, InvocationHandler handler) {
+        return Front.of(FACES.stream().filter(face -> face.isInstance(target)).toList(), handler);
+    }
+
+    /**
+     * A session outside of any transaction. It does no work while its thread has one: what it sends
+     * and receives would be no part of that, and so be lost or doubled where that is rolled back.
+     */
+    static Session outside(Manager manager, Session plain) {
+        return (Session) outside(manager, (Object) plain);
+    }
+
+    private static Object outside(Manager manager, Object target) {
+        boolean isWorking = target instanceof Session || target instanceof MessageConsumer || target instanceof MessageProducer;
+        return !isWorking ? target : like(target, (it, method, words) -> {
+            GlobalTransaction current = manager.current();
+            if (current != null && List.of("commit", "send", "publish", "receive", "receiveNoWait").contains(method.getName())) {
+                throw new IllegalStateException("this session was made outside of any transaction, and so its work would be no part of " + current
+                    + ", which the thread has: make one now that this has begun, and keep none for several transactions (as a cache does)");
+            }
+            return outside(manager, Front.direct(target, method, words));
+        });
+    }
+
+    private Object ofSession(Object it, Method method, Object[] words) throws Throwable {
+        String name = method.getName();
+        switch (name) {
             case "toString": return "a session of " + transaction;
             case "close": return close();
             case "getTransacted": return true;
             case "getAcknowledgeMode": return Session.SESSION_TRANSACTED;
             // JMS has this exception for both (JMS 1.1, section 8.5), and Spring passes over it.
             case "commit": case "rollback":
-                throw new TransactionInProgressException(method.getName() + " isn't for a session that takes part in " + transaction
+                throw new TransactionInProgressException(name + " isn't for a session that takes part in " + transaction
                     + ": end that by the UserTransaction or TransactionManager");
             case "recover": case "run": case "setMessageListener":
-                throw new IllegalStateException(method.getName() + " isn't for a session that takes part in " + transaction);
+                throw new IllegalStateException(name + " isn't for a session that takes part in " + transaction);
             default:
         }
         if (isClosed) {
             throw new IllegalStateException("the session is closed");
         }
-        return wrapped(through(link.session(), method, words, NOTHING));
+        Object made = through(link.session, method, words, NOTHING);
+        return made instanceof MessageConsumer consumer ? child(made, consumer::close)
+            : made instanceof MessageProducer producer ? child(made, producer::close)
+            : made instanceof QueueBrowser browser ? child(made, browser::close) : made;
     }
 
     /** An idle consumer would keep messages that others wait for. */
@@ -74,57 +111,32 @@ final class SessionHandle {
         return null;
     }
 
-    /** Sees that it isn't used in another transaction, as while its own is suspended. */
-    private void seeOwn() throws IllegalStateException {
-        GlobalTransaction current = manager.current();
-        if (current != null && current != transaction) {
-            throw new IllegalStateException("this session takes part in " + transaction + ", and not in " + current
-                + ", which the thread has: make one now that this has begun");
-        }
-    }
-
-    private Object through(Object target, Method method, Object[] words, Gate.Work work) throws Throwable {
-        seeOwn();
-        try {
-            gate.enter(work);
-        } catch (Fault.Unavailable fault) {
-            IllegalStateException error = new IllegalStateException(fault.getMessage());
-            error.initCause(fault);
-            throw error;
-        }
-        try {
-            return PooledConnectionFactory.direct(target, method, words);
-        } catch (JMSException error) {
-            link.fail();
-            throw error;
-        } finally {
-            gate.leave();
-        }
-    }
-
-    private Object wrapped(Object made) {
-        if (made instanceof MessageConsumer) {
-            return child(made, ((MessageConsumer) made)::close);
-        }
-        if (made instanceof MessageProducer) {
-            return child(made, ((MessageProducer) made)::close);
-        }
-        return made instanceof QueueBrowser ? child(made, ((QueueBrowser) made)::close) : made;
-    }
-
     private Object child(Object target, Gate.Work closing) {
         open.add(closing);
         link.opened(closing);
-        return Faces.like(target, (proxy, method, words) -> {
+        return like(target, (it, method, words) -> {
             switch (method.getName()) {
-                case "equals": return proxy == words[0];
-                case "hashCode": return System.identityHashCode(proxy);
-                case "toString": return target.toString();
-                case "close": return PooledConnectionFactory.direct(target, method, words);
+                case "close": case "toString": return Front.direct(target, method, words);
                 case "setMessageListener":
                     throw new IllegalStateException("messages of a transaction are received: a listener has none");
                 default: return through(target, method, words, closing);
             }
         });
+    }
+
+    private Object through(Object target, Method method, Object[] words, Gate.Work work) throws Throwable {
+        GlobalTransaction current = manager.current();
+        if (current != null && current != transaction) {
+            throw new IllegalStateException("this session takes part in " + transaction + ", and not in " + current
+                + ", which the thread has: make one now that this has begun");
+        }
+        try {
+            return Front.through(gate, work, target, method, words);
+        } catch (Fault.Unavailable fault) {
+            throw Fault.caused(new IllegalStateException(fault.getMessage()), fault);
+        } catch (JMSException error) {
+            link.fail();
+            throw error;
+        }
     }
 }

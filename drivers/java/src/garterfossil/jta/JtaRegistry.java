@@ -3,6 +3,7 @@ package garterfossil.jta;
 import garterfossil.GlobalTransaction;
 import garterfossil.Manager;
 import garterfossil.Outcome;
+import java.util.Objects;
 import javax.transaction.Status;
 import javax.transaction.Synchronization;
 import javax.transaction.TransactionSynchronizationRegistry;
@@ -23,18 +24,12 @@ public final class JtaRegistry implements TransactionSynchronizationRegistry {
 
     @Override
     public void putResource(Object key, Object value) {
-        if (key == null) {
-            throw new NullPointerException("no key");
-        }
-        required().keep(key, value);
+        required().keep(Objects.requireNonNull(key, "no key"), value);
     }
 
     @Override
     public Object getResource(Object key) {
-        if (key == null) {
-            throw new NullPointerException("no key");
-        }
-        return required().thing(key);
+        return required().thing(Objects.requireNonNull(key, "no key"));
     }
 
     @Override

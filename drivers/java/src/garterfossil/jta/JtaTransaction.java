@@ -55,16 +55,14 @@ public final class JtaTransaction implements Transaction {
         try {
             inner.commit();
         } catch (Fault.RolledBack fault) {
-            throw caused(new RollbackException(fault.getMessage()), fault.getCause() == null ? fault : fault.getCause());
+            throw Fault.caused(new RollbackException(fault.getMessage()), fault.getCause() == null ? fault : fault.getCause());
         } catch (Fault.Heuristic fault) {
             if (fault.isAllRolledBack) {
-                throw caused(new HeuristicRollbackException(fault.getMessage()), fault);
+                throw Fault.caused(new HeuristicRollbackException(fault.getMessage()), fault);
             }
-            throw caused(new HeuristicMixedException(fault.getMessage()), fault);
-        } catch (Fault.Unavailable fault) {
-            throw new IllegalStateException(fault.getMessage(), fault);
+            throw Fault.caused(new HeuristicMixedException(fault.getMessage()), fault);
         } catch (Fault fault) {
-            throw JtaTransactionManager.system(fault);
+            throw system(fault);
         } finally {
             GlobalTransaction after = manager.current();
             // What a synchronization begins after the end stays.
@@ -79,10 +77,8 @@ public final class JtaTransaction implements Transaction {
         requireNotEnded();
         try {
             inner.rollback();
-        } catch (Fault.Unavailable fault) {
-            throw new IllegalStateException(fault.getMessage(), fault);
         } catch (Fault fault) {
-            throw JtaTransactionManager.system(fault);
+            throw system(fault);
         }
     }
 
@@ -105,27 +101,23 @@ public final class JtaTransaction implements Transaction {
 
     @Override
     public void registerSynchronization(Synchronization synchronization) throws RollbackException, SystemException {
-        requireOpen();
-        if (inner.outcome() == Outcome.MARKED_ROLLBACK) {
-            throw new RollbackException(inner + " can only be rolled back: " + inner.fault());
-        }
+        requireUnmarked();
         register(inner, synchronization, false);
     }
 
     static void register(GlobalTransaction transaction, Synchronization synchronization, boolean isInterposed) {
-        Completion completion = new Completion() {
-            @Override
-            public void before() {
-                synchronization.beforeCompletion();
-            }
-
-            @Override
-            public void after(Outcome outcome) {
-                synchronization.afterCompletion(JtaTransactionManager.status(outcome));
-            }
-        };
         try {
-            transaction.register(completion, isInterposed);
+            transaction.register(new Completion() {
+                @Override
+                public void before() {
+                    synchronization.beforeCompletion();
+                }
+
+                @Override
+                public void after(Outcome outcome) {
+                    synchronization.afterCompletion(JtaTransactionManager.status(outcome));
+                }
+            }, isInterposed);
         } catch (Fault.Unavailable fault) {
             throw new IllegalStateException(fault.getMessage(), fault);
         }
@@ -137,10 +129,7 @@ public final class JtaTransaction implements Transaction {
      */
     @Override
     public boolean enlistResource(XAResource xaResource) throws RollbackException, SystemException {
-        requireOpen();
-        if (inner.outcome() == Outcome.MARKED_ROLLBACK) {
-            throw new RollbackException(inner + " can only be rolled back: " + inner.fault());
-        }
+        requireUnmarked();
         try {
             inner.enlist(manager.ownerOf(xaResource), xaResource);
             return true;
@@ -172,9 +161,19 @@ public final class JtaTransaction implements Transaction {
         }
     }
 
-    private static <E extends Exception> E caused(E error, Throwable cause) {
-        error.initCause(cause);
-        return error;
+    private void requireUnmarked() throws RollbackException {
+        requireOpen();
+        if (inner.outcome() == Outcome.MARKED_ROLLBACK) {
+            throw new RollbackException(inner + " can only be rolled back: " + inner.fault());
+        }
+    }
+
+    /** What JTA has of it: what isn't allowed now is an exception of the program's own. */
+    private static SystemException system(Fault fault) {
+        if (fault instanceof Fault.Unavailable) {
+            throw new IllegalStateException(fault.getMessage(), fault);
+        }
+        return JtaTransactionManager.system(fault);
     }
 
     @Override

@@ -108,13 +108,13 @@ public final class JtaTransactionManager implements TransactionManager, UserTran
         if (manager.current() != null) {
             throw new IllegalStateException("this thread has " + manager.current() + ": suspend it first");
         }
-        if (!(transaction instanceof JtaTransaction) || !((JtaTransaction) transaction).isOf(manager)) {
+        if (!(transaction instanceof JtaTransaction resumed && resumed.isOf(manager))) {
             throw new InvalidTransactionException("no transaction of this manager: " + transaction);
         }
-        if (((JtaTransaction) transaction).inner().isEnded()) {
+        if (resumed.inner().isEnded()) {
             throw new InvalidTransactionException(transaction + " is over");
         }
-        manager.associate(((JtaTransaction) transaction).inner());
+        manager.associate(resumed.inner());
     }
 
     private JtaTransaction required() {
@@ -126,21 +126,19 @@ public final class JtaTransactionManager implements TransactionManager, UserTran
     }
 
     static SystemException system(Fault fault) {
-        SystemException error = new SystemException(fault.getMessage());
-        error.initCause(fault);
-        return error;
+        return Fault.caused(new SystemException(fault.getMessage()), fault);
     }
 
     static int status(Outcome outcome) {
-        switch (outcome) {
-            case ACTIVE: return Status.STATUS_ACTIVE;
-            case MARKED_ROLLBACK: return Status.STATUS_MARKED_ROLLBACK;
-            case PREPARING: return Status.STATUS_PREPARING;
-            case COMMITTING: return Status.STATUS_COMMITTING;
-            case ROLLING_BACK: return Status.STATUS_ROLLING_BACK;
-            case COMMITTED: return Status.STATUS_COMMITTED;
-            case ROLLED_BACK: return Status.STATUS_ROLLEDBACK;
-            default: return Status.STATUS_UNKNOWN;
-        }
+        return switch (outcome) {
+            case ACTIVE -> Status.STATUS_ACTIVE;
+            case MARKED_ROLLBACK -> Status.STATUS_MARKED_ROLLBACK;
+            case PREPARING -> Status.STATUS_PREPARING;
+            case COMMITTING -> Status.STATUS_COMMITTING;
+            case ROLLING_BACK -> Status.STATUS_ROLLING_BACK;
+            case COMMITTED -> Status.STATUS_COMMITTED;
+            case ROLLED_BACK -> Status.STATUS_ROLLEDBACK;
+            case UNKNOWN -> Status.STATUS_UNKNOWN;
+        };
     }
 }
