@@ -34,13 +34,12 @@ final class Hands {
 
     /**
      * The work is over, and is to be committed ("commit") or rolled back ("rollback"): how the
-     * transaction ended. With {@code isApart} no branch waits for another: one's resource may be
-     * silent.
+     * transaction ended. Only a commit of several branches rests on the reply to `join`. With
+     * {@code isApart} no branch waits for another: one's resource may be silent.
      */
     Told end(String move, boolean isApart) throws Fault.Gone {
         try {
-            Told joined = slot.joined();
-            return conduct(move.equals("commit") && branches.size() > 1 ? joined : slot.end(move), isApart);
+            return conduct(move.equals("commit") && branches.size() > 1 ? slot.joined() : slot.end(move), isApart);
         } catch (Fault.Gone gone) {
             throw gone;
         } catch (Fault fault) {

@@ -80,11 +80,9 @@ final class Session {
             }
         }
 
-        /** What is told after the branches that began last; null, if none began. */
+        /** What is told after the branches that began last. */
         Told joined() throws Fault {
-            Coordinator.Reply asked = joined;
-            joined = null;
-            return asked == null ? null : coordinator.told(asked);
+            return coordinator.told(joined);
         }
 
         /** The work is over. */

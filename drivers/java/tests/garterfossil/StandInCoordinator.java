@@ -28,6 +28,7 @@ import java.util.Map;
 import java.util.Set;
 import java.util.TreeMap;
 import java.util.TreeSet;
+import java.util.concurrent.CopyOnWriteArrayList;
 import java.util.concurrent.CountDownLatch;
 import java.util.concurrent.TimeUnit;
 import java.util.concurrent.locks.LockSupport;
@@ -81,6 +82,8 @@ final class StandInCoordinator extends Process {
     volatile Map.Entry<String, Error> writing, reading;
     /** What its next try to end this ends in. */
     volatile Error ending;
+    /** What the driver wrote, as it was written: each of several lines, perhaps. */
+    final List<String> written = new CopyOnWriteArrayList<>();
 
     /** The transaction of a thread. */
     private static final class Transaction {
@@ -585,7 +588,9 @@ final class StandInCoordinator extends Process {
             @Override
             public void write(byte[] bytes, int from, int count) throws IOException {
                 Map.Entry<String, Error> told = writing;
-                if (told != null && new String(bytes, from, count, StandardCharsets.ISO_8859_1).contains(told.getKey())) {
+                String text = new String(bytes, from, count, StandardCharsets.ISO_8859_1);
+                written.add(text);
+                if (told != null && text.contains(told.getKey())) {
                     writing = null;
                     out.write(bytes, from, count / 2);
                     throw told.getValue();

@@ -235,6 +235,24 @@ public class TransactionsTest {
         assertEquals(List.of("start 1", "join 1 0 1", "tell 1 0 0", "tell 1 0 0"), moves.subList(first, first + 4));
     }
 
+    @Test
+    public void anEndOfOneBranchWaitsOnce() throws Exception {
+        for (String move : List.of("commit", "rollback")) {
+            GlobalTransaction transaction = world.begin();
+            transaction.enlist(world.a);
+            if (move.equals("commit")) {
+                transaction.commit();
+            } else {
+                transaction.rollback();
+            }
+        }
+        // What ends it is written before the reply to `join` has come.
+        for (String move : List.of("commit", "rollback")) {
+            List<String> written = ((StandInCoordinator) world.coordinator).written;
+            assertTrue(written.toString(), written.stream().anyMatch(it -> it.matches("(?s)(.*\n)?join (\\d+) 0\n" + move + " \\2\n.*")));
+        }
+    }
+
     private boolean isRead(String beginning) {
         try {
             return world.requests().stream().anyMatch(it -> it.startsWith(beginning));
