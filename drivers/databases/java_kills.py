@@ -51,7 +51,12 @@ class JavaKills(kills.Kills):
     def refused(self):
         """How often the coordinator was ended since it, or the driver, said what the other didn't expect, by the driver's notes."""
         with open(f"{self.world.home}/driver.log") as it:
-            return sum("an error of the driver" in line or "its memory failed" in line for line in it)
+            found = [line for line in it if "an error of the driver" in line or "its memory failed" in line]
+        if found:
+            kept = tempfile.mkdtemp(prefix="xatm-refused-")
+            shutil.copy(f"{self.world.home}/driver.log", kept)
+            print(f"java: what the driver logged is kept in {kept}: {found[0].strip()}")
+        return len(found)
 
     def run(self, count):
         self.start_driver()
