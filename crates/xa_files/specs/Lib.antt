@@ -2,6 +2,7 @@ pub mod Documents
 pub mod Fates
 pub mod Faults
 pub mod Fields
+pub mod Findings
 pub mod Numbers
 pub mod TablesInTurn
 pub mod Outputs

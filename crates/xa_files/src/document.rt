@@ -1,9 +1,10 @@
 //! A file as a document of TOML, and what the tops of documents have in common.
 
-ghost use Rattle.std.specs.Prelude.{◌≡◌, option_map};
+ghost use Rattle.std.specs.Prelude.{◌≡◌, IfErr, option_map};
 ghost use Rattle.std.specs.Result.{result_ok};
 ghost use Rattle.toml.specs.View.{items_view, table_view, view};
 ghost use Rattle.xa_files.specs.Documents.{are_tables, document_of, size_at, tables_at, tables_in};
+ghost use Rattle.xa_files.specs.Findings.{IsUnfitAt, TellsOfKey};
 ghost use Rattle.xa_files.specs.Reading.{Gives};
 
 use crate::fault::RunFault;
@@ -30,8 +31,9 @@ fn tables_in(value: &Value) -> Option<&[Value]>
 /// The tables at a key, of which there may be none, as when the key is missing.
 #[tactic(auto, unfolding(crate::specs::Documents::tables_at))]
 pub fn tables_at<'a>(document: &'a Table, key: &'static str) -> Result<&'a [Value], Finding<'a>>
-    ensures { option_map (λ items. items_view items.now) (result_ok result)
+    ensures tables { option_map (λ items. items_view items.now) (result_ok result)
         ≡ tables_at key.now (table_view document.now) }
+    ensures finding { IfErr result (IsUnfitAt key.now (table_view document.now)) }
 {
     match value_at(document, key) {
         None => Ok(&[]),
@@ -46,7 +48,8 @@ pub fn size_at<'a>(
     key: &'static str,
     limit: u32,
 ) -> Result<u32, Finding<'a>>
-    ensures { result_ok result ≡ size_at limit key.now (table_view document.now) }
+    ensures value { result_ok result ≡ size_at limit key.now (table_view document.now) }
+    ensures finding { IfErr result (TellsOfKey of.now key.now (table_view document.now)) }
 {
     let number = number_at(document, of, key, limit)?;
     if number == 0 {

@@ -1,11 +1,12 @@
 //! What the keys of a table hold, or what is wrong with it. A table is told of as one of a kind, as
 //! "a vote".
 
-ghost use Rattle.std.specs.Prelude.{◌≡◌, map, option_map};
+ghost use Rattle.std.specs.Prelude.{◌≡◌, IfErr, map, option_map};
 ghost use Rattle.std.specs.Result.{is_ok, result_ok};
 ghost use Rattle.toml.specs.View.{view, table_view};
 ghost use Rattle.toml.specs.Data.{get_member};
 ghost use Rattle.xa_files.specs.Fields.{is_text_among, has_only, text_at, integer_at, number_at, index_at, holds, index_or, is_name_byte, is_name, name_at};
+ghost use Rattle.xa_files.specs.Findings.{NamesOtherKey, TellsOfKey, first_other};
 
 use crate::finding::Finding;
 use toml::{Table, Value};
@@ -17,19 +18,13 @@ pub fn is_among(texts: &[&str], text: &str) -> bool
     texts.contains(&text)
 }
 
-/// Whether the table has no other keys than these.
-fn has_only(table: &Table, keys: &[&str]) -> bool
-    ensures { result ≡ has_only (map (λ key. key.now) keys.now) (table_view table.now) }
+/// The first key that is none of these, if there is one.
+fn other_key<'a>(table: &'a Table, keys: &[&str]) -> Option<&'a str>
+    ensures { option_map (λ key. key.now) result
+        ≡ first_other (map (λ key. key.now) keys.now) (table_view table.now) }
 {
-    table.keys().all(|key| is_among(keys, key.as_str()))
-}
-
-/// The first key that is none of these.
-fn other_key<'a>(table: &'a Table, keys: &[&str]) -> &'a str {
-    match table.keys().find(|key| !is_among(keys, key.as_str())) {
-        Some(key) => key.as_str(),
-        None => "",
-    }
+    let key = table.keys().find(|key| !is_among(keys, key.as_str()))?;
+    Some(key.as_str())
 }
 
 /// Refuses other keys than these.
@@ -38,13 +33,13 @@ pub fn only_keys<'a>(
     of: &'static str,
     keys: &'static [&'static str],
 ) -> Result<(), Finding<'a>>
-    ensures { is_ok result ≡ has_only (map (λ key. key.now) keys.now) (table_view table.now) }
+    ensures only { is_ok result
+        ≡ has_only (map (λ key. key.now) keys.now) (table_view table.now) }
+    ensures finding { IfErr result (NamesOtherKey of.now keys.now (table_view table.now)) }
 {
-    if has_only(table, keys) {
-        Ok(())
-    } else {
-        let key = other_key(table, keys);
-        Err(Finding::OtherKey { of, key, keys })
+    match other_key(table, keys) {
+        Some(key) => Err(Finding::OtherKey { of, key, keys }),
+        None => Ok(()),
     }
 }
 
@@ -64,7 +59,9 @@ pub fn holds(table: &Table, key: &str) -> bool
 }
 
 /// What is wrong with what a key holds, or that it is missing.
-pub fn unfit<'a>(table: &'a Table, of: &'static str, key: &'static str) -> Finding<'a> {
+pub fn unfit<'a>(table: &'a Table, of: &'static str, key: &'static str) -> Finding<'a>
+    ensures { TellsOfKey of.now key.now (table_view table.now) result }
+{
     match value_at(table, key) {
         Some(value) => Finding::Unfit { key, value },
         None => Finding::Missing { of, key },
@@ -78,7 +75,8 @@ pub fn meaning_at<'a, T>(
     key: &'static str,
     meaning: Option<T>,
 ) -> Result<T, Finding<'a>>
-    ensures { result_ok result ≡ meaning }
+    ensures value { result_ok result ≡ meaning }
+    ensures finding { IfErr result (TellsOfKey of.now key.now (table_view table.now)) }
 {
     match meaning {
         Some(meant) => Ok(meant),
@@ -92,8 +90,9 @@ pub fn text_at<'a>(
     of: &'static str,
     key: &'static str,
 ) -> Result<&'a str, Finding<'a>>
-    ensures { option_map (λ text. text.now) (result_ok result)
+    ensures value { option_map (λ text. text.now) (result_ok result)
         ≡ text_at key.now (table_view table.now) }
+    ensures finding { IfErr result (TellsOfKey of.now key.now (table_view table.now)) }
 {
     match value_at(table, key) {
         Some(value) => value.as_str().ok_or(Finding::Unfit { key, value }),
@@ -107,7 +106,8 @@ pub fn integer_at<'a>(
     of: &'static str,
     key: &'static str,
 ) -> Result<i64, Finding<'a>>
-    ensures { result_ok result ≡ integer_at key.now (table_view table.now) }
+    ensures value { result_ok result ≡ integer_at key.now (table_view table.now) }
+    ensures finding { IfErr result (TellsOfKey of.now key.now (table_view table.now)) }
 {
     match value_at(table, key) {
         Some(value) => value.as_integer().ok_or(Finding::Unfit { key, value }),
@@ -122,7 +122,8 @@ pub fn number_at<'a>(
     key: &'static str,
     limit: u32,
 ) -> Result<u32, Finding<'a>>
-    ensures { result_ok result ≡ number_at limit key.now (table_view table.now) }
+    ensures value { result_ok result ≡ number_at limit key.now (table_view table.now) }
+    ensures finding { IfErr result (TellsOfKey of.now key.now (table_view table.now)) }
 {
     let integer = integer_at(table, of, key)?;
     match u32::try_from(integer) {
@@ -137,7 +138,8 @@ pub fn index_at<'a>(
     of: &'static str,
     key: &'static str,
 ) -> Result<u32, Finding<'a>>
-    ensures { result_ok result ≡ index_at key.now (table_view table.now) }
+    ensures value { result_ok result ≡ index_at key.now (table_view table.now) }
+    ensures finding { IfErr result (TellsOfKey of.now key.now (table_view table.now)) }
 {
     number_at(table, of, key, u32::MAX)
 }
@@ -149,7 +151,8 @@ pub fn index_or<'a>(
     key: &'static str,
     default: u32,
 ) -> Result<u32, Finding<'a>>
-    ensures { result_ok result ≡ index_or default key.now (table_view table.now) }
+    ensures value { result_ok result ≡ index_or default key.now (table_view table.now) }
+    ensures finding { IfErr result (TellsOfKey of.now key.now (table_view table.now)) }
 {
     if holds(table, key) {
         index_at(table, of, key)
@@ -178,8 +181,9 @@ pub fn name_at<'a>(
     of: &'static str,
     key: &'static str,
 ) -> Result<&'a str, Finding<'a>>
-    ensures { option_map (λ text. text.now) (result_ok result)
+    ensures value { option_map (λ text. text.now) (result_ok result)
         ≡ name_at key.now (table_view table.now) }
+    ensures finding { IfErr result (TellsOfKey of.now key.now (table_view table.now)) }
 {
     let text = text_at(table, of, key)?;
     if is_name(text) {
