@@ -99,7 +99,7 @@ fn text_about(
     }
 }
 
-/// What there is to say about a log, its incarnation first where it isn't explained; and whether it could be closed then.
+/// What there is to say about a log, its incarnation first; and whether it could be closed then.
 fn listed_text<D: Disk + Drop>(
     alloc: Global,
     explained_for: Option<&[u8]>,
@@ -110,11 +110,9 @@ fn listed_text<D: Disk + Drop>(
         text: Vec::new(alloc),
         listed: Ok(()),
     };
-    if explained_for.is_none() {
-        let incarnation = incarnation_in_files(&mut log)?;
-        let line = format!(in alloc; "incarnation {incarnation}\n")?;
-        listing.text.extend_from_slice(line.as_bytes())?;
-    }
+    let incarnation = incarnation_in_files(&mut log)?;
+    let line = format!(in alloc; "incarnation {incarnation}\n")?;
+    listing.text.extend_from_slice(line.as_bytes())?;
     let closed = work_in_files(log, &mut listing);
     listing.listed?;
     Ok((listing.text, closed))
