@@ -69,7 +69,11 @@ pub(crate) struct Listing<'a> {
 }
 
 impl OverLog for Listing<'_> {
-    fn over<L: DecisionLog + Drop>(&mut self, mut log: L) -> L {
+    ghost use Rattle.xa_listing.specs.Looks.{OnlyLooks};
+
+    fn over<L: DecisionLog + Drop>(&mut self, mut log: L) -> L
+        ensures looks { OnlyLooks L.DecisionLog log result self.new.listed }
+    {
         self.listed = match self.explained_for {
             Some(manager) => explain_log(&mut log, manager, &mut self.text),
             None => list_log(&mut log, &mut self.text),
