@@ -10,7 +10,7 @@ import string
 import subprocess
 import time
 from dataclasses import dataclass, field
-from typing import IO, Dict, List, Mapping, Optional, Sequence, Tuple
+from typing import IO, Dict, Iterable, List, Mapping, Optional, Sequence, Tuple
 
 from .errors import LogInUse, SetupError, XaError, log
 from .xid import Xid
@@ -26,8 +26,9 @@ HEADS = ("name ", "rm ", "incarnation ")
 #: What it says beside the lines of a log that another program has, or that can't be written; and of one that is none, or another's: no
 #: later look goes better then.
 COPY, REFUSED = "another process runs over it", "xatm: log: "
-#: How `xatm log --explain` names a branch that a decision waits for.
-EXPLAINED = re.compile(r" +([0-9]+:[0-9a-f]+:[0-9a-f]+) at resource manager ")
+#: A line of a decision, with how many branches it waits for, as `xatm log` prints it and as it explains it; and of one of these.
+DECIDED = re.compile(r"([0-9a-f]{32}) (?:is decided to commit, and its row (?:names no|waits for))? ?([0-9]*)")
+BRANCH = re.compile(r" +([0-9]+:[0-9a-f]+:[0-9a-f]+) at resource manager ")
 #: What stands for the number of a worker in the path of a log, and the most workers.
 WORKER, MOST_WORKERS = "{worker}", 1024
 #: What the system says of its mounts, and kinds of file systems that are no place for a log: of
@@ -81,21 +82,21 @@ class Log:
         return "" if self.names is None else self.names.manager
 
     @classmethod
-    def at(cls, program: str, path: str) -> Log:
-        """What is in the log at a path. A look changes nothing. Raises LogInUse or SetupError."""
-        lines, said = _printed(program, path)
+    def at(cls, program: str, path: str, is_explained: bool = False) -> Log:
+        """What is in the log at a path: the heuristic ends, or if it is explained, the branches that decisions wait for. A look changes
+        nothing. Raises LogInUse or SetupError."""
+        lines, said = _printed(program, path, *(["--explain"] if is_explained else []))
         heads = {name: [line[len(name) :] for line in lines if line.startswith(name)] for name in HEADS}
         if not heads["incarnation "]:
             if not said:
                 raise LookKilled(f"{program} was ended while it read the log {path}")
             raise LogInUse(said) if "in use by another process" in said else SetupError(said)
-        rows = [line for line in lines if line and not line.startswith(HEADS)]
-        decided = {line.split(" ")[0]: int(line.split(" ")[1]) for line in rows if ":" not in line}
         names = Names("".join(heads["name "]), tuple(rm.split(" ")[1] for rm in heads["rm "]))
         is_in_use = COPY in said
         # What is decided over a log that is in use comes and goes.
-        decisions = _branches_of(program, path, {} if is_in_use else decided)
-        return cls(int(heads["incarnation "][0]), decisions, [line for line in rows if ":" in line], names, is_in_use, path=path)
+        decisions = {} if is_in_use else _decisions_in(lines, is_explained)
+        heuristics = [line for line in lines if ":" in line.split(" ")[0]]
+        return cls(int(heads["incarnation "][0]), decisions, heuristics, names, is_in_use, path=path)
 
 
 def run_log(
@@ -120,16 +121,19 @@ def _printed(program: str, path: str, *options: str) -> Tuple[List[str], str]:
     return done.stdout.splitlines(), done.stderr.strip()
 
 
-def _branches_of(program: str, path: str, decided: Mapping[str, int]) -> Dict[str, List[Xid]]:
-    """The branches that each decision waits for, of these numbers."""
-    found: Dict[str, List[Xid]] = {gtrid: [] for gtrid in decided}
-    for line in _printed(program, path, "--explain")[0] if any(decided.values()) else ():
-        branch = EXPLAINED.match(line)
-        if branch is not None:
+def _decisions_in(lines: Iterable[str], is_explained: bool) -> Dict[str, List[Xid]]:
+    """The decisions that lines tell, if they are explained with the branches that they wait for."""
+    found: Dict[str, List[Xid]] = {}
+    counts: Dict[str, int] = {}
+    for line in lines:
+        decided, branch = DECIDED.match(line), BRANCH.match(line)
+        if decided is not None:
+            found[decided.group(1)], counts[decided.group(1)] = [], int(decided.group(2) or 0)
+        elif branch is not None:
             xid = Xid.parse(branch.group(1))
-            found.setdefault(xid.transaction, []).append(xid)
-    if any(len(found[gtrid]) < count for gtrid, count in decided.items()):
-        raise LookKilled(f"{program} was ended while it explained the log {path}, or that has changed")
+            found[xid.transaction].append(xid)
+    if is_explained and any(len(found[gtrid]) < count for gtrid, count in counts.items()):
+        raise LookKilled("the program was ended while it explained the log")
     return found
 
 
@@ -140,7 +144,7 @@ def log_at_rest(program: str, path: str, patience: float) -> Log:
     while not is_new_log(path):
         seconds = patience
         try:
-            found = Log.at(program, path)
+            found = Log.at(program, path, is_explained=True)
             if not found.is_in_use:
                 return found
             if not _may_be_written(path):

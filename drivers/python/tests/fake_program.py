@@ -52,12 +52,6 @@ def serve(words):
 def show(log, is_explained):
     with open(log) as it:
         found = json.load(it)
-    if is_explained:
-        for gtrid, xids in sorted(found["rows"].items()):
-            print(f"{gtrid} is decided to commit, and its row waits for {len(xids)} branches:")
-            for xid in xids:
-                print(f"    {xid} at resource manager {int(xid[-8:], 16)}")
-        return
     manager, *rms = found.get("names", [""])
     if manager:
         print("name", manager)
@@ -65,7 +59,9 @@ def show(log, is_explained):
         print("rm", number, rm)
     print("incarnation", found["incarnation"])
     for gtrid, xids in sorted(found["rows"].items()):
-        print(gtrid, len(xids))
+        print(f"{gtrid} is decided to commit, and its row waits for {len(xids)} branches:" if is_explained else f"{gtrid} {len(xids)}")
+        for xid in xids if is_explained else []:
+            print(f"    {xid} at resource manager {int(xid[-8:], 16)}\n        PostgreSQL: COMMIT PREPARED '{xid}';")
 
 
 def make(log, lines):

@@ -75,12 +75,16 @@ class Kept(Case):
             with self.manager() as xa:
                 self.assertEqual(xa.name, name)
 
-    def test_a_start_opens_the_log_twice(self):
-        self.manager().close()
+    def test_a_start_opens_the_log_twice_also_if_something_is_decided(self):
+        with self.manager() as xa:
+            self.left.next["commit_prepared"] = "lost"
+            self.left.before["commit_prepared"] = lambda: xa._session.coordinator.kill()
+            t = self.move(xa)
         counted = os.path.join(self.folder, "counts")
         with open(counted, "w") as it:
             it.write(f'#!/bin/sh\necho "$1" >> "{self.folder}/opened"\nexec "{self.program}" "$@"\n')
         os.chmod(counted, 0o755)
+        self.assertEqual(list(self.in_the_log()["rows"]), [t.gtrid])
         self.program = counted
         self.manager().close()
         with open(f"{self.folder}/opened") as it:
@@ -182,16 +186,20 @@ class Kept(Case):
 
     def test_a_look_at_the_branches_of_decisions_that_somebody_kills_is_made_again(self):
         program, gtrid = os.path.join(self.folder, "is_killed"), "0" * 15 + "1" + "0" * 15 + "1"
-        with open(program, "w") as it:
-            it.write(
-                f'#!/bin/sh\n[ "$2" = --explain ] || {{ echo incarnation 3; echo {gtrid} 1; exit; }}\n'
-                f"[ -e {self.folder}/once ] || {{ touch {self.folder}/once; kill -9 $$; }}\n"
-                f'echo "    7:{gtrid}:0000000100000000 at resource manager 0"\n'
-            )
-        os.chmod(program, 0o755)
-        with open(self.log, "wb") as it:
-            it.write(b"SQLite format 3\0")
-        self.assertEqual(list(map(str, log_at_rest(program, self.log, 5.0).decisions[gtrid])), [f"7:{gtrid}:0000000100000000"])
+        # Also where the system tells no status of it, as while gunicorn's `post_fork` runs.
+        for ends in ("kill -9 $$", "exit 0"):
+            with open(program, "w") as it:
+                it.write(
+                    f"#!/bin/sh\necho incarnation 3\necho '{gtrid} is decided to commit, and its row waits for 1 branch:'\n"
+                    f"[ -e {self.folder}/once ] || {{ touch {self.folder}/once; {ends}; }}\n"
+                    f'echo "    7:{gtrid}:0000000100000000 at resource manager 0"\n'
+                )
+            os.chmod(program, 0o755)
+            with open(self.log, "wb") as it:
+                it.write(b"SQLite format 3\0")
+            found = log_at_rest(program, self.log, 5.0).decisions
+            self.assertEqual(list(map(str, found[gtrid])), [f"7:{gtrid}:0000000100000000"])
+            os.remove(f"{self.folder}/once")
 
     def test_a_log_that_was_in_use_as_it_was_looked_at_is_looked_at_again(self):
         program = os.path.join(self.folder, "in_use")
