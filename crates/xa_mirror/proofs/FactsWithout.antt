@@ -10,7 +10,7 @@ use Rattle.xa_base.specs.declared.call.Call.TheVariants as Calls
 use Rattle.xa_base.specs.declared.code.Code.TheVariants as Codes
 use Rattle.xa_base.specs.declared.step.Outcome.TheVariants as Outcome
 use Rattle.xa_base.specs.declared.step.Part.TheVariants as Part
-use Rattle.xa_mirror.proofs.RowsWithout.{change_without, in_any_order, records_after, rows_of_others, rows_without_after, unchanged, without_first, without_none}
+use Rattle.xa_mirror.proofs.RowsWithout.{change_without, in_any_order, records_after, rows_of_others, rows_without_after, unchanged, without_first, without_none, without_same}
 use Rattle.xa_mirror.specs.HistoryWithout.{fault_without, history_without}
 use Rattle.xa_model.proofs.ProcessLemmas.SameParts.{breaks_is}
 use Rattle.xa_model.specs.Facts.{Change.AddRows, begun, branches, breaks, doubt, fault_change, handed_over, heard, heuristic_rows, heuristics_changed, incarnation, log, new_heard, new_taken, next_answer, page, page_after, record_of, record_of_next, retries, row_for, rows_changed, says_yes, says_yes_in, sequence, standing, started, takes_part, taken, up, vote, was_told, was_told_lately, without}
@@ -32,6 +32,11 @@ pub either : (P : Happening → Type 0) (h : Gtrid) (t : Bool) → P Nothing →
 either P h true none some = none
 either P h false none some = some
 
+-- or in the place of its row leaving the log
+pub either_done : (P : Happening → Type 0) (h : Gtrid) (t : Bool) → P Nothing → P (Done h) → P (if t then Nothing else Done h)
+either_done P h true none some = none
+either_done P h false none some = some
+
 module _ (g : Gtrid) where
   abbrev o : Trace → Trace
   o tr = history_without g tr
@@ -41,6 +46,7 @@ module _ (g : Gtrid) where
   pub up_is : (tr : Trace) → up (o tr) ≡ up tr
   up_is (From x) = refl
   up_is (Then tr (Decided h Outcome.Commit)) = either (λ e. up (Then (o tr) e) ≡ up tr) h (gtrid_eq h g) (up_is tr) (up_is tr)
+  up_is (Then tr (Done h)) = either_done (λ e. up (Then (o tr) e) ≡ up tr) h (gtrid_eq h g) (up_is tr) (up_is tr)
   up_is (Then tr (Failed f)) = refl
   up_is (Then tr (Restarted i d h)) = refl
   up_is (Then tr (Crashed Part.Manager)) = refl
@@ -50,6 +56,8 @@ module _ (g : Gtrid) where
   incarnation_is (From x) = refl
   incarnation_is (Then tr (Decided h Outcome.Commit)) =
       either (λ e. incarnation (Then (o tr) e) ≡ incarnation tr) h (gtrid_eq h g) (incarnation_is tr) (incarnation_is tr)
+  incarnation_is (Then tr (Done h)) =
+      either_done (λ e. incarnation (Then (o tr) e) ≡ incarnation tr) h (gtrid_eq h g) (incarnation_is tr) (incarnation_is tr)
   incarnation_is (Then tr (Restarted i d h)) = refl
   incarnation_is (Then tr (Failed f)) = incarnation_is tr
   incarnation_is (Then tr _) = incarnation_is tr
@@ -58,6 +66,8 @@ module _ (g : Gtrid) where
   sequence_is (From x) = refl
   sequence_is (Then tr (Decided h Outcome.Commit)) =
       either (λ e. sequence (Then (o tr) e) ≡ sequence tr) h (gtrid_eq h g) (sequence_is tr) (sequence_is tr)
+  sequence_is (Then tr (Done h)) =
+      either_done (λ e. sequence (Then (o tr) e) ≡ sequence tr) h (gtrid_eq h g) (sequence_is tr) (sequence_is tr)
   sequence_is (Then tr (Begun h)) = ap (λ n. n + 1) (sequence_is tr)
   sequence_is (Then tr (Restarted i d h)) = refl
   sequence_is (Then tr (Failed f)) = sequence_is tr
@@ -67,6 +77,8 @@ module _ (g : Gtrid) where
   begun_is (From x) h = refl
   begun_is (Then tr (Decided k Outcome.Commit)) h =
       either (λ e. begun (Then (o tr) e) h ≡ begun tr h) k (gtrid_eq k g) (begun_is tr h) (begun_is tr h)
+  begun_is (Then tr (Done k)) h =
+      either_done (λ e. begun (Then (o tr) e) h ≡ begun tr h) k (gtrid_eq k g) (begun_is tr h) (begun_is tr h)
   begun_is (Then tr (Begun k)) h = ap (λ t. gtrid_eq k h || t) (begun_is tr h)
   begun_is (Then tr (Failed f)) h = refl
   begun_is (Then tr (Restarted i d n)) h = refl
@@ -79,6 +91,8 @@ module _ (g : Gtrid) where
   started_is (From x) b = refl
   started_is (Then tr (Decided h Outcome.Commit)) b =
       either (λ e. started (Then (o tr) e) b ≡ started tr b) h (gtrid_eq h g) (started_is tr b) (started_is tr b)
+  started_is (Then tr (Done h)) b =
+      either_done (λ e. started (Then (o tr) e) b ≡ started tr b) h (gtrid_eq h g) (started_is tr b) (started_is tr b)
   started_is (Then tr (Issued l (Calls.Start c join))) b = ap (λ t. branch_eq c b || t) (started_is tr b)
   started_is (Then tr (Failed f)) b = started_is tr b
   started_is (Then tr _) b = started_is tr b
@@ -87,6 +101,8 @@ module _ (g : Gtrid) where
   branches_are (From x) = refl
   branches_are (Then tr (Decided h Outcome.Commit)) =
       either (λ e. branches (Then (o tr) e) ≡ branches tr) h (gtrid_eq h g) (branches_are tr) (branches_are tr)
+  branches_are (Then tr (Done h)) =
+      either_done (λ e. branches (Then (o tr) e) ≡ branches tr) h (gtrid_eq h g) (branches_are tr) (branches_are tr)
   branches_are (Then tr (Issued l (Calls.Start c join))) = ap (λ bs. c ∷ bs) (branches_are tr)
   branches_are (Then tr (Failed f)) = branches_are tr
   branches_are (Then tr _) = branches_are tr
@@ -95,6 +111,8 @@ module _ (g : Gtrid) where
   handed_is (From x) h = refl
   handed_is (Then tr (Decided k Outcome.Commit)) h =
       either (λ e. handed_over (Then (o tr) e) h ≡ handed_over tr h) k (gtrid_eq k g) (handed_is tr h) (handed_is tr h)
+  handed_is (Then tr (Done k)) h =
+      either_done (λ e. handed_over (Then (o tr) e) h ≡ handed_over tr h) k (gtrid_eq k g) (handed_is tr h) (handed_is tr h)
   handed_is (Then tr (Issued l (Calls.Commit b true))) h = ap (λ t. gtrid_eq b.gtrid h || t) (handed_is tr h)
   handed_is (Then tr (Failed f)) h = handed_is tr h
   handed_is (Then tr _) h = handed_is tr h
@@ -103,6 +121,8 @@ module _ (g : Gtrid) where
   told_is (From x) test = refl
   told_is (Then tr (Decided h Outcome.Commit)) test =
       either (λ e. was_told (Then (o tr) e) test ≡ was_told tr test) h (gtrid_eq h g) (told_is tr test) (told_is tr test)
+  told_is (Then tr (Done h)) test =
+      either_done (λ e. was_told (Then (o tr) e) test ≡ was_told tr test) h (gtrid_eq h g) (told_is tr test) (told_is tr test)
   told_is (Then tr (Heard l c a)) test = ap (λ t. test c a || t) (told_is tr test)
   told_is (Then tr (Failed f)) test = told_is tr test
   told_is (Then tr _) test = told_is tr test
@@ -111,6 +131,8 @@ module _ (g : Gtrid) where
   lately_is (From x) test = refl
   lately_is (Then tr (Decided h Outcome.Commit)) test =
       either (λ e. was_told_lately (Then (o tr) e) test ≡ was_told_lately tr test) h (gtrid_eq h g) (lately_is tr test) (lately_is tr test)
+  lately_is (Then tr (Done h)) test =
+      either_done (λ e. was_told_lately (Then (o tr) e) test ≡ was_told_lately tr test) h (gtrid_eq h g) (lately_is tr test) (lately_is tr test)
   lately_is (Then tr (Restarted i d h)) test = refl
   lately_is (Then tr (Heard l c a)) test = ap (λ t. test c a || t) (lately_is tr test)
   lately_is (Then tr (Failed f)) test = lately_is tr test
@@ -123,6 +145,8 @@ module _ (g : Gtrid) where
   page_is (From x) r = refl
   page_is (Then tr (Decided h Outcome.Commit)) r =
       either (λ e. page (Then (o tr) e) r ≡ page tr r) h (gtrid_eq h g) (page_is tr r) (page_is tr r)
+  page_is (Then tr (Done h)) r =
+      either_done (λ e. page (Then (o tr) e) r ≡ page tr r) h (gtrid_eq h g) (page_is tr r) (page_is tr r)
   page_is (Then tr (Failed f)) r = λ i. if up_is tr i then [] else page_is tr r i
   page_is (Then tr (Restarted i d h)) r = page_is tr r
   page_is (Then tr e) r = λ i. if broken_is tr e (line 0 r) i then [] else page_after (page_is tr r i) e r
@@ -131,6 +155,8 @@ module _ (g : Gtrid) where
   taken_is (From x) l = refl
   taken_is (Then tr (Decided h Outcome.Commit)) l =
       either (λ e. taken (Then (o tr) e) l ≡ taken tr l ++ []) h (gtrid_eq h g) (ap (λ xs. xs ++ []) (taken_is tr l)) (ap (λ xs. xs ++ []) (taken_is tr l))
+  taken_is (Then tr (Done h)) l =
+      either_done (λ e. taken (Then (o tr) e) l ≡ taken tr l ++ []) h (gtrid_eq h g) (ap (λ xs. xs ++ []) (taken_is tr l)) (ap (λ xs. xs ++ []) (taken_is tr l))
   taken_is (Then tr (Failed f)) l = λ i. if up_is tr i then [] else taken_is tr l i ++ []
   taken_is (Then tr (Restarted i d h)) l = ap (λ xs. xs ++ []) (taken_is tr l)
   taken_is (Then tr e) l = λ i. if broken_is tr e l i then [] else taken_is tr l i ++ new_taken e l
@@ -139,6 +165,8 @@ module _ (g : Gtrid) where
   heard_is (From x) l = refl
   heard_is (Then tr (Decided h Outcome.Commit)) l =
       either (λ e. heard (Then (o tr) e) l ≡ heard tr l ++ []) h (gtrid_eq h g) (ap (λ xs. xs ++ []) (heard_is tr l)) (ap (λ xs. xs ++ []) (heard_is tr l))
+  heard_is (Then tr (Done h)) l =
+      either_done (λ e. heard (Then (o tr) e) l ≡ heard tr l ++ []) h (gtrid_eq h g) (ap (λ xs. xs ++ []) (heard_is tr l)) (ap (λ xs. xs ++ []) (heard_is tr l))
   heard_is (Then tr (Failed f)) l = λ i. if up_is tr i then [] else heard_is tr l i ++ []
   heard_is (Then tr (Restarted i d h)) l = ap (λ xs. xs ++ []) (heard_is tr l)
   heard_is (Then tr e) l = λ i. if broken_is tr e l i then [] else heard_is tr l i ++ new_heard e l
@@ -152,6 +180,8 @@ module _ (g : Gtrid) where
   standing_is (From x) b = refl
   standing_is (Then tr (Decided h Outcome.Commit)) b =
       either (λ e. standing (Then (o tr) e) b ≡ standing tr b) h (gtrid_eq h g) (standing_is tr b) (standing_is tr b)
+  standing_is (Then tr (Done h)) b =
+      either_done (λ e. standing (Then (o tr) e) b ≡ standing tr b) h (gtrid_eq h g) (standing_is tr b) (standing_is tr b)
   standing_is (Then tr (Failed f)) b = λ i. if up_is tr i then broken (standing_is tr b i) else standing_is tr b i
   standing_is (Then tr (Restarted i d h)) b = standing_is tr b
   standing_is (Then tr (Took l c (Ret a))) b = ap (moved_by (asks_of c) a b) (standing_is tr b)
@@ -163,6 +193,8 @@ module _ (g : Gtrid) where
   vote_is (From x) b = refl
   vote_is (Then tr (Decided h Outcome.Commit)) b =
       either (λ e. vote (Then (o tr) e) b ≡ vote tr b) h (gtrid_eq h g) (vote_is tr b) (vote_is tr b)
+  vote_is (Then tr (Done h)) b =
+      either_done (λ e. vote (Then (o tr) e) b ≡ vote tr b) h (gtrid_eq h g) (vote_is tr b) (vote_is tr b)
   vote_is (Then tr (Voted c v)) b = ap (λ w. if branch_eq c b then v else w) (vote_is tr b)
   vote_is (Then tr (Failed f)) b = vote_is tr b
   vote_is (Then tr _) b = vote_is tr b
@@ -171,6 +203,8 @@ module _ (g : Gtrid) where
   retries_are (From x) b = refl
   retries_are (Then tr (Decided h Outcome.Commit)) b =
       either (λ e. retries (Then (o tr) e) b ≡ retries tr b) h (gtrid_eq h g) (retries_are tr b) (retries_are tr b)
+  retries_are (Then tr (Done h)) b =
+      either_done (λ e. retries (Then (o tr) e) b ≡ retries tr b) h (gtrid_eq h g) (retries_are tr b) (retries_are tr b)
   retries_are (Then tr (PutOff c n)) b = ap (λ k. if branch_eq c b then n else k) (retries_are tr b)
   retries_are (Then tr (Took l (Calls.Commit c false) (Ret Codes.Retry))) b = ap (λ k. if branch_eq c b then k - 1 else k) (retries_are tr b)
   retries_are (Then tr (Failed f)) b = retries_are tr b
@@ -194,6 +228,8 @@ module _ (g : Gtrid) where
   doubt_is (From x) = refl
   doubt_is (Then tr (Decided h Outcome.Commit)) =
       either (λ e. doubt (Then (o tr) e) ≡ change_without g (doubt tr)) h (gtrid_eq h g) (doubt_is tr) (doubt_is tr)
+  doubt_is (Then tr (Done h)) =
+      either_done (λ e. doubt (Then (o tr) e) ≡ change_without g (doubt tr)) h (gtrid_eq h g) (doubt_is tr) (doubt_is tr)
   doubt_is (Then tr (Restarted i d h)) = refl
   doubt_is (Then tr (Failed f)) = by (doubt_is tr) (up tr) (up_is tr)
     where
@@ -226,7 +262,12 @@ module _ (g : Gtrid) where
       by rest false e u told =
           (λ i. if told_is tr (says_yes_in h) i then row_is tr h i ∷ rest i else rest i)
           ∙ (ap (λ t. if t then row_for tr h ∷ without g (log tr) else without g (log tr)) told ∙ kept e u)
-  log_is (Then tr (Done h)) = ap (without h) (log_is tr) ∙ in_any_order g h (log tr)
+  log_is (Then tr (Done h)) = by (log_is tr) (gtrid_eq h g) refl
+    where
+      by : log (o tr) ≡ without g (log tr) → (t : Bool) → gtrid_eq h g ≡ t
+          → log (Then (o tr) (if t then Nothing else Done h)) ≡ without g (without h (log tr))
+      by rest true e = rest ∙ sym (without_same g h (log tr) e)
+      by rest false e = ap (without h) rest ∙ in_any_order g h (log tr)
   log_is (Then tr (Failed f)) = log_is tr
   log_is (Then tr (Restarted i d n)) = by (log_is tr) (d == length (log tr))
     where
@@ -252,6 +293,8 @@ module _ (g : Gtrid) where
   records_are (From x) = refl
   records_are (Then tr (Decided h Outcome.Commit)) =
       either (λ e. heuristic_rows (Then (o tr) e) ≡ heuristic_rows tr) h (gtrid_eq h g) (records_are tr) (records_are tr)
+  records_are (Then tr (Done h)) =
+      either_done (λ e. heuristic_rows (Then (o tr) e) ≡ heuristic_rows tr) h (gtrid_eq h g) (records_are tr) (records_are tr)
   records_are (Then tr (Heard l c a)) = ap (heuristics_changed (record_of c a)) (records_are tr)
   records_are (Then tr (Failed f)) = records_are tr
   records_are (Then tr (Restarted i d n)) =

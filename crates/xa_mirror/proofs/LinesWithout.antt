@@ -8,11 +8,11 @@ use Rattle.xa_base.specs.Branch.{gtrid_eq}
 use Rattle.xa_base.specs.StateTable.{on}
 use Rattle.xa_base.specs.declared.step.Outcome.TheVariants as Outcome
 use Rattle.xa_base.specs.declared.step.Part.TheVariants as Part
-use Rattle.xa_mirror.proofs.FactsWithout.{begun_is, broken_is, either, handed_is, log_is, page_is, records_are, taken_is, up_is}
+use Rattle.xa_mirror.proofs.FactsWithout.{begun_is, broken_is, either, either_done, handed_is, log_is, page_is, records_are, taken_is, up_is}
 use Rattle.xa_mirror.proofs.RowsWithout.{none_listed, others_listed}
 use Rattle.xa_mirror.specs.HistoryWithout.{IsLeftUntouched, IsToCommitIn, history_without}
 use Rattle.xa_model.specs.Facts.{begun, claimed, decided_so, handed_over, has_record, has_row, issued, lists_one_of, lists_row, live, log, new_calls, next_call, page, recorded, resolving_calls}
-use Rattle.xa_model.specs.Trace.{Branch, Gtrid, Happening.Claimed, Happening.Crashed, Happening.Decided, Happening.Failed, Happening.Nothing, Happening.Resolved, Happening.ResolvedOpen, Happening.Restarted, Kind.Commit, Kind.Forget, Kind.Rollback, Line, Name, Name.Foreign, Name.Ours, Trace, Trace.From, Trace.Then, line, line_eq}
+use Rattle.xa_model.specs.Trace.{Branch, Gtrid, Happening.Claimed, Happening.Crashed, Happening.Decided, Happening.Done, Happening.Failed, Happening.Nothing, Happening.Resolved, Happening.ResolvedOpen, Happening.Restarted, Kind.Commit, Kind.Forget, Kind.Rollback, Line, Name, Name.Foreign, Name.Ours, Trace, Trace.From, Trace.Then, line, line_eq}
 
 clash : {t : Bool} → t ≡ true → t ≡ false → ⊥
 clash p q = cc
@@ -53,6 +53,9 @@ module _ (g : Gtrid) where
           → decided_so Outcome.Commit (Then (o tr) (if t then Nothing else Decided k Outcome.Commit)) h ≡ (gtrid_eq k h || decided_so Outcome.Commit tr h)
       by rest true p = rest ∙ sym (ap (λ t. t || decided_so Outcome.Commit tr h) (not_it tr k h p free))
       by rest false p = ap (λ t. gtrid_eq k h || t) rest
+  committed_is (Then tr (Done k)) h free =
+      either_done (λ e. decided_so Outcome.Commit (Then (o tr) e) h ≡ decided_so Outcome.Commit tr h) k (gtrid_eq k g)
+      (committed_is tr h free) (committed_is tr h free)
   committed_is (Then tr (Failed f)) h free = committed_is tr h free
   committed_is (Then tr _) h free = committed_is tr h free
 
@@ -66,6 +69,8 @@ module _ (g : Gtrid) where
       by rest true p = rest ∙ sym (ap (λ t. not t && claimed tr h) (not_it tr k h p free))
       by rest false p = ap (λ t. not (gtrid_eq k h) && t) rest
   claimed_is (Then tr (Decided k Outcome.Rollback)) h free = ap (λ t. not (gtrid_eq k h) && t) (claimed_is tr h free)
+  claimed_is (Then tr (Done k)) h free =
+      either_done (λ e. claimed (Then (o tr) e) h ≡ claimed tr h) k (gtrid_eq k g) (claimed_is tr h free) (claimed_is tr h free)
   claimed_is (Then tr (Crashed Part.Manager)) h free = refl
   claimed_is (Then tr (Failed f)) h free = refl
   claimed_is (Then tr (Restarted i d n)) h free = refl
@@ -75,6 +80,9 @@ module _ (g : Gtrid) where
   rolled_back_is (From x) still h = refl
   rolled_back_is (Then tr (Decided k Outcome.Commit)) still h =
       either (λ e. decided_so Outcome.Rollback (Then (o tr) e) h ≡ decided_so Outcome.Rollback tr h) k (gtrid_eq k g)
+      (rolled_back_is tr still.0 h) (rolled_back_is tr still.0 h)
+  rolled_back_is (Then tr (Done k)) still h =
+      either_done (λ e. decided_so Outcome.Rollback (Then (o tr) e) h ≡ decided_so Outcome.Rollback tr h) k (gtrid_eq k g)
       (rolled_back_is tr still.0 h) (rolled_back_is tr still.0 h)
   rolled_back_is (Then tr (Decided k Outcome.Rollback)) still h = ap (λ t. gtrid_eq k h || t) (rolled_back_is tr still.0 h)
   rolled_back_is (Then tr (ResolvedOpen r)) still h = by (rolled_back_is tr still.0 h) (free_or_not tr h)
@@ -155,6 +163,8 @@ module _ (g : Gtrid) where
   issued_are (From x) still l = refl
   issued_are (Then tr (Decided h Outcome.Commit)) still l =
       either (λ e. issued (Then (o tr) e) l ≡ issued tr l ++ []) h (gtrid_eq h g) (ap (λ xs. xs ++ []) (issued_are tr still.0 l)) (ap (λ xs. xs ++ []) (issued_are tr still.0 l))
+  issued_are (Then tr (Done h)) still l =
+      either_done (λ e. issued (Then (o tr) e) l ≡ issued tr l ++ []) h (gtrid_eq h g) (ap (λ xs. xs ++ []) (issued_are tr still.0 l)) (ap (λ xs. xs ++ []) (issued_are tr still.0 l))
   issued_are (Then tr (Failed f)) still l = λ i. if up_is g tr i then [] else issued_are tr still.0 l i ++ []
   issued_are (Then tr (Restarted i d h)) still l = ap (λ xs. xs ++ []) (issued_are tr still.0 l)
   issued_are (Then tr (Resolved r)) still l = λ i.

@@ -1,6 +1,5 @@
 -- A right history is right without a decision about which nothing was done.
 use Rattle.std.proofs.Common.{◌≡◌, ◌⊎◌, inl, inr, ◌<◌, ◌+◌, ℕ, List, [], ◌∷◌, length, Bool, true, false, ◌&&◌, ◌||◌, refl, sym, ap, ◌∙◌, subst}
-use Rattle.std.proofs.lemmas.Bool.{or_parts}
 use Rattle.std.specs.Prelude.{if◌then◌else◌, nat_eq, nat_lt, Option, Some, None}
 use Rattle.xa_base.specs.Branch.{gtrid_eq}
 use Rattle.xa_base.specs.Opening.{has_closed}
@@ -14,7 +13,7 @@ use Rattle.xa_mirror.proofs.LinesWithout.{claimed_is, issued_are, live_free, liv
 use Rattle.xa_mirror.proofs.RowsWithout.{others_apart, others_wait}
 use Rattle.xa_mirror.specs.HistoryWithout.{IsLeftUntouched, IsRightWithout, LeavesUntouched, fault_without, history_without, others}
 use Rattle.xa_model.proofs.Invariant.RowLists.{without_keeps}
-use Rattle.xa_model.specs.Facts.{acknowledges, claimed, decided_so, each_of_some, handed_over, has_gtrid, is_settled, is_settled_lately, issued, log, outlived, participants, participants_in, says_read_only, says_yes, says_yes_in}
+use Rattle.xa_model.specs.Facts.{acknowledges, claimed, decided_so, each_of_some, handed_over, is_settled, is_settled_lately, issued, log, outlived, participants, participants_in, says_read_only, says_yes, says_yes_in}
 use Rattle.xa_model.specs.Facts.Distinct.{EachOnce}
 use Rattle.xa_model.specs.Protocol.{AllHaveVoted, AllRight, HasVoted, IsKnown, IsOpen, IsRowSettled, IsSoundPage, MayBeCalled, Right, RightCall, RightDecision, RightDone, RightFault, RightIssue, RightRow, SoundAnswer, call_code}
 use Rattle.xa_model.specs.Trace.{Answer, Branch, Call, Fault, Fault.InDecide, Fault.InDone, Fault.InHear, Fault.InResolve, Fault.InRestart, Gtrid, Happening, Happening.Begun, Happening.Claimed, Happening.CompletedAlone, Happening.Decided, Happening.Done, Happening.Failed, Happening.Heard, Happening.Issued, Happening.Nothing, Happening.Resolved, Happening.ResolvedOpen, Happening.Restarted, Happening.Took, Kind, Kind.Commit, Kind.End, Kind.Forget, Kind.Join, Kind.OnePhase, Kind.Prepare, Kind.Rollback, Kind.Start, Line, Outcome as AnOutcome, Trace, Trace.From, Trace.Then, line}
@@ -155,17 +154,20 @@ module _ (g : Gtrid) (tr : Trace) (still : IsLeftUntouched g tr) where
       by true rest = rest
       by false rest = (right_row h each.0, others_apart g h gs each.1, rest)
 
-  each_done : (gs : List Gtrid) → has_gtrid gs g ≡ false → EachOnce (RightDone tr) gs → EachOnce (RightDone ur) gs
-  each_done [] none each = tt
-  each_done (h ∷ gs) none each =
-      let parts = or_parts (gtrid_eq h g) (has_gtrid gs g) none in (right_done h parts.0 each.0, each.1, each_done gs parts.1 each.2)
+  each_done : (gs : List Gtrid) → EachOnce (RightDone tr) gs → EachOnce (RightDone ur) (others g gs)
+  each_done [] each = tt
+  each_done (h ∷ gs) each = by (gtrid_eq h g) refl (each_done gs each.2)
+    where
+      by : (t : Bool) → gtrid_eq h g ≡ t → EachOnce (RightDone ur) (others g gs) → EachOnce (RightDone ur) (if t then others g gs else h ∷ others g gs)
+      by true e rest = rest
+      by false e rest = (right_done h e each.0, others_apart g h gs each.1, rest)
 
-  right_fault : (f : Fault) → LeavesUntouched g tr (Failed f) → RightFault tr f → RightFault ur (fault_without g f)
-  right_fault (InDecide gs) leaves r = each_row gs r
-  right_fault (InDone gs) leaves r = each_done gs leaves r
-  right_fault (InHear l) leaves r = up_is g tr ∙ r
-  right_fault InResolve leaves r = up_is g tr ∙ r
-  right_fault InRestart leaves r = up_is g tr ∙ r
+  right_fault : (f : Fault) → RightFault tr f → RightFault ur (fault_without g f)
+  right_fault (InDecide gs) r = each_row gs r
+  right_fault (InDone gs) r = each_done gs r
+  right_fault (InHear l) r = up_is g tr ∙ r
+  right_fault InResolve r = up_is g tr ∙ r
+  right_fault InRestart r = up_is g tr ∙ r
 
   -- ** one happening more
 
@@ -175,6 +177,13 @@ module _ (g : Gtrid) (tr : Trace) (still : IsLeftUntouched g tr) where
       by : (t : Bool) → Right ur (if t then Nothing else Decided h Outcome.Commit)
       by true = tt
       by false = right_decision h Outcome.Commit r
+
+  done_or_not : (h : Gtrid) → RightDone tr h → Right ur (if gtrid_eq h g then Nothing else Done h)
+  done_or_not h r = by (gtrid_eq h g) refl
+    where
+      by : (t : Bool) → gtrid_eq h g ≡ t → Right ur (if t then Nothing else Done h)
+      by true e = tt
+      by false e = right_done h e r
 
   one_more : (e : Happening) → LeavesUntouched g tr e → Right tr e → AllRight ur → AllRight (history_without g (Then tr e))
   one_more (Begun h) leaves r all = (all, (up_is g tr ∙ r.0, r.1 ∙ sym (incarnation_is g tr), r.2 ∙ sym (ap (λ n. n + 1) (sequence_is g tr))))
@@ -190,8 +199,8 @@ module _ (g : Gtrid) (tr : Trace) (still : IsLeftUntouched g tr) where
   one_more (CompletedAlone b how) leaves r all = (all, standing_is g tr b ∙ r)
   one_more (Decided h Outcome.Commit) leaves r all = (all, decided_or_not h r)
   one_more (Decided h Outcome.Rollback) leaves r all = (all, right_decision h Outcome.Rollback r)
-  one_more (Done h) leaves r all = (all, right_done h leaves r)
-  one_more (Failed f) leaves r all = (all, right_fault f leaves r)
+  one_more (Done h) leaves r all = (all, done_or_not h r)
+  one_more (Failed f) leaves r all = (all, right_fault f r)
   one_more (Restarted i d h) leaves r all = (
     all,
     (

@@ -64,9 +64,28 @@ in_any_order g h (x ∷ xs) = by (gtrid_eq x.gtrid g) refl (gtrid_eq x.gtrid h) 
     by false p false q rest =
         without_first h x (without g xs) q ∙ (ap (λ ys. x ∷ ys) rest ∙ sym (without_first g x (without h xs) p))
 
-each_in_any_order : (g : Gtrid) (gs : List Gtrid) (xs : List Row) → without_each gs (without g xs) ≡ without g (without_each gs xs)
-each_in_any_order g [] xs = refl
-each_in_any_order g (h ∷ gs) xs = ap (without_each gs) (in_any_order g h xs) ∙ each_in_any_order g gs (without h xs)
+-- the one transaction again
+without_twice : (g : Gtrid) (xs : List Row) → without g (without g xs) ≡ without g xs
+without_twice g [] = refl
+without_twice g (x ∷ xs) = by (gtrid_eq x.gtrid g) refl (without_twice g xs)
+  where
+    by : (t : Bool) → gtrid_eq x.gtrid g ≡ t → without g (without g xs) ≡ without g xs
+        → without g (if t then without g xs else x ∷ without g xs) ≡ (if t then without g xs else x ∷ without g xs)
+    by true p rest = rest
+    by false p rest = without_first g x (without g xs) p ∙ ap (λ ys. x ∷ ys) rest
+
+pub without_same : (g h : Gtrid) (xs : List Row) → gtrid_eq h g ≡ true → without g (without h xs) ≡ without g xs
+without_same g h xs e = ap (λ k. without g (without k xs)) (gtrid_eq-true h g e) ∙ without_twice g xs
+
+-- some transactions, as there are rows of the one or not
+each_without : (g : Gtrid) (gs : List Gtrid) (xs : List Row) → without_each (others g gs) (without g xs) ≡ without g (without_each gs xs)
+each_without g [] xs = refl
+each_without g (h ∷ gs) xs = by (gtrid_eq h g) refl (each_without g gs (without h xs))
+  where
+    by : (t : Bool) → gtrid_eq h g ≡ t → without_each (others g gs) (without g (without h xs)) ≡ without g (without_each gs (without h xs))
+        → without_each (if t then others g gs else h ∷ others g gs) (without g xs) ≡ without g (without_each gs (without h xs))
+    by true e rest = ap (without_each (others g gs)) (sym (without_same g h xs e)) ∙ rest
+    by false e rest = ap (without_each (others g gs)) (in_any_order g h xs) ∙ rest
 
 joined_without : (g : Gtrid) (xs ys : List Row) → without g xs ++ without g ys ≡ without g (xs ++ ys)
 joined_without g [] ys = refl
@@ -77,14 +96,15 @@ joined_without g (x ∷ xs) ys = by (gtrid_eq x.gtrid g) (joined_without g xs ys
     by true rest = rest
     by false rest = ap (λ zs. x ∷ zs) rest
 
--- a change, without rows of the transaction that it adds
+-- a change, without the rows of the transaction that it adds or takes away
 abbrev pub change_without : Gtrid → Change → Change
 change_without g (AddRows xs) = AddRows (without g xs)
+change_without g (DropRows gs) = DropRows (others g gs)
 change_without g c = c
 
 pub rows_without_after : (g : Gtrid) (c : Change) (xs : List Row) → rows_changed (change_without g c) (without g xs) ≡ without g (rows_changed c xs)
 rows_without_after g (AddRows ys) xs = joined_without g ys xs
-rows_without_after g (DropRows gs) xs = each_in_any_order g gs xs
+rows_without_after g (DropRows gs) xs = each_without g gs xs
 rows_without_after g (AddRecord x) xs = refl
 rows_without_after g NoChange xs = refl
 

@@ -4,7 +4,7 @@ use Rattle.std.specs.Prelude.{◌≡◌, List, [], ◌∷◌, length, true, fals
 use Rattle.xa_base.specs.Branch.{gtrid_eq}
 use Rattle.xa_base.specs.declared.call.Call.TheVariants as Calls
 use Rattle.xa_base.specs.declared.step.Outcome.TheVariants as Outcome
-use Rattle.xa_model.specs.Facts.{decided_so, has_gtrid, has_row, heuristic_rows, incarnation, lists_one_of, log, page, standing, without}
+use Rattle.xa_model.specs.Facts.{decided_so, has_row, heuristic_rows, incarnation, lists_one_of, log, page, standing, without}
 use Rattle.xa_model.specs.Protocol.{AllRight}
 use Rattle.xa_model.specs.Trace.{Branch, Fault, Fault.InDecide, Fault.InDone, Gtrid, Happening, Happening.Decided, Happening.Done, Happening.Failed, Happening.Issued, Happening.Nothing, Happening.Resolved, Happening.ResolvedOpen, Happening.Restarted, Trace, Trace.From, Trace.Then}
 
@@ -14,15 +14,12 @@ use Rattle.xa_model.specs.Trace.{Branch, Fault, Fault.InDecide, Fault.InDone, Gt
 abbrev pub IsToCommitIn : Trace → Gtrid → Type 0
 IsToCommitIn tr g = (decided_so Outcome.Commit tr g || has_row tr g) ≡ true
 
--- The happening does nothing about it: it issues no xa_commit of a branch of the transaction, it
--- resolves no page that lists one, and its row neither leaves the log nor is in doubt to have
--- left.
+-- The happening does nothing about it: it issues no xa_commit of a branch of the transaction, and
+-- resolves no page that lists one.
 abbrev pub LeavesUntouched : Gtrid → Trace → Happening → Type 0
 LeavesUntouched g tr (Issued l (Calls.Commit b one_phase)) = gtrid_eq b.gtrid g ≡ false
 LeavesUntouched g tr (Resolved r) = IsToCommitIn tr g → lists_one_of g (page tr r) ≡ false
 LeavesUntouched g tr (ResolvedOpen r) = IsToCommitIn tr g → lists_one_of g (page tr r) ≡ false
-LeavesUntouched g tr (Done h) = gtrid_eq h g ≡ false
-LeavesUntouched g tr (Failed (InDone gs)) = has_gtrid gs g ≡ false
 LeavesUntouched g tr _ = Unit
 
 -- so does all that happened
@@ -37,17 +34,20 @@ abbrev pub others : Gtrid → List Gtrid → List Gtrid
 others g [] = []
 others g (h ∷ hs) = if gtrid_eq h g then others g hs else h ∷ others g hs
 
--- the log failed in these decisions except the one
+-- the log failed in the decisions, or the rows that were to leave, except the one
 abbrev pub fault_without : Gtrid → Fault → Fault
 fault_without g (InDecide gs) = InDecide (others g gs)
+fault_without g (InDone gs) = InDone (others g gs)
 fault_without g f = f
 
--- The same happened, except the decision: nothing happened in its place, and if the log failed in
--- it, it failed in the others. The start has no row of it, and a restart finds none.
+-- The same happened, except the decision and that its row left the log: nothing happened in their
+-- place, and if the log failed in them, it failed in the others. The start has no row of it, and a
+-- restart finds none.
 abbrev pub history_without : Gtrid → Trace → Trace
 history_without g (From o) = From (record o { rows = without g o.rows })
 history_without g (Then tr (Decided h Outcome.Commit)) =
     Then (history_without g tr) (if gtrid_eq h g then Nothing else Decided h Outcome.Commit)
+history_without g (Then tr (Done h)) = Then (history_without g tr) (if gtrid_eq h g then Nothing else Done h)
 history_without g (Then tr (Failed f)) = Then (history_without g tr) (Failed (fault_without g f))
 history_without g (Then tr (Restarted i d h)) =
     Then (history_without g tr) (Restarted i (length (without g (log (Then tr (Restarted i d h))))) h)
