@@ -32,11 +32,12 @@ use Rattle.xa_monitor.proofs.Names.{done_named, waiting_named}
 use Rattle.xa_monitor.proofs.UntoldCalls.{LeavesThere, ended_named}
 use Rattle.xa_monitor.specs.Across.{IsKnownAsLeft, continued_by}
 use Rattle.xa_monitor.specs.Agreement.{MayAllStand}
+use Rattle.xa_monitor.specs.Explained.{IsExplained}
 use Rattle.xa_monitor.specs.Seen.{IsHistory, Seen}
 use Rattle.xa_monitor.specs.Sessions.{AfterSessions, AfterSessions.Between, AfterSessions.NoneYet, AfterSessions.OneMore, Finds, FindsLog, IsSession, Log, Log.Empty, Log.LeftBy, failed_in, nothing_yet}
 use Rattle.xa_monitor.specs.Standings.{Comes}
 use Rattle.xa_outcomes.proofs.Untold.{LeavesUntold, leaves_untold}
-use Rattle.xa_outcomes.specs.Parts.{IsOfSessions}
+use Rattle.xa_outcomes.specs.Parts.{IsOfSessions, IsPart}
 
 -- there is one right history of all that happened. It leaves each branch where it stands, except
 -- that what was open may be lost already; and the next start finds the rows and records of it
@@ -84,21 +85,26 @@ none_reached i = record {
 
 -- ** one more
 
-module _ (log : Log) (from to : Branch → Standing) (before : AfterSessions log from) (r : IsOneHistory log from before) (o : Origin) (found : Finds log o)
-    (seen : Seen) (fails : Option Fault) (session : IsSession o seen fails) (done cut : List Line)
-    (may : MayAllStand o seen (λ b. Comes seen b (broken (from b))) done cut to) where
-  abbrev past : Trace
-  past = r.whole
+-- A right history that goes on with a session, wherever its branches may then stand. The session
+-- is the last part of it, and a start that finds what the session left finds the log of it.
+pub record GoesOnWith (past : Trace) (to : Branch → Standing) (o : Origin) (seen : Seen) (fails : Option Fault) : Type 0 where
+  pub whole : Trace
+  pub right : AllRight whole
+  pub there : (b : Branch) → broken (standing whole b) ≡ broken (to b)
+  pub named : AllAreNamed whole
+  pub finds : (next : Origin) → Finds (LeftBy o seen fails) next → FindsLog whole next
+  pub part : IsPart o seen fails past whole
+  pub explained : IsExplained o seen
 
+module _ (past : Trace) (past_right : AllRight past) (past_named : AllAreNamed past) (from to : Branch → Standing)
+    (stood : (b : Branch) → broken (standing past b) ≡ broken (from b)) (o : Origin) (found_log : FindsLog past o) (seen : Seen) (fails : Option Fault)
+    (session : IsSession o seen fails) (done cut : List Line) (may : MayAllStand o seen (λ b. Comes seen b (broken (from b))) done cut to) where
   abbrev held : ℕ → Xid → HeldBranch
   held = λ q x. held_in past (name_of x)
 
   -- the start, with what the past has left at the resource managers
   abbrev start : Origin
   start = record o { held = held }
-
-  found_log : FindsLog past o
-  found_log = r.finds o found
 
   held_so : (b : Branch) (t : Bool) → fits b ≡ t → held_of start b ≡ (if t then held_in past (Ours b) else new_branch)
   held_so b true e = ap (λ t. if t then held_in past (name_of (xid_of_branch b)) else new_branch) e ∙ ap (held_in past) (own_name b (fits_branch b e))
@@ -109,15 +115,15 @@ module _ (log : Log) (from to : Branch → Standing) (before : AfterSessions log
     where
       by : (t : Bool) → fits b ≡ t → (held_of start b).standing ≡ standing (gone past) b
       by true e = ap (λ (h : HeldBranch). h.standing) (held_so b true e)
-      by false e = ap (λ (h : HeldBranch). h.standing) (held_so b false e) ∙ sym (ap broken (r.named b e).0)
+      by false e = ap (λ (h : HeldBranch). h.standing) (held_so b false e) ∙ sym (ap broken (past_named b e).0)
 
   votes_so : (b : Branch) (t : Bool) → fits b ≡ t → (held_of start b).vote ≡ vote past b
   votes_so b true e = ap (λ (h : HeldBranch). h.vote) (held_so b true e)
-  votes_so b false e = ap (λ (h : HeldBranch). h.vote) (held_so b false e) ∙ sym (r.named b e).1
+  votes_so b false e = ap (λ (h : HeldBranch). h.vote) (held_so b false e) ∙ sym (past_named b e).1
 
   retries_so : (b : Branch) (t : Bool) → fits b ≡ t → (held_of start b).retries ≡ retries past b
   retries_so b true e = ap (λ (h : HeldBranch). h.retries) (held_so b true e)
-  retries_so b false e = ap (λ (h : HeldBranch). h.retries) (held_so b false e) ∙ sym (r.named b e).2
+  retries_so b false e = ap (λ (h : HeldBranch). h.retries) (held_so b false e) ∙ sym (past_named b e).2
 
   resumes : Resumes past start
   resumes = record {
@@ -135,13 +141,13 @@ module _ (log : Log) (from to : Branch → Standing) (before : AfterSessions log
       by : (b : Branch) (t : Bool) → nat_lt b.gtrid.incarnation o.incarnation ≡ t
           → ((held_of start b).standing ≡ Unstarted) ⊎ (b.gtrid.incarnation < o.incarnation)
       by b true e = inr (grind (arith, nat_tests, e))
-      by b false e = inl (known b ∙ ap broken (not_begun (standing past b) (none_begun past b (always past r.right) later)))
+      by b false e = inl (known b ∙ ap broken (not_begun (standing past b) (none_begun past b (always past past_right) later)))
         where
           later : incarnation past < b.gtrid.incarnation
           later = let l = found_log.later in grind (arith, nat_tests, e, l)
 
   there_at_start : (b : Branch) → broken (from b) ≡ (held_of start b).standing
-  there_at_start b = sym (known b ∙ r.there b)
+  there_at_start b = sym (known b ∙ stood b)
 
   y : LeavesUntold start seen (λ p. p ≡ start) done cut to
   y = leaves_untold start seen is_old (rules_back o held seen session.keeps) done cut to
@@ -164,10 +170,10 @@ module _ (log : Log) (from to : Branch → Standing) (before : AfterSessions log
   last_start = origin_failed fails x.now ∙ x.start
 
   both : AllRight (continued_by (resumed past start) last) × Faces (gone past) (continued_by (resumed past start) last) last
-  both = behind_right past start last r.right resumes last_start last_runs
+  both = behind_right past start last past_right resumes last_start last_runs
 
   stands_so : (b : Branch) → standing (continued_by (resumed past start) last) b ≡ standing last b
-  stands_so b = same_there past start last r.right resumes last_start last_runs b (known b)
+  stands_so b = same_there past start last past_right resumes last_start last_runs b (known b)
 
   last_named : AllAreNamed last
   last_named = named_failed fails x.now (x.named
@@ -186,7 +192,7 @@ module _ (log : Log) (from to : Branch → Standing) (before : AfterSessions log
       own = finds_same fails x.now x.told (asks_if fails o seen session.may_fail) x.same next (left x.told told_history x.told_runs)
 
       inv : Inv (gone past)
-      inv = always (gone past) (gone_right past r.right)
+      inv = always (gone past) (gone_right past past_right)
 
       crashed : Faces (gone past) (gone (continued_by (resumed past start) last)) (gone last)
       crashed = faces_after (gone past) inv (continued_by (resumed past start) last) last both.1.deals both.1 (Crashed Part.Manager) tt
@@ -195,20 +201,32 @@ module _ (log : Log) (from to : Branch → Standing) (before : AfterSessions log
       after = faces_after (gone past) inv (gone (continued_by (resumed past start) last)) (gone last) crashed.deals crashed
           (Restarted next.incarnation (length next.rows) (length next.heuristic_rows)) (refl, own.later, own.rows.number, own.records.number)
 
-  one_reached : IsOneHistory (LeftBy o seen fails) to (OneMore log from to o seen fails done cut before found session may)
-  one_reached = record {
+  pub goes_on : GoesOnWith past to o seen fails
+  goes_on = record {
     whole = continued_by (resumed past start) last;
     right = both.0;
     there = λ b. ap broken (stands_so b) ∙ (broken_failed fails x.now b ∙ ap broken (x.there b));
     named = λ b unfit. let n = last_named b unfit in
         (stands_so b ∙ n.0, sym (both.1.held.votes b) ∙ n.1, sym (both.1.held.retries b) ∙ n.2);
     finds = finds_it;
-    parts = (
-      past,
-      r.parts,
-      record { finds = found_log; told = x.told; is_history = told_history; now = x.now; untold = y.untold; joined = refl },
-    );
+    part = record { finds = found_log; told = x.told; is_history = told_history; now = x.now; untold = y.untold; joined = refl };
+    explained = record { history = x.told; is_history = told_history; runs = x.told_runs };
   }
+
+one_reached : (log : Log) (from to : Branch → Standing) (before : AfterSessions log from) → IsOneHistory log from before → (o : Origin) (found : Finds log o)
+    (seen : Seen) (fails : Option Fault) (session : IsSession o seen fails) (done cut : List Line)
+    (may : MayAllStand o seen (λ b. Comes seen b (broken (from b))) done cut to)
+    → IsOneHistory (LeftBy o seen fails) to (OneMore log from to o seen fails done cut before found session may)
+one_reached log from to before r o found seen fails session done cut may =
+    let on = goes_on r.whole r.right r.named from to r.there o (r.finds o found) seen fails session done cut may in
+    record {
+      whole = on.whole;
+      right = on.right;
+      there = on.there;
+      named = on.named;
+      finds = on.finds;
+      parts = (r.whole, r.parts, on.part);
+    }
 
 -- ** between two
 

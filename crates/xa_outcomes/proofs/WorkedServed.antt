@@ -332,7 +332,7 @@ module _ {L : Type 0} (moment : L → Moment) (tracked : RepliesAreTracked momen
     }
 
     are_worked : AreWorkedOut moment last
-    are_worked = record { stand = stand_apart moment [] first_gtrid last tell; ended = ended_alone moment [] first_gtrid last tell }
+    are_worked = record { told = tell; stand = stand_apart moment [] first_gtrid last tell; ended = ended_alone moment [] first_gtrid last tell }
 
   pub worked_so : (handed left : L) (last : Server L) → IsLeftInDecide moment handed left → Commits moment left last
       → Honestly (moment handed) (moment (log_in last.session.manager)) (IsSomeAnd (moment handed).content IsEmptyLog → AreWorkedOut moment last)

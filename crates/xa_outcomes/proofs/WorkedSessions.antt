@@ -76,7 +76,7 @@ module _ (g : Gtrid) where
   abbrev now : (sa sb : Standing) → Branch → Standing
   now sa sb x = stand_at g sa sb x
 
-  to_both : (x : Branch) → Comes (votes_told g) x Unstarted (now Prepared Prepared x)
+  pub to_both : (x : Branch) → Comes (votes_told g) x Unstarted (now Prepared Prepared x)
   to_both x = (
     now Prepared Idle x,
     (
@@ -125,8 +125,9 @@ module _ (g : Gtrid) where
   -- ** both
 
   module _ {L : Type 0} (moment : L → Moment) (name : List ℕ) (last : Server L) (tell : TellThis moment name g last) where
-    first : AreServed moment name (Some tell.first) (now Prepared Prepared)
-    first =
+    -- after the first session both stand prepared
+    abbrev pub first_served : AreServed moment name (Some tell.first) (now Prepared Prepared)
+    first_served =
         OneMore _ (λ x. Unstarted) (now Prepared Prepared) tell.handed tell.one (votes_told g) (votes_told g) tell.now tell.first [] [] NoneYet
         (record { left = tell.empty; was_left = tell.is_empty; holds = tell.holds }) tell.session tell.is_left tell.honest
         (AsTold (now Prepared Prepared) to_both)
@@ -136,7 +137,7 @@ module _ (g : Gtrid) where
       served =
           OneMore (Some tell.first) (now Prepared Prepared) (now Committed Prepared) tell.next tell.two (told_second g) (told_second g)
           last last [] []
-          first (record { left = tell.mid; was_left = tell.leaves_mid; holds = tell.holds_mid }) tell.second AfterLine tell.honest_last
+          first_served (record { left = tell.mid; was_left = tell.leaves_mid; holds = tell.holds_mid }) tell.second AfterLine tell.honest_last
           (AsTold (now Committed Prepared) (λ x. comes_second x));
       alone = λ left leaves.
           OneMoreFor tell.mid left (now Prepared Prepared) (now Committed Prepared) tell.next tell.two (told_second g) (told_second g)

@@ -203,5 +203,6 @@ module _ {L : Type 0} (moment : L → Moment) where
 -- still after these two sessions, or its database has ended it by itself since: as they are
 -- sessions that a server served, the last of them left so.
 pub record AreWorkedOut {L : Type 0} (moment : L → Moment) (last : Server L) : Type 0 where
+  pub told : TellThis moment [] first_gtrid last
   pub stand : MayStandApart moment [] first_gtrid last
   pub ended : (how : How) → AreServed moment [] (Some last) (stand_at first_gtrid Committed (Completed how))
