@@ -3,9 +3,22 @@
 from .adapters.base import Result
 from .branch import Branch, BranchConnection, BranchCursor
 from .codes import Code
-from .errors import ConnectionLost, CoordinatorGone, EndRefused, HeuristicEnd, LogInUse, NestedTransaction, OutcomeUnknown, Overdue
-from .errors import RolledBack, SetupError, TimedOut, TransactionOver, XaError
 from .configuration import manager_of
+from .errors import (
+    ConnectionLost,
+    CoordinatorGone,
+    EndRefused,
+    HeuristicEnd,
+    LogInUse,
+    NestedTransaction,
+    OutcomeUnknown,
+    Overdue,
+    RolledBack,
+    SetupError,
+    TimedOut,
+    TransactionOver,
+    XaError,
+)
 from .manager import TransactionManager
 from .outcomes import Outcome
 from .transaction import Transaction
@@ -15,7 +28,28 @@ from .xid import Xid
 __version__ = "1.0.0"
 
 __all__ = [
-    "Branch", "BranchConnection", "BranchCursor", "Code", "ConnectionLost", "CoordinatorGone", "EndRefused", "HeuristicEnd",
-    "LogInUse", "NestedTransaction", "Outcome", "OutcomeUnknown", "Overdue", "Result", "RolledBack", "SetupError", "TimedOut",
-    "Transaction", "TransactionManager", "TransactionOver", "XaError", "Xid", "__version__", "manager_of",
+    "Branch",
+    "BranchConnection",
+    "BranchCursor",
+    "Code",
+    "ConnectionLost",
+    "CoordinatorGone",
+    "EndRefused",
+    "HeuristicEnd",
+    "LogInUse",
+    "NestedTransaction",
+    "Outcome",
+    "OutcomeUnknown",
+    "Overdue",
+    "Result",
+    "RolledBack",
+    "SetupError",
+    "TimedOut",
+    "Transaction",
+    "TransactionManager",
+    "TransactionOver",
+    "XaError",
+    "Xid",
+    "__version__",
+    "manager_of",
 ]

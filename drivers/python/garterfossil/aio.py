@@ -5,9 +5,10 @@ from __future__ import annotations
 
 import asyncio
 import contextlib
+from collections.abc import AsyncIterator, Callable
 from concurrent.futures import ThreadPoolExecutor
 from types import TracebackType
-from typing import Any, AsyncIterator, Callable, Optional, Type, TypeVar, Union
+from typing import Any, TypeVar
 
 from .adapters.base import Parameters, Result
 from .manager import TransactionManager
@@ -20,7 +21,7 @@ T = TypeVar("T")
 class AsyncBranch:
     """The part of a transaction at one database, for asyncio. It begins as it is first used."""
 
-    def __init__(self, transaction: AsyncTransaction, database: Union[int, str]):
+    def __init__(self, transaction: AsyncTransaction, database: int | str):
         self._transaction = transaction
         self._database = database
 
@@ -36,7 +37,7 @@ class AsyncTransaction:
         self._transaction = transaction
         self._thread = thread
 
-    def __getitem__(self, database: Union[int, str]) -> AsyncBranch:
+    def __getitem__(self, database: int | str) -> AsyncBranch:
         """The branch at a database, by its place among those of the manager, from 0, or by its name."""
         return AsyncBranch(self, database)
 
@@ -69,7 +70,7 @@ class _Thread:
     async def run_to_the_end(self, step: Callable[[], T]) -> T:
         """Does a step, and waits for its end also if the task is cancelled, which is raised then."""
         done = self.run(step)
-        cancelled: Optional[asyncio.CancelledError] = None
+        cancelled: asyncio.CancelledError | None = None
         while not done.done():
             try:
                 await asyncio.wait([done])
@@ -91,7 +92,7 @@ async def transaction(manager: TransactionManager, **options: Any) -> AsyncItera
     thread = _Thread()
     block = manager.transaction(**options)
 
-    def leave(kind: Optional[Type[BaseException]], error: Optional[BaseException], trace: Optional[TracebackType]) -> bool:
+    def leave(kind: type[BaseException] | None, error: BaseException | None, trace: TracebackType | None) -> bool:
         return bool(block.__exit__(kind, error, trace))
 
     try:

@@ -11,7 +11,8 @@ import queue
 import signal
 import sys
 import threading
-from typing import Any, Callable, List, Optional, Sequence, TypeVar, cast
+from collections.abc import Callable, Sequence
+from typing import Any, TypeVar, cast
 
 T = TypeVar("T")
 
@@ -32,7 +33,7 @@ class _Job:
         self.is_done.acquire()
         self.is_over = False
         self.result: Any = None
-        self.error: Optional[BaseException] = None
+        self.error: BaseException | None = None
 
     def do(self) -> None:
         """Does it."""
@@ -63,7 +64,7 @@ class Aside:
         except RuntimeError:
             # There is no thread to be had any more, as at the interpreter's end.
             return step()
-        interrupt: Optional[BaseException] = None
+        interrupt: BaseException | None = None
         # (An exception may come after the lock as well, when it is taken already.)
         while not job.is_over:
             try:
@@ -126,7 +127,7 @@ def aside(step: Callable[[], T], may_leave: bool = False) -> T:
     return ASIDE.do(step, may_leave)
 
 
-def side_by_side(steps: Sequence[Callable[[], T]]) -> List[T]:
+def side_by_side(steps: Sequence[Callable[[], T]]) -> list[T]:
     """Does steps at the same time, all but the first on threads of their own, and waits for all of
     them: what each gives. (Threads of gevent take turns.)"""
     if len(steps) < 2 or _is_of_gevent():

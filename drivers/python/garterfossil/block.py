@@ -9,12 +9,14 @@ import os
 import queue
 import threading
 import weakref
-from typing import TYPE_CHECKING, Callable, Dict, Optional, Union
+from collections.abc import Callable
+from typing import TYPE_CHECKING
 
 from . import current
 from .adapters.base import Options
 from .aside import aside
-from .errors import TransactionOver, XaError, log
+from .errors import TransactionOver, XaError
+from .logger import log
 from .outcomes import Outcome
 from .session import Session
 from .threads import Thread
@@ -27,7 +29,7 @@ if TYPE_CHECKING:
 class Block:
     """What `TransactionManager.transaction` gives for a `with` statement. It may be entered once."""
 
-    def __init__(self, manager: TransactionManager, options: Options, timeout: Optional[float], independent: bool):
+    def __init__(self, manager: TransactionManager, options: Options, timeout: float | None, independent: bool):
         self._manager = manager
         self._options = options
         self._timeout = timeout
@@ -35,9 +37,9 @@ class Block:
         # Taken by whoever enters it, and never given back.
         self._once = threading.Lock()
         self._process = os.getpid()
-        self._lease: Optional[Lease] = None
+        self._lease: Lease | None = None
         self._is_given_up = False
-        self._entry: Optional[current.Entry] = None
+        self._entry: current.Entry | None = None
 
     def __enter__(self) -> Transaction:
         manager = self._manager
@@ -64,7 +66,7 @@ class Block:
         if self._is_given_up:
             REAPER.give_up(self._lease)
 
-    def __exit__(self, _: object, error: Optional[BaseException], __: object) -> None:
+    def __exit__(self, _: object, error: BaseException | None, __: object) -> None:
         try:
             held, entry = self._lease, self._entry
             assert held is not None and entry is not None
@@ -87,7 +89,7 @@ class Block:
             self._give_up()
 
     @staticmethod
-    def _leave(held: Lease, error: Optional[BaseException]) -> None:
+    def _leave(held: Lease, error: BaseException | None) -> None:
         """Ends the transaction, as the block is left."""
         transaction = held.transaction
         if error is None:
@@ -117,7 +119,7 @@ class Lease:
         self._once, self._noted = threading.Lock(), threading.Lock()
         self._is_given_up = False
         #: By what it is known to the reaper.
-        self.key: Optional[weakref.ref[Block]] = None
+        self.key: weakref.ref[Block] | None = None
 
     def end(self, step: Callable[[], None]) -> None:
         """Ends the transaction by a step, or else by a rollback, and gives the thread back."""
@@ -168,8 +170,8 @@ class Reaper:
 
     def __init__(self) -> None:
         # The references to blocks that are gone, and leases that are given up. It takes each in one step, which nothing interrupts.
-        self._gone: queue.SimpleQueue[Union[weakref.ref[Block], Lease]] = queue.SimpleQueue()
-        self._leases: Dict[weakref.ref[Block], Lease] = {}
+        self._gone: queue.SimpleQueue[weakref.ref[Block] | Lease] = queue.SimpleQueue()
+        self._leases: dict[weakref.ref[Block], Lease] = {}
         self._lock = threading.Lock()
         self._is_at_work = False
 
@@ -196,7 +198,7 @@ class Reaper:
         threading.current_thread().name = "garterfossil reaper"
         while True:
             gone = self._gone.get()
-            lease: Optional[Lease]
+            lease: Lease | None
             with self._lock:
                 lease = gone if isinstance(gone, Lease) else self._leases.get(gone)
             if lease is not None:

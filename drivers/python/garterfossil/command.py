@@ -6,13 +6,23 @@ import argparse
 import contextlib
 import logging
 import sys
-from typing import Any, Callable, Dict, Iterator, List, Mapping, Optional, Sequence, Tuple
+from collections.abc import Callable, Iterator, Mapping, Sequence
+from typing import Any
 
 from . import __version__
 from .codes import Code
 from .configuration import Configuration
 from .coordinator import Coordinator, serve_command
-from .doubt import IN_USE, Listing, call_for, listings_of, logs_of, objection, place_of, settled_listings_of
+from .doubt import (
+    IN_USE,
+    Listing,
+    call_for,
+    listings_of,
+    logs_of,
+    objection,
+    place_of,
+    settled_listings_of,
+)
 from .errors import LogInUse, SetupError, XaError
 from .failover import fail_over
 from .logs import Log, Names, logs_of_workers
@@ -100,11 +110,11 @@ def _status(configuration: Configuration, form: str) -> int:
     return 1 if any(one.own or one.fault for one in found) else 0
 
 
-def _shown(configuration: Configuration, logs: Mapping[str, Log], found: List[Listing]) -> Dict[str, Any]:
+def _shown(configuration: Configuration, logs: Mapping[str, Log], found: list[Listing]) -> dict[str, Any]:
     """The same as objects, for programs."""
     by_manager = {log.manager: log for log in logs.values()}
 
-    def branch(one: Listing, xid: Xid) -> Dict[str, Any]:
+    def branch(one: Listing, xid: Xid) -> dict[str, Any]:
         log = by_manager[xid.manager]
         waits_for = None if objection(log, xid) is not None else call_for(log, xid)
         return {"branch": str(xid), "seconds": one.ages.get(xid), "waits_for": waits_for}
@@ -138,14 +148,14 @@ def _oldest(one: Listing) -> float:
     return max((one.ages.get(xid, 0.0) for xid in one.own), default=0.0)
 
 
-def _metrics(configuration: Configuration, logs: Mapping[str, Log], found: List[Listing]) -> List[Metric]:
+def _metrics(configuration: Configuration, logs: Mapping[str, Log], found: list[Listing]) -> list[Metric]:
     """The same as numbers."""
 
-    def at_each(value: Callable[[Listing], float]) -> List[Tuple[Dict[str, str], float]]:
+    def at_each(value: Callable[[Listing], float]) -> list[tuple[dict[str, str], float]]:
         names = configuration.names or [str(rm) for rm in range(len(found))]
         return [({"database": name}, value(one)) for name, one in zip(names, found)]
 
-    def of_each(value: Callable[[Log], float]) -> List[Tuple[Dict[str, str], float]]:
+    def of_each(value: Callable[[Log], float]) -> list[tuple[dict[str, str], float]]:
         return [({"log": path}, value(log)) for path, log in logs.items()]
 
     return [
@@ -159,7 +169,7 @@ def _metrics(configuration: Configuration, logs: Mapping[str, Log], found: List[
     ]
 
 
-def _lines(configuration: Configuration, logs: Mapping[str, Log], found: List[Listing]) -> Iterator[str]:
+def _lines(configuration: Configuration, logs: Mapping[str, Log], found: list[Listing]) -> Iterator[str]:
     """What is in doubt, for a reader."""
     for path, log in logs.items():
         yield from _lines_of_log(path, log)
@@ -187,7 +197,7 @@ def _lines_of_log(path: str, log: Log) -> Iterator[str]:
     yield from (f"  {line}: compare it with the other databases (docs/LOG.md)" for line in log.heuristics)
 
 
-def _lines_of_others(name: str, xids: List[Xid], one: Listing) -> Iterator[str]:
+def _lines_of_others(name: str, xids: list[Xid], one: Listing) -> Iterator[str]:
     """Of another manager: whose, how many, and how old. It ends them, unless it is gone."""
     ages = [one.ages[xid] for xid in xids if xid in one.ages]
     old = f", the oldest for {_time(max(ages))}" if ages else ""
@@ -204,7 +214,7 @@ def _time(seconds: float) -> str:
     return f"{seconds:.0f} seconds"
 
 
-def _lines_of(configuration: Configuration, log: Log, rm: int, xid: Xid, age: Optional[float]) -> Iterator[str]:
+def _lines_of(configuration: Configuration, log: Log, rm: int, xid: Xid, age: float | None) -> Iterator[str]:
     why_not = objection(log, xid)
     since = f"; prepared for {_time(age)}" if age is not None else ""
     if log.fault == IN_USE:
@@ -275,7 +285,7 @@ def _branch(text: str) -> Xid:
         raise SetupError(str(error)) from error
 
 
-def _log_of(logs: Mapping[str, Log], xid: Xid) -> Tuple[str, Log]:
+def _log_of(logs: Mapping[str, Log], xid: Xid) -> tuple[str, Log]:
     """The log of the manager of a branch: the only one, or the worker's."""
     for path, log in logs.items():
         if len(logs) == 1 or log.manager == xid.manager:
@@ -283,7 +293,7 @@ def _log_of(logs: Mapping[str, Log], xid: Xid) -> Tuple[str, Log]:
     raise SetupError(f"none of the logs is that of {xid.manager or 'a manager without a name'}, whose branch {xid} is")
 
 
-def _database_and_branch(configuration: Configuration, text: str, managers: List[str]) -> Tuple[int, Xid]:
+def _database_and_branch(configuration: Configuration, text: str, managers: list[str]) -> tuple[int, Xid]:
     """The branch of this identifier, and the database that lists it."""
     xid = _branch(text)
     found = listings_of(configuration, managers)

@@ -7,7 +7,8 @@ from __future__ import annotations
 import contextlib
 import os
 
-from .errors import SetupError, log
+from .errors import SetupError
+from .logger import log
 
 #: What is added to the log's own path. The file keeps so many transactions, each in so many bytes
 #: at a place by its number: those of a session take the places of those of earlier ones.

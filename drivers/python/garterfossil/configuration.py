@@ -4,8 +4,9 @@ from __future__ import annotations
 
 import importlib
 import os
+from collections.abc import Mapping, Sequence
 from dataclasses import dataclass, field
-from typing import Any, Dict, List, Mapping, Optional, Sequence
+from typing import Any
 
 from .adapters.base import Database
 from .errors import SetupError
@@ -27,11 +28,11 @@ KEYS: Mapping[str, Any] = {"log": str, "name": str, "threads": int, "patience": 
 class Configuration:
     """What a transaction manager is made of. `options` are keywords of `TransactionManager`."""
 
-    databases: List[Database]
+    databases: list[Database]
     log: str
     #: The names of the databases, if they were given any.
     names: Sequence[str] = ()
-    options: Dict[str, Any] = field(default_factory=dict)
+    options: dict[str, Any] = field(default_factory=dict)
 
     @classmethod
     def read(cls, path: str) -> Configuration:
@@ -63,12 +64,12 @@ class Configuration:
         return cls(databases, log, names, options)
 
     @property
-    def name(self) -> Optional[str]:
+    def name(self) -> str | None:
         """The manager's name, if one is given. Else it is the one that the log keeps."""
         return self.options.get("name")
 
     @property
-    def mirror(self) -> Optional[Database]:
+    def mirror(self) -> Database | None:
         """Where the decisions are mirrored, if they are."""
         return self.options.get("mirror")
 
@@ -81,7 +82,7 @@ class Configuration:
         """What messages call a database."""
         return f"{self.names[rm]}, {self.databases[rm]!r}" if self.names else repr(self.databases[rm])
 
-    def manager(self, log: Optional[str] = None) -> TransactionManager:
+    def manager(self, log: str | None = None) -> TransactionManager:
         """The transaction manager, or the one of a worker's log. Raises what its constructor does."""
         named = dict(zip(self.names, self.databases))
         return TransactionManager(named or self.databases, log or self.log, **self.options)
@@ -92,7 +93,7 @@ def manager_of(path: str) -> TransactionManager:
     return Configuration.read(path).manager()
 
 
-def _toml(path: str) -> Dict[str, Any]:
+def _toml(path: str) -> dict[str, Any]:
     try:
         toml: Any = importlib.import_module("tomllib")
     except ImportError:
@@ -102,7 +103,7 @@ def _toml(path: str) -> Dict[str, Any]:
             raise SetupError("before Python 3.11 such a file needs the module tomli: pip install garterfossil[toml]") from None
     try:
         with open(path, "rb") as it:
-            found: Dict[str, Any] = toml.load(it)
+            found: dict[str, Any] = toml.load(it)
     except OSError as error:
         raise SetupError(f"{path}: {error.strerror}") from error
     except ValueError as error:
@@ -114,7 +115,7 @@ def _are_tables(found: Any) -> bool:
     return isinstance(found, list) and all(isinstance(one, dict) for one in found)
 
 
-def _database(table: Dict[str, Any], where: str) -> Database:
+def _database(table: dict[str, Any], where: str) -> Database:
     """The database of a table: its key `kind` names the adapter, and the others are what the adapter takes."""
     kind = table.pop("kind", None)
     path = KINDS.get(kind, kind) if isinstance(kind, str) else ""

@@ -13,9 +13,10 @@ import subprocess
 import threading
 import time
 import weakref
-from typing import Deque, Dict, Iterable, Iterator, List, Optional, Sequence, Tuple
+from collections.abc import Iterable, Iterator, Sequence
 
-from .errors import CoordinatorGone, LogInUse, NotNow, SetupError, log
+from .errors import CoordinatorGone, LogInUse, NotNow, SetupError
+from .logger import log
 from .logs import MOMENT, REFUSED, Names, is_disk_full
 
 #: It ends so where it doesn't know the words that it is started with.
@@ -30,6 +31,7 @@ SHORTEST, LONGEST_GREETING, LONGEST_END = 2.0, 30.0, 10.0
 GREETING = re.compile(r"restarted ([0-9]{1,20}) ([0-9]{1,20}) [0-9]{1,20}")
 #: The version of the protocol that this driver speaks.
 PROTOCOL = "1"
+OTHER_PROTOCOL = "the coordinator speaks the protocol {}, and this driver {}: they are to be of one version"
 #: Stands between the moves of a line, and between their replies.
 AND = ";"
 #: A line of moves has fewer bytes.
@@ -38,7 +40,7 @@ LONGEST_LINE = 60000
 MOST_THREADS = 1024
 
 
-def serve_command(program: str, log: str, names: Names, threads: int, databases: int) -> List[str]:
+def serve_command(program: str, log: str, names: Names, threads: int, databases: int) -> list[str]:
     """The words that start a coordinator over a log, for so many transactions at once, as the manager of this name, if it has one, whose
     resource managers have these names, if they have some."""
     words = [program, "serve", "--moves", *(["--name", names.manager] if names.manager else [])]
@@ -52,13 +54,13 @@ class Reply:
 
     __slots__ = ("move", "thread", "is_asked", "words")
 
-    def __init__(self, move: str, thread: Optional[int], is_asked: bool):
+    def __init__(self, move: str, thread: int | None, is_asked: bool):
         self.move = move
         #: Of which thread it is. None, if it is of a recovery, and has a line of its own.
         self.thread = thread
         #: Whether somebody waits for it at once.
         self.is_asked = is_asked
-        self.words: Optional[str] = None
+        self.words: str | None = None
 
 
 class Coordinator:
@@ -68,7 +70,7 @@ class Coordinator:
     what has come. While a line is under way whose reply somebody waits for, as that of a decision, what others post is gathered: it goes
     by one line then, and so by one write of the log."""
 
-    def __init__(self, command: Sequence[str], patience: float = 30.0, path: Optional[str] = None):
+    def __init__(self, command: Sequence[str], patience: float = 30.0, path: str | None = None):
         self._path = path
         # No reply is waited for longer: the greeting may take longer than others, as with a log that holds much.
         self._patience = max(patience, SHORTEST)
@@ -78,19 +80,19 @@ class Coordinator:
         self._posting = threading.Lock()
         # Moves that are yet to be written, lines whose replies are yet to come, and how many of these somebody waits for: under the lock
         # `_posting`. They are kept here and in no buffer of a file, which a process that is forked off would write once more at its end.
-        self._unwritten: List[Reply] = []
-        self._under_way: Deque[List[Reply]] = collections.deque()
+        self._unwritten: list[Reply] = []
+        self._under_way: collections.deque[list[Reply]] = collections.deque()
         self._asked = 0
         # Whether one of the first is to be written as soon as no reply is waited for.
         self._is_due = False
         # Whether a thread reads; and what wakes those that wait meanwhile, by what they wait for. Both under the lock `_reading`.
         self._reading = threading.RLock()
         self._is_read = False
-        self._asleep: Dict[Reply, threading.Condition] = {}
+        self._asleep: dict[Reply, threading.Condition] = {}
         # The beginning of a line whose end has yet to come.
         self._begun = b""
         self._ending = threading.Lock()
-        self._fault: Optional[str] = None
+        self._fault: str | None = None
         COORDINATORS.add(self)
         greeting = self._greet()
         found = GREETING.fullmatch(greeting)
@@ -102,7 +104,7 @@ class Coordinator:
         self._see_moves(command[0])
 
     @classmethod
-    def start(cls, command: Sequence[str], patience: float, path: Optional[str] = None) -> Coordinator:
+    def start(cls, command: Sequence[str], patience: float, path: str | None = None) -> Coordinator:
         """Starts it. While another one still has the log, at this path, tries again for so many seconds, and then raises LogInUse.
         Raises SetupError if the log can't be had for another reason."""
         begun = time.monotonic()
@@ -140,11 +142,11 @@ class Coordinator:
 
     # ** moves
 
-    def ask(self, move: str, thread: Optional[int] = None) -> str:
+    def ask(self, move: str, thread: int | None = None) -> str:
         """The reply to a move of a thread, or of a recovery. Raises NotNow or CoordinatorGone."""
         return self.wait(self.post(move, thread, is_asked=True))
 
-    def post(self, move: str, thread: Optional[int] = None, is_asked: bool = False, is_later: bool = False) -> Reply:
+    def post(self, move: str, thread: int | None = None, is_asked: bool = False, is_later: bool = False) -> Reply:
         """Puts a move on its way: at once, unless a reply is waited for; or on the line of the next one, if it is for later."""
         reply = Reply(move, thread, is_asked)
         with self._posting:
@@ -200,7 +202,7 @@ class Coordinator:
         over. Called with the lock `_posting`."""
         self._is_due = False
         replies, self._unwritten = self._unwritten, []
-        lines: List[List[Reply]] = []
+        lines: list[list[Reply]] = []
         length = 0
         for reply in replies:
             is_with_others = bool(lines) and reply.thread is not None and lines[-1][0].thread is not None
@@ -310,7 +312,7 @@ class Coordinator:
                 version = line.split(" ")[1]
                 if version != PROTOCOL:
                     self.kill()
-                    raise SetupError(f"the coordinator speaks the protocol {version}, and this driver {PROTOCOL}: they are to be of one version")
+                    raise SetupError(OTHER_PROTOCOL.format(version, PROTOCOL))
 
     def _see_moves(self, program: str) -> None:
         """Sees that it takes moves."""
@@ -329,7 +331,7 @@ class Coordinator:
         for way in (socket.SO_RCVTIMEO, socket.SO_SNDTIMEO):
             self._socket.setsockopt(socket.SOL_SOCKET, way, struct.pack("ll", whole, int(1000000 * (seconds - whole))))
 
-    def _read_lines(self) -> List[str]:
+    def _read_lines(self) -> list[str]:
         """The lines of which the ends have come, at once; waits for something to come."""
         some = b""
         with self._whole(), contextlib.suppress(ConnectionResetError):
@@ -391,7 +393,7 @@ class Coordinator:
         self._errors.close()
 
 
-def _started(command: Sequence[str]) -> Tuple[subprocess.Popen[bytes], socket.socket]:
+def _started(command: Sequence[str]) -> tuple[subprocess.Popen[bytes], socket.socket]:
     """The process of a command, and what moves and replies go by: of a socket the system itself sees that nothing is waited for too
     long, by the same call that writes or reads."""
     ours, theirs = socket.socketpair()

@@ -5,7 +5,7 @@ from __future__ import annotations
 import contextvars
 import sys
 import threading
-from typing import TYPE_CHECKING, Optional, Tuple
+from typing import TYPE_CHECKING
 
 if TYPE_CHECKING:
     from .manager import TransactionManager
@@ -17,7 +17,7 @@ class Entry:
 
     __slots__ = ("manager", "transaction", "owner", "outer", "_is_left")
 
-    def __init__(self, manager: TransactionManager, transaction: Transaction, outer: Optional[Entry]):
+    def __init__(self, manager: TransactionManager, transaction: Transaction, outer: Entry | None):
         self.manager = manager
         self.transaction = transaction
         self.owner = owner()
@@ -40,10 +40,10 @@ class Entry:
 
 
 #: The innermost block of the context. A block that was left in another context may still stand here.
-_INNERMOST: contextvars.ContextVar[Optional[Entry]] = contextvars.ContextVar("garterfossil", default=None)
+_INNERMOST: contextvars.ContextVar[Entry | None] = contextvars.ContextVar("garterfossil", default=None)
 
 
-def owner() -> Tuple[int, int]:
+def owner() -> tuple[int, int]:
     """Who works now: the thread, and the task of asyncio if there is one."""
     # Without that module there is no task, and nobody pays for importing it.
     asyncio = sys.modules.get("asyncio")
@@ -57,7 +57,7 @@ def owner() -> Tuple[int, int]:
     return threading.get_ident(), 0 if task is None else id(task)
 
 
-def innermost(manager: TransactionManager) -> Optional[Entry]:
+def innermost(manager: TransactionManager) -> Entry | None:
     """The innermost block of a manager in the context, if it is in one."""
     entry = _INNERMOST.get()
     while entry is not None and (entry.is_left or entry.manager is not manager):

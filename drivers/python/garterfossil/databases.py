@@ -3,7 +3,7 @@
 from __future__ import annotations
 
 import re
-from typing import Dict, Iterator, List, Mapping, Sequence, Tuple, Union
+from collections.abc import Iterator, Mapping, Sequence
 
 from .adapters.base import Database, Place
 
@@ -18,12 +18,12 @@ class Databases:
     """The databases of a transaction manager: a sequence, numbered by the places in it, or a mapping, which gives each a name as
     well, and numbers them in its order. Raises TypeError or ValueError if they are none of both."""
 
-    def __init__(self, databases: Union[Sequence[Database], Mapping[str, Database]]):
+    def __init__(self, databases: Sequence[Database] | Mapping[str, Database]):
         if isinstance(databases, Database) or not isinstance(databases, (Sequence, Mapping)):
             raise TypeError(f"databases: a list of them, or a dict by their names, not {type(databases).__name__}")
-        self._all: List[Database] = list(databases.values()) if isinstance(databases, Mapping) else list(databases)
+        self._all: list[Database] = list(databases.values()) if isinstance(databases, Mapping) else list(databases)
         names = list(databases) if isinstance(databases, Mapping) else []
-        self._names: Dict[str, int] = {name: number for number, name in enumerate(names)}
+        self._names: dict[str, int] = {name: number for number, name in enumerate(names)}
         self._require_fit()
 
     def _require_fit(self) -> None:
@@ -41,7 +41,7 @@ class Databases:
                 raise ValueError(f"databases: a name has 1 to 64 letters, digits, _ and -, and {name!r} hasn't: the log keeps it")
 
     @property
-    def names(self) -> List[str]:
+    def names(self) -> list[str]:
         """The names of all of them, in the order of their numbers; none, if they have none."""
         return list(self._names)
 
@@ -51,7 +51,7 @@ class Databases:
     def __getitem__(self, number: int) -> Database:
         return self._all[number]
 
-    def number_of(self, key: Union[int, str]) -> int:
+    def number_of(self, key: int | str) -> int:
         """The number of a database, by that or by its name. Raises IndexError or KeyError if there is none."""
         if isinstance(key, str):
             if key not in self._names:
@@ -68,7 +68,7 @@ class Databases:
         name = next((name for name, place in self._names.items() if place == number), None)
         return f"database {number}" if name is None else f"database {number} ({name})"
 
-    def placed(self, manager: str, threads: int, patience: float) -> Iterator[Tuple[Database, Place]]:
+    def placed(self, manager: str, threads: int, patience: float) -> Iterator[tuple[Database, Place]]:
         """Each database with its place at the manager of this name, in the order of their numbers."""
         for number, database in enumerate(self._all):
             yield database, Place(manager, number, threads, patience)

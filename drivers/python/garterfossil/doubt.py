@@ -4,8 +4,8 @@ from __future__ import annotations
 
 import os
 import time
+from collections.abc import Iterable, Mapping
 from dataclasses import dataclass, field, replace
-from typing import Dict, Iterable, List, Mapping, Optional, Tuple
 
 from .adapters.base import Database, Place
 from .committed import was_committed
@@ -19,7 +19,7 @@ IN_USE = "a program has it"
 YOUNG, PAUSE = 10.0, 0.3
 
 
-def objection(log: Log, xid: Xid) -> Optional[str]:
+def objection(log: Log, xid: Xid) -> str | None:
     """Why a log doesn't say how a branch of its manager ends, if so."""
     if log.fault is not None:
         return "the log can't be read"
@@ -48,14 +48,14 @@ def _log_at(configuration: Configuration, path: str) -> Log:
 class Listing:
     """What a database lists: the manager's branches there, and those of others; or why nobody knows."""
 
-    own: Tuple[Xid, ...] = ()
-    others: Tuple[Xid, ...] = ()
-    fault: Optional[str] = None
+    own: tuple[Xid, ...] = ()
+    others: tuple[Xid, ...] = ()
+    fault: str | None = None
     #: For how many seconds branches have been prepared, as far as the database tells.
-    ages: Dict[Xid, float] = field(default_factory=dict)
+    ages: dict[Xid, float] = field(default_factory=dict)
 
     @classmethod
-    def at(cls, database: Database, places: List[Place]) -> Listing:
+    def at(cls, database: Database, places: list[Place]) -> Listing:
         """What a database lists that has these places at managers."""
         place = places[0]
         try:
@@ -75,7 +75,7 @@ class Listing:
         return cls(tuple(xid for xid in found if any(place.owns(xid) for place in places)), tuple(others), ages=ages)
 
 
-def logs_of(configuration: Configuration) -> Dict[str, Log]:
+def logs_of(configuration: Configuration) -> dict[str, Log]:
     """What is in the logs of a configuration, by their paths: in one, or in that of each worker that has had one."""
     return {path: _log_at(configuration, path) for path in logs_of_workers(configuration.log)}
 
@@ -85,7 +85,7 @@ def place_of(configuration: Configuration, manager: str, rm: int) -> Place:
     return Place(manager, rm, patience=float(configuration.options.get("patience", 30.0)))
 
 
-def listings_of(configuration: Configuration, managers: Iterable[str]) -> List[Listing]:
+def listings_of(configuration: Configuration, managers: Iterable[str]) -> list[Listing]:
     """What each database lists, beside the managers of these names."""
     return [
         Listing.at(database, [place_of(configuration, manager, rm) for manager in managers])
@@ -93,7 +93,7 @@ def listings_of(configuration: Configuration, managers: Iterable[str]) -> List[L
     ]
 
 
-def settled_listings_of(configuration: Configuration, logs: Mapping[str, Log], seconds: float = YOUNG) -> List[Listing]:
+def settled_listings_of(configuration: Configuration, logs: Mapping[str, Log], seconds: float = YOUNG) -> list[Listing]:
     """The same, without what a program that has its log is about to end: what stands between its votes and its decision is listed, too. A
     branch is left out unless it has been prepared for so many seconds: where the database doesn't tell since when, it is looked at for
     as long as that."""

@@ -1,13 +1,9 @@
-"""What is raised by the driver, and where it logs."""
+"""What is raised by the driver."""
 
 from __future__ import annotations
 
-import logging
-from typing import Optional
 
 from .codes import Code
-
-log = logging.getLogger("garterfossil")
 
 #: Reasons for a rollback that are of a moment.
 PASSING = (Code.RBCOMMFAIL, Code.RBDEADLOCK, Code.RBTIMEOUT, Code.RBTRANSIENT)
@@ -23,7 +19,7 @@ class RolledBack(XaError):
 
     `is_worth_trying_again` says whether the same work may go well the next time."""
 
-    def __init__(self, text: str, database: Optional[int] = None, code: Optional[Code] = None):
+    def __init__(self, text: str, database: int | None = None, code: Code | None = None):
         super().__init__(text)
         #: The number of the database that refused it, if one did.
         self.database = database
@@ -93,7 +89,7 @@ class CoordinatorGone(XaError):
     """The coordinator has ended, or its log failed. A transaction that was not decided is rolled back by the recovery."""
 
     #: The status that its process ended with.
-    status: Optional[int] = None
+    status: int | None = None
 
 
 class LogInUse(CoordinatorGone):

@@ -4,7 +4,7 @@ from __future__ import annotations
 
 import os
 import re
-from typing import Dict, Iterator, Mapping, Optional, Tuple
+from collections.abc import Iterator, Mapping
 
 from .adapters.base import Database
 from .configuration import Configuration
@@ -13,7 +13,7 @@ from .logs import WORKER, run_log
 from .mirror import Mirrored, Tables, managers_in
 
 
-def fail_over(configuration: Configuration, only: Optional[str] = None) -> Iterator[Tuple[str, str, int]]:
+def fail_over(configuration: Configuration, only: str | None = None) -> Iterator[tuple[str, str, int]]:
     """Makes the log of each manager of a configuration that isn't here and that the mirror knows, or of the one of this name. For each
     its path, the manager's name, and how many decisions to commit it has. Raises SetupError if there is none to be made."""
     mirror = configuration.mirror
@@ -29,21 +29,22 @@ def fail_over(configuration: Configuration, only: Optional[str] = None) -> Itera
         yield here, name, len(found.decisions)
 
 
-def _wanted(pattern: str, managers: Mapping[str, str], only: Optional[str]) -> Dict[str, str]:
+def _wanted(pattern: str, managers: Mapping[str, str], only: str | None) -> dict[str, str]:
     """The logs that are to be made here, each with its manager, of those that a mirror knows with the paths of their logs. Raises
     SetupError if a log may be that of several: one of them may be at work elsewhere."""
-    wanted: Dict[str, str] = {}
+    wanted: dict[str, str] = {}
     for name, path in managers.items():
         here = _path_here(pattern, path)
         if here is None or only is not None and name != only or os.path.exists(here):
             continue
         if here in wanted:
-            raise SetupError(f"the mirror knows several managers whose log is {os.path.basename(here)}, as {wanted[here]} and {name}: give --name")
+            both = f"{wanted[here]} and {name}"
+            raise SetupError(f"the mirror knows several managers whose log is {os.path.basename(here)}, as {both}: give --name")
         wanted[here] = name
     return wanted
 
 
-def _path_here(pattern: str, path: str) -> Optional[str]:
+def _path_here(pattern: str, path: str) -> str | None:
     """Where the log is to be that lay at a path, if it is one of this pattern."""
     folder, name = os.path.split(os.path.abspath(pattern))
     parts = [re.escape(part) for part in name.split(WORKER)]

@@ -7,14 +7,16 @@ from __future__ import annotations
 import functools
 import re
 import time
-from typing import TYPE_CHECKING, Dict, List, Mapping, NamedTuple, Optional, Sequence, Set, Tuple
+from collections.abc import Mapping, Sequence
+from typing import TYPE_CHECKING, NamedTuple
 
 from .adapters.base import Connection, Options
 from .aside import side_by_side
 from .branch import Branch
 from .codes import Code
 from .coordinator import Reply
-from .errors import ConnectionLost, CoordinatorGone, Unanswered, XaError, log
+from .errors import ConnectionLost, CoordinatorGone, Unanswered, XaError
+from .logger import log
 from .outcomes import TOLD, Outcome
 from .threads import Line, Thread
 from .xid import Xid
@@ -47,7 +49,7 @@ def answer_of(connection: Connection, verb: str, xid: Xid) -> Code:
     raise ConnectionLost(f"{verb} of {xid} was answered {code.name}")
 
 
-def word_of(code: Optional[Code]) -> str:
+def word_of(code: Code | None) -> str:
     """How a call was answered, as the coordinator is told it. None if it wasn't."""
     return "lost" if code is None else str(int(code))
 
@@ -57,13 +59,13 @@ class Told(NamedTuple):
 
     outcome: Outcome
     #: Why it is rolled back, and at which database, if a branch is the reason.
-    code: Optional[Code] = None
-    rm: Optional[int] = None
+    code: Code | None = None
+    rm: int | None = None
     #: Where a branch is yet to be ended, and where the database had ended it otherwise.
     owed: Sequence[int] = ()
     mixed: Mapping[int, Code] = {}
     #: Why the coordinator didn't tell it, if so.
-    error: Optional[CoordinatorGone] = None
+    error: CoordinatorGone | None = None
 
     @classmethod
     def parse(cls, reply: str) -> Told:
@@ -81,16 +83,16 @@ class Told(NamedTuple):
 class Part:
     """A branch of a transaction, of which the calls are its hands' alone to make."""
 
-    def __init__(self, line: Line, xid: Xid, options: Options, limit: Optional[float]):
+    def __init__(self, line: Line, xid: Xid, options: Options, limit: float | None):
         self.line, self.xid = line, xid
         self.connection = line.make_ready()
         self.connection.options, self.connection.limit = options, limit
         #: What the program works with.
         self.branch = Branch(line, self.connection, xid)
         #: Why a call has no answer.
-        self.error: Optional[BaseException] = None
+        self.error: BaseException | None = None
         #: What is odd about how it ended.
-        self.oddity: Optional[str] = None
+        self.oddity: str | None = None
         # When its call was sent that is under way.
         self._sent = 0.0
 
@@ -121,7 +123,7 @@ class Part:
             self._lose(error)
             return True
 
-    def make(self, verb: str) -> Optional[Code]:
+    def make(self, verb: str) -> Code | None:
         """Makes a call: how it is answered. None if it isn't, and then the connection is given
         up."""
         try:
@@ -168,7 +170,7 @@ class Part:
             self.line.lose()
 
 
-def make_all(verb: str, parts: Sequence[Part]) -> List[Optional[Code]]:
+def make_all(verb: str, parts: Sequence[Part]) -> list[Code | None]:
     """Makes a call at each of these, side by side: the answers, in their order."""
     sent = [part.send(verb) for part in parts]
     others = [functools.partial(part.make, verb) for part, is_sent in zip(parts, sent) if not is_sent]
@@ -180,13 +182,13 @@ class Hands:
     """Those of one transaction: they join its branches, and bring it to its end."""
 
     def __init__(self, session: Session, thread: Thread, gtrid: str):
-        self.parts: Dict[int, Part] = {}
+        self.parts: dict[int, Part] = {}
         #: What is told if the coordinator ends now; None if the next session knows it.
-        self.fate: Optional[Outcome] = Outcome.ROLLED_BACK
+        self.fate: Outcome | None = Outcome.ROLLED_BACK
         self._session, self._thread, self._gtrid = session, thread, gtrid
-        self._joined: Set[int] = set()
+        self._joined: set[int] = set()
         # Where a branch was ended otherwise than it was decided, if the coordinator tells no more.
-        self._odd: Dict[int, Code] = {}
+        self._odd: dict[int, Code] = {}
         self._reply: Reply
 
     def join(self, least: int = 2) -> None:
@@ -247,7 +249,7 @@ class Hands:
             if is_over:
                 return Told(Outcome.COMMITTED)
 
-    def _understood(self, words: str, to: str) -> Tuple[Optional[Told], str, List[Part]]:
+    def _understood(self, words: str, to: str) -> tuple[Told | None, str, list[Part]]:
         """The outcome that a reply tells, or else the call, and the branches at which it is to be
         made."""
         verb, *rms = words.split(" ")
@@ -263,7 +265,7 @@ class Hands:
         except (KeyError, ValueError) as error:
             raise self._session.coordinator.not_understood(words, to) from error
 
-    def _make(self, verb: str, parts: Sequence[Part]) -> List[Optional[Code]]:
+    def _make(self, verb: str, parts: Sequence[Part]) -> list[Code | None]:
         coordinator = self._session.coordinator
         if verb == "commit":
             # Before a database hears of it.

@@ -8,16 +8,17 @@ import json
 import os
 import re
 import threading
-from typing import Any, Dict, List, Optional
+from typing import Any
 
 from .adapters.base import Connection, Database
-from .errors import SetupError, log
+from .errors import SetupError
+from .logger import log
 
 #: What is added to the log's own path, and the version of what is in the file.
 SUFFIX, VERSION = "-databases", 1
 
 
-def _see_kinds(found: Dict[str, Any]) -> None:
+def _see_kinds(found: dict[str, Any]) -> None:
     """Sees that all is there, and of its kind: it would be found later otherwise. Raises KeyError, TypeError or ValueError."""
     numbers = [found.get("incarnation", 0), *(entry["number"] for entry in found["databases"])]
     texts = [found["manager"], *(entry[key] for entry in found["databases"] for key in ("at", "identity"))]
@@ -35,10 +36,10 @@ class Identities:
         self.path = path + SUFFIX
         self._manager = manager
         self._lock = threading.Lock()
-        self._known: Dict[int, Dict[str, str]] = {}
+        self._known: dict[int, dict[str, str]] = {}
         # The number of the last session.
         self._incarnation = 0
-        self._shut: Optional[str] = None
+        self._shut: str | None = None
         found = self._read()
         #: Whether what stands beside the log is of this one.
         self.are_kept = found is not None and not is_new and found["manager"] == manager
@@ -53,11 +54,11 @@ class Identities:
             self._known = {entry["number"]: {"at": entry["at"], "identity": entry["identity"]} for entry in found["databases"]}
             self._incarnation, self._shut = found.get("incarnation", 0), found.get("shut")
 
-    def _read(self) -> Optional[Dict[str, Any]]:
+    def _read(self) -> dict[str, Any] | None:
         try:
             with open(self.path, encoding="utf-8") as it:
                 # (Where somebody has removed the last line a comma is left.)
-                found: Dict[str, Any] = json.loads(re.sub(r",\s*}\s*$", "}", it.read()))
+                found: dict[str, Any] = json.loads(re.sub(r",\s*}\s*$", "}", it.read()))
             if found["version"] != VERSION:
                 raise SetupError(f"{self.path} is of another version of the driver")
             _see_kinds(found)
@@ -88,7 +89,7 @@ class Identities:
                 self._known[number] = {"at": repr(database), "identity": found}
                 self._write()
 
-    def _other(self, number: int, label: str, database: Database, before: Dict[str, str], found: str) -> str:
+    def _other(self, number: int, label: str, database: Database, before: dict[str, str], found: str) -> str:
         with self._lock:
             places = [place for place, entry in self._known.items() if entry["identity"] == found and place != number]
         swapped = f" That one is database {places[0]} of this log: the databases have changed places." if places else ""
@@ -133,7 +134,7 @@ class Identities:
 
     def _write(self) -> None:
         """Writes the file anew, whole or not at all. Called with the lock."""
-        entries: List[Dict[str, object]] = [{"number": number, **entry} for number, entry in sorted(self._known.items())]
+        entries: list[dict[str, object]] = [{"number": number, **entry} for number, entry in sorted(self._known.items())]
         # The line of what is shut isn't the last one, so that what is left without it is JSON as well.
         shut = {} if self._shut is None else {"shut": self._shut}
         found = {"version": VERSION, **shut, "manager": self._manager, "incarnation": self._incarnation, "databases": entries}

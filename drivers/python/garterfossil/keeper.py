@@ -5,9 +5,11 @@ from __future__ import annotations
 
 import threading
 import time
-from typing import TYPE_CHECKING, Callable, Dict, Optional, Tuple
+from collections.abc import Callable
+from typing import TYPE_CHECKING
 
-from .errors import CoordinatorGone, log
+from .errors import CoordinatorGone
+from .logger import log
 from .recovery import attempt
 from .resource_manager import GLANCE, ResourceManager
 
@@ -28,7 +30,7 @@ class Keeper:
         self._session = session
         self._lock = threading.Lock()
         # By database, the thread that recovers it, and since when.
-        self._working: Dict[int, Tuple[threading.Thread, float]] = {}
+        self._working: dict[int, tuple[threading.Thread, float]] = {}
         self._is_over = False
         # When a transaction was last committed, and whether a thread waits until the session is idle after it.
         self._committed = 0.0
@@ -101,7 +103,7 @@ class Keeper:
         self._stop.set()
 
 
-def _started(name: str, work: Callable[..., None], *words: object) -> Optional[threading.Thread]:
+def _started(name: str, work: Callable[..., None], *words: object) -> threading.Thread | None:
     """A thread that works on something. None if there is none to be had now, as at the interpreter's end: whoever comes next asks again."""
     thread = threading.Thread(target=work, args=words, name=f"garterfossil {name}", daemon=True)
     try:

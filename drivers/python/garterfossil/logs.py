@@ -9,10 +9,12 @@ import secrets
 import string
 import subprocess
 import time
+from collections.abc import Iterable, Mapping, Sequence
 from dataclasses import dataclass, field
-from typing import IO, Dict, Iterable, List, Mapping, Optional, Sequence, Tuple
+from typing import IO
 
-from .errors import LogInUse, SetupError, XaError, log
+from .errors import LogInUse, SetupError, XaError
+from .logger import log
 from .xid import Xid
 
 #: What a name that nobody gave has: so many letters and digits, that no two logs have the same by chance.
@@ -49,7 +51,7 @@ class Names:
     #: The manager's, which is empty if it has none.
     manager: str = ""
     #: Those of its resource managers, in the order of their numbers. None of them if they have none.
-    rms: Tuple[str, ...] = ()
+    rms: tuple[str, ...] = ()
 
     @classmethod
     def drawn(cls, rms: Sequence[str]) -> Names:
@@ -68,11 +70,11 @@ class Log:
     #: The branches that a database ended by itself, each with how.
     heuristics: Sequence[str] = ()
     #: The names that it keeps. None, if there is no log.
-    names: Optional[Names] = None
+    names: Names | None = None
     #: Whether another program has it now, or it can't be written.
     is_in_use: bool = False
     #: Why it can't be read now.
-    fault: Optional[str] = None
+    fault: str | None = None
     #: Its path. Empty, if there is no log.
     path: str = ""
 
@@ -100,7 +102,7 @@ class Log:
 
 
 def run_log(
-    program: str, path: str, *options: str, text: str = "", seconds: Optional[float] = LONGEST_LOOK
+    program: str, path: str, *options: str, text: str = "", seconds: float | None = LONGEST_LOOK
 ) -> subprocess.CompletedProcess[str]:
     """Runs `xatm log` over the log at a path, for so many seconds at most. Raises SetupError if that can't be done."""
     try:
@@ -112,7 +114,7 @@ def run_log(
         raise SetupError(f"{program} says nothing of the log {path} for {seconds} seconds") from error
 
 
-def _printed(program: str, path: str, *options: str) -> Tuple[List[str], str]:
+def _printed(program: str, path: str, *options: str) -> tuple[list[str], str]:
     """What `xatm log` prints of the log at a path, and what it says beside it."""
     done = run_log(program, path, *options)
     if done.returncode < 0:
@@ -121,10 +123,10 @@ def _printed(program: str, path: str, *options: str) -> Tuple[List[str], str]:
     return done.stdout.splitlines(), done.stderr.strip()
 
 
-def _decisions_in(lines: Iterable[str], is_explained: bool) -> Dict[str, List[Xid]]:
+def _decisions_in(lines: Iterable[str], is_explained: bool) -> dict[str, list[Xid]]:
     """The decisions that lines tell, if they are explained with the branches that they wait for."""
-    found: Dict[str, List[Xid]] = {}
-    counts: Dict[str, int] = {}
+    found: dict[str, list[Xid]] = {}
+    counts: dict[str, int] = {}
     for line in lines:
         decided, branch = DECIDED.match(line), BRANCH.match(line)
         if decided is not None:
@@ -167,10 +169,11 @@ def see_place(path: str) -> None:
     if kind in SHARED:
         log.warning("the log %s lies on %s: nothing sees there whether a program of another machine has it too", path, kind)
     elif kind in PASSING:
-        log.warning("the log %s lies on %s, and is lost with the container or the machine: what is prepared then waits for somebody", path, kind)
+        lost = "the log %s lies on %s, and is lost with the container or the machine: what is prepared then waits for somebody"
+        log.warning(lost, path, kind)
 
 
-def _kind_of_place(folder: str) -> Optional[str]:
+def _kind_of_place(folder: str) -> str | None:
     """The kind of a folder's file system."""
     try:
         device = os.stat(folder).st_dev
@@ -197,7 +200,7 @@ def _may_be_written(path: str) -> bool:
     return all(os.access(one, os.W_OK) for one in some if os.path.exists(one))
 
 
-def names_for(kept: Log, name: Optional[str], rms: Sequence[str]) -> Names:
+def names_for(kept: Log, name: str | None, rms: Sequence[str]) -> Names:
     """The names that a coordinator is started with over a log: those that the log keeps, but for another name that is given, with which the
     log will be refused. A new log gets the given name, or if there is none, one that is drawn."""
     if kept.names is None:
@@ -205,7 +208,7 @@ def names_for(kept: Log, name: Optional[str], rms: Sequence[str]) -> Names:
     return Names(kept.names.manager if name is None else name, tuple(rms) if kept.names.rms else ())
 
 
-def free_log(path: str) -> Tuple[str, Optional[IO[bytes]]]:
+def free_log(path: str) -> tuple[str, IO[bytes] | None]:
     """The path of a log for a worker: the first number in place of `{worker}` that no other process has taken. And what is to be kept
     open as long as it is to be this one's."""
     if WORKER not in path:
@@ -222,7 +225,7 @@ def free_log(path: str) -> Tuple[str, Optional[IO[bytes]]]:
     raise LogInUse(f"all {MOST_WORKERS} logs {path} are in use by other workers")
 
 
-def logs_of_workers(path: str) -> List[str]:
+def logs_of_workers(path: str) -> list[str]:
     """The paths of the logs that workers have had, in the order of their numbers; or the one path."""
     if WORKER not in path:
         return [path]

@@ -10,8 +10,8 @@ import re
 import signal
 import threading
 import time
-from typing import TYPE_CHECKING, Any, AsyncContextManager, Callable, ContextManager, Dict, Iterator, List, Mapping, Optional, Sequence
-from typing import Tuple, TypeVar, Union
+from collections.abc import Callable, Iterator, Mapping, Sequence
+from typing import TYPE_CHECKING, Any, TypeVar
 
 from . import current
 from .adapters.base import Database, Options
@@ -19,7 +19,17 @@ from .aside import ASIDE, aside
 from .block import Block
 from .coordinator import MOST_THREADS
 from .databases import NAME, Databases
-from .errors import CoordinatorGone, LogInUse, NestedTransaction, NotNow, Overdue, SetupError, TransactionOver, XaError, log
+from .errors import (
+    CoordinatorGone,
+    LogInUse,
+    NestedTransaction,
+    NotNow,
+    Overdue,
+    SetupError,
+    TransactionOver,
+    XaError,
+)
+from .logger import log
 from .logs import free_log, is_new_log, see_place
 from .metrics import in_json, in_prometheus, of_counts, shown
 from .outcomes import Outcome, Outcomes
@@ -40,7 +50,7 @@ NO_OPTIONS = Options()
 FIRST_PAUSE, LAST_PAUSE = 0.02, 1.0
 
 
-def _see_options(name: Optional[str], threads: int, patience: float) -> None:
+def _see_options(name: str | None, threads: int, patience: float) -> None:
     if not 1 <= threads <= MOST_THREADS:
         raise ValueError(f"threads: 1 to {MOST_THREADS}, not {threads}")
     if not patience > 0:
@@ -76,17 +86,17 @@ class TransactionManager:
 
     def __init__(
         self,
-        databases: Union[Sequence[Database], Mapping[str, Database]],
-        log: "Union[str, os.PathLike[str]]",
+        databases: Sequence[Database] | Mapping[str, Database],
+        log: str | os.PathLike[str],
         *,
-        name: Optional[str] = None,
+        name: str | None = None,
         threads: int = 8,
         patience: float = 30.0,
-        timeout: Optional[float] = 300.0,
+        timeout: float | None = 300.0,
         program: str = "xatm",
-        command: Optional[Sequence[str]] = None,
-        ended: Optional[Callable[[Transaction], None]] = None,
-        mirror: Optional[Database] = None,
+        command: Sequence[str] | None = None,
+        ended: Callable[[Transaction], None] | None = None,
+        mirror: Database | None = None,
     ):
         _see_options(name, threads, patience)
         # A worker has its log as long as this is open.
@@ -97,13 +107,13 @@ class TransactionManager:
         self._ended = ended
         self._process = os.getpid()
         self._lock = threading.Lock()
-        self._session: Optional[Session] = None
+        self._session: Session | None = None
         self._name = name or ""
         # When a session was last tried in vain, and why.
         self._tried = 0.0, ""
         self._is_closed = False
         self._outcomes = Outcomes()
-        self._looks: List[Callable[[Transaction], None]] = []
+        self._looks: list[Callable[[Transaction], None]] = []
         self._start()
 
     def _start(self) -> None:
@@ -156,11 +166,11 @@ class TransactionManager:
     def transaction(
         self,
         *,
-        timeout: Union[float, None, str] = "the manager's",
-        isolation: Optional[str] = None,
+        timeout: float | None | str = "the manager's",
+        isolation: str | None = None,
         read_only: bool = False,
         independent: bool = False,
-    ) -> ContextManager[Transaction]:
+    ) -> contextlib.AbstractContextManager[Transaction]:
         """A transaction for a `with` block: it is committed at the end of the block, and rolled back if an exception
         leaves it. Raises RolledBack, OutcomeUnknown or HeuristicEnd at the end of the block.
 
@@ -170,7 +180,7 @@ class TransactionManager:
         options = Options(isolation, read_only) if isolation or read_only else NO_OPTIONS
         return Block(self, options, self._timeout if isinstance(timeout, str) else timeout, independent)
 
-    def transaction_async(self, **options: Any) -> AsyncContextManager[AsyncTransaction]:
+    def transaction_async(self, **options: Any) -> contextlib.AbstractAsyncContextManager[AsyncTransaction]:
         """A transaction for an `async with` block, with the options of `transaction`: each has a thread of its own, so that the loop
         isn't held up."""
         from .aio import transaction
@@ -207,7 +217,7 @@ class TransactionManager:
             raise ValueError(f"a gtrid has 32 hexadecimal digits: {gtrid!r}")
         return aside(lambda: self._outcomes.of(gtrid, self._current().coordinator))
 
-    def counts(self) -> Dict[str, float]:
+    def counts(self) -> dict[str, float]:
         """How many transactions have `begun` and are `open`, how many were `committed` and `rolled_back`, or are `unknown`, how many of
         them ended otherwise in a database (`heuristic`), how many ends of branches are `owed` to databases, and for how many
         `seconds` transactions were open, all together."""
@@ -217,9 +227,9 @@ class TransactionManager:
     def metrics(self, form: str = "prometheus") -> str:
         """The counts, and what stands at each database, as Prometheus reads them, or as `json`. Begins nothing, and waits for nothing."""
         session = self._session
-        counts: Dict[str, float] = {**self.counts(), "threads": self._settings.threads, "incarnation": 0, "waiting": 0}
+        counts: dict[str, float] = {**self.counts(), "threads": self._settings.threads, "incarnation": 0, "waiting": 0}
         names = self._settings.databases.names or [str(number) for number in range(len(self._settings.databases))]
-        at: List[Dict[str, float]] = [{} for _ in names]
+        at: list[dict[str, float]] = [{} for _ in names]
         if session is not None:
             at = session.standing()
             counts.update(incarnation=session.coordinator.incarnation, waiting=session.threads.waiting)
@@ -227,7 +237,7 @@ class TransactionManager:
         return in_json(shown(found)) if form == "json" else in_prometheus(found)
 
     @property
-    def current(self) -> Optional[Transaction]:
+    def current(self) -> Transaction | None:
         """The transaction in whose block the thread is, or the task of asyncio, if it is in one. A task or a thread that was started
         within a block isn't in it, unless it is so by `within`."""
         entry = current.innermost(self)
@@ -261,12 +271,12 @@ class TransactionManager:
         finally:
             current.leave(entry)
 
-    def database(self, key: Union[int, str]) -> Database:
+    def database(self, key: int | str) -> Database:
         """A database, by its place or its name."""
         databases = self._settings.databases
         return databases[databases.number_of(key)]
 
-    def close(self, patience: Optional[float] = None) -> None:
+    def close(self, patience: float | None = None) -> None:
         """Ends the coordinator, once all transactions are over. Raises Overdue if they aren't within so many seconds, or the patience: they
         are rolled back then, and nothing stays prepared at a database that can be reached. Raises XaError, and does nothing, in a
         block of a transaction. In another process than its own does nothing."""
@@ -276,7 +286,7 @@ class TransactionManager:
             raise XaError("close() in the block of a transaction: it is to be left first")
         aside(functools.partial(self._close, patience))
 
-    def _close(self, patience: Optional[float] = None) -> None:
+    def _close(self, patience: float | None = None) -> None:
         with self._lock:
             self._is_closed = True
             session, self._session = self._session, None
@@ -299,7 +309,7 @@ class TransactionManager:
         except XaError as error:
             log.warning("what open transactions left is ended by the next start: %s", error)
 
-    def close_at(self, number: int = signal.SIGTERM, patience: Optional[float] = None) -> None:
+    def close_at(self, number: int = signal.SIGTERM, patience: float | None = None) -> None:
         """Has the manager closed at a signal, as a service manager sends it to stop the program: open transactions have so many seconds
         to end, or the patience. Then the signal does what it did before. To be called by the main thread."""
         before = signal.getsignal(number)
@@ -311,7 +321,7 @@ class TransactionManager:
 
         signal.signal(number, close)
 
-    def _close_for(self, number: int, patience: Optional[float]) -> None:
+    def _close_for(self, number: int, patience: float | None) -> None:
         try:
             self._close(patience)
         except XaError as error:
@@ -338,7 +348,7 @@ class TransactionManager:
         if entry is not None and entry.is_mine and not is_independent:
             raise NestedTransaction("this thread or task has a transaction already: independent=True is for one that commits by itself")
 
-    def begin(self, is_given_up: Callable[[], bool] = lambda: False) -> Tuple[Session, Thread, str]:
+    def begin(self, is_given_up: Callable[[], bool] = lambda: False) -> tuple[Session, Thread, str]:
         """A transaction that has begun, in the session that is up, or else in the next one: with its thread and its name. No thread is
         waited for any more once it is given up."""
         until = time.monotonic() + self._settings.patience

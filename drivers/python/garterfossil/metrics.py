@@ -3,7 +3,8 @@
 from __future__ import annotations
 
 import json
-from typing import Any, Dict, Iterator, List, Mapping, NamedTuple, Sequence, Tuple, Union
+from collections.abc import Iterator, Mapping, Sequence
+from typing import Any, NamedTuple, Union
 
 Number = Union[int, float]
 
@@ -16,7 +17,7 @@ class Metric(NamedTuple):
     text: str
     #: `gauge`, or `counter` if it never goes down.
     kind: str
-    samples: Sequence[Tuple[Mapping[str, str], Number]]
+    samples: Sequence[tuple[Mapping[str, str], Number]]
 
 
 def in_prometheus(metrics: Sequence[Metric]) -> str:
@@ -42,14 +43,14 @@ def in_json(found: Any) -> str:
     return json.dumps(found, indent=1, sort_keys=True)
 
 
-def shown(metrics: Sequence[Metric]) -> Dict[str, List[Dict[str, Union[str, Number]]]]:
+def shown(metrics: Sequence[Metric]) -> dict[str, list[dict[str, str | Number]]]:
     """The same as objects: by the name of each metric its values, with their labels."""
     return {metric.name: [{**labels, "value": value} for labels, value in metric.samples] for metric in metrics}
 
 
 def of_counts(
     counts: Mapping[str, Number], manager: str, rolled_back: Mapping[str, int], databases: Sequence[Mapping[str, Any]]
-) -> List[Metric]:
+) -> list[Metric]:
     """The metrics of a manager that is at work: its counts, and what stands at each database."""
     ended = [({"outcome": name}, counts[name]) for name in ("committed", "rolled_back", "unknown")]
     reasons = [({"code": code}, count) for code, count in rolled_back.items()]

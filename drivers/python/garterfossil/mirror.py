@@ -6,13 +6,14 @@ from __future__ import annotations
 import contextlib
 import os
 import threading
+from collections.abc import Iterator, Mapping, Sequence
 from concurrent.futures import Future
 from dataclasses import dataclass
-from typing import Dict, Iterator, List, Mapping, Optional, Sequence, Set, Tuple
 
 from .adapters.base import Connection, Database, Place
 from .databases import MOST
-from .errors import ConnectionLost, CoordinatorGone, SetupError, XaError, log
+from .errors import ConnectionLost, CoordinatorGone, SetupError, XaError
+from .logger import log
 from .logs import Log, Names
 from .xid import Xid
 
@@ -38,7 +39,7 @@ class Mirrored:
     #: The transactions that are decided to commit, in their order, each with its participants.
     decisions: Mapping[str, Sequence[str]]
 
-    def lines(self) -> List[str]:
+    def lines(self) -> list[str]:
         """The lines of which `xatm log --make` makes the log."""
         lines = [f"name {self.names.manager}"] if self.names.manager else []
         lines += [f"rm {number} {rm}" for number, rm in enumerate(self.names.rms)]
@@ -53,7 +54,7 @@ class Tables:
     def __init__(self, database: Database, manager: str, patience: float):
         self._database = database
         self._place = Place(manager, MOST, 0, patience)
-        self._connection: Optional[Connection] = None
+        self._connection: Connection | None = None
 
     @contextlib.contextmanager
     def at_work(self) -> Iterator[Connection]:
@@ -99,7 +100,7 @@ class Tables:
             for table in (MANAGERS, DECISIONS):
                 connection.run(f"CREATE TABLE IF NOT EXISTS {self._database.with_exact_texts(table)}")
 
-    def insert(self, connection: Connection, rows: Sequence[Tuple[str, Sequence[Xid]]], incarnation: int) -> int:
+    def insert(self, connection: Connection, rows: Sequence[tuple[str, Sequence[Xid]]], incarnation: int) -> int:
         """Adds decisions, of which none has a row, if the manager is in this incarnation: how many, all of them or none."""
         values = " UNION ALL ".join(["SELECT %s AS gtrid, %s AS branches", *["SELECT %s, %s"] * (len(rows) - 1)])
         words = [word for gtrid, xids in rows for word in (gtrid, " ".join(map(str, sorted(xids))))]
@@ -109,7 +110,7 @@ class Tables:
         )
         return connection.run(statement, [*words, self._place.manager, incarnation]).rowcount
 
-    def incarnation(self, connection: Connection) -> Optional[int]:
+    def incarnation(self, connection: Connection) -> int | None:
         """The incarnation of the manager, which stays as it is until the transaction ends. None, if the mirror doesn't know it."""
         rows = connection.run("SELECT incarnation FROM garterfossil_manager WHERE name = %s FOR UPDATE", [self._place.manager]).rows
         return int(rows[0][0]) if rows else None
@@ -118,7 +119,7 @@ class Tables:
         """Sets the incarnation of the manager."""
         connection.run("UPDATE garterfossil_manager SET incarnation = %s WHERE name = %s", [incarnation, self._place.manager])
 
-    def decisions(self, connection: Connection) -> Dict[str, List[str]]:
+    def decisions(self, connection: Connection) -> dict[str, list[str]]:
         """The manager's transactions that are decided to commit, each with its branches."""
         rows = connection.run("SELECT gtrid, branches FROM garterfossil_decision WHERE name = %s", [self._place.manager]).rows
         return {gtrid: branches.split() for gtrid, branches in rows}
@@ -151,20 +152,22 @@ class Mirror:
 
     def __init__(self, database: Database, names: Names, path: str, patience: float):
         if not names.manager:
-            raise SetupError("a mirror is for a manager with a name, and this log keeps none: give a new log a name, once nothing is in doubt")
+            raise SetupError(
+                "a mirror is for a manager with a name, and this log keeps none: give a new log a name, once nothing is in doubt"
+            )
         self._names, self._path = names, os.path.abspath(path)
         # Decisions come by one connection, and leave by another, for which nobody waits.
         self._adding = Tables(database, names.manager, patience)
         self._removing = Tables(database, names.manager, patience)
         self._lock, self._turn, self._taking = threading.Lock(), threading.Lock(), threading.Lock()
         # Decisions that are yet to be told, and transactions whose rows may leave.
-        self._asked: List[Tuple[str, Sequence[Xid], Future[None]]] = []
-        self._left: List[str] = []
+        self._asked: list[tuple[str, Sequence[Xid], Future[None]]] = []
+        self._left: list[str] = []
         self._incarnation = 0
         # Of what the mirror holds and the log doesn't, what is surely over.
-        self._over: Set[str] = set()
+        self._over: set[str] = set()
 
-    def look(self, kept: Log, listings: Sequence[Optional[Sequence[Xid]]], is_name_drawn: bool) -> None:
+    def look(self, kept: Log, listings: Sequence[Sequence[Xid] | None], is_name_drawn: bool) -> None:
         """Looks, before the coordinator starts, whether a session may begin over the log, of which this is known, and over databases
         that list these branches. A start that is refused after that has raised the log's incarnation, and after a few of them an older log
         would pass for a newer one. Raises SetupError if the log is older than the mirror, and CoordinatorGone if the mirror can't be
@@ -193,8 +196,8 @@ class Mirror:
             )
 
     def _see_decisions(
-        self, mirrored: Mapping[str, Sequence[str]], kept: Log, listings: Sequence[Optional[Sequence[Xid]]]
-    ) -> Set[str]:
+        self, mirrored: Mapping[str, Sequence[str]], kept: Log, listings: Sequence[Sequence[Xid] | None]
+    ) -> set[str]:
         """Of what the mirror holds and the log doesn't, the transactions that are surely over: their rows left the log as they left it, and
         only the mirror wasn't told. Raises SetupError if a database still lists a branch of one: then the log is the older one."""
         over = set()
@@ -212,7 +215,7 @@ class Mirror:
                 over.add(gtrid)
         return over
 
-    def begin(self, incarnation: int, decisions: Mapping[str, Sequence[Xid]]) -> Set[str]:
+    def begin(self, incarnation: int, decisions: Mapping[str, Sequence[Xid]]) -> set[str]:
         """A session begins, over a log that has these decisions: the mirror has them then. What else it keeps: transactions that are
         decided by it alone, of which not all databases could be looked at. Raises SetupError if another machine has taken over since it
         was looked at, and CoordinatorGone if the mirror can't be had."""
@@ -265,7 +268,7 @@ class Mirror:
                         told.set_exception(error)
         mine.result()
 
-    def _add_all(self, some: Sequence[Tuple[str, Sequence[Xid]]]) -> Optional[CoordinatorGone]:
+    def _add_all(self, some: Sequence[tuple[str, Sequence[Xid]]]) -> CoordinatorGone | None:
         """Adds decisions: why nobody knows whether they are there, if so."""
         try:
             with self._adding.at_work() as connection:
@@ -275,7 +278,8 @@ class Mirror:
             error = CoordinatorGone(f"decisions can't be told to the mirror: {raised}")
             error.__cause__ = raised
             return error
-        return None if count == len(some) else CoordinatorGone("the mirror is in a later session of this manager: another machine has taken over")
+        taken = "the mirror is in a later session of this manager: another machine has taken over"
+        return None if count == len(some) else CoordinatorGone(taken)
 
     def over(self, gtrid: str) -> None:
         """Each branch of the transaction has acknowledged, or is known to be over: its row may leave, with those of some others."""
@@ -307,7 +311,7 @@ class Mirror:
             self._removing.close()
 
 
-def managers_in(database: Database, patience: float) -> Dict[str, str]:
+def managers_in(database: Database, patience: float) -> dict[str, str]:
     """The managers that a mirror knows, each with the path of its log."""
     tables = Tables(database, "", patience)
     try:

@@ -4,7 +4,8 @@ from __future__ import annotations
 
 import enum
 import threading
-from typing import TYPE_CHECKING, Counter, Dict, Set
+from collections import Counter
+from typing import TYPE_CHECKING
 
 if TYPE_CHECKING:
     from .coordinator import Coordinator
@@ -41,10 +42,10 @@ class Outcomes:
 
     def __init__(self) -> None:
         self._lock = threading.Lock()
-        self._asked: Set[str] = set()
-        self._found: Dict[str, Outcome] = {}
+        self._asked: set[str] = set()
+        self._found: dict[str, Outcome] = {}
         # What the last transactions were told, the oldest first.
-        self._told: Dict[str, Outcome] = {}
+        self._told: dict[str, Outcome] = {}
         # How many began, and ended each way; of how many a branch ended otherwise, or was found so by a recovery; for how many
         # seconds they were open; and for which reasons they were rolled back.
         self._counts = Counter(begun=0, committed=0, rolled_back=0, unknown=0, heuristic=0)
@@ -76,13 +77,13 @@ class Outcomes:
         with self._lock:
             self._counts["heuristic"] += 1
 
-    def counts(self) -> Dict[str, float]:
+    def counts(self) -> dict[str, float]:
         """The counts by their names."""
         with self._lock:
             ended = sum(self._counts[how] for how in ("committed", "rolled_back", "unknown"))
             return {**self._counts, "open": self._counts["begun"] - ended, "seconds": self._seconds}
 
-    def rolled_back(self) -> Dict[str, int]:
+    def rolled_back(self) -> dict[str, int]:
         """How many were rolled back for each reason that has a code."""
         with self._lock:
             return dict(self._codes)

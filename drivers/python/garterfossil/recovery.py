@@ -4,12 +4,14 @@ and what becomes of that."""
 from __future__ import annotations
 
 import time
-from typing import TYPE_CHECKING, Iterable, List, Optional, Set, Tuple
+from collections.abc import Iterable
+from typing import TYPE_CHECKING
 
 from .adapters.base import Connection
 from .codes import Code
-from .errors import ConnectionLost, CoordinatorGone, Overdue, SetupError, Unanswered, XaError, log
+from .errors import ConnectionLost, CoordinatorGone, Overdue, SetupError, Unanswered, XaError
 from .hands import answer_of, word_of
+from .logger import log
 from .resource_manager import GLANCE, ResourceManager
 from .xid import Call, Xid
 
@@ -20,7 +22,7 @@ if TYPE_CHECKING:
 PAGE, STUCK, PAUSE = 32, 1.0, 0.05
 
 
-def attempt(session: Session, rm: ResourceManager) -> Optional[XaError]:
+def attempt(session: Session, rm: ResourceManager) -> XaError | None:
     """Recovers a database, if that can be done now. Else why not, which is logged."""
     try:
         recover(session, rm)
@@ -75,9 +77,9 @@ class Recovery:
     def __init__(self, session: Session, rm: ResourceManager, connection: Connection, listed: Iterable[Xid]):
         self._session, self._rm, self._connection, self._listed = session, rm, connection, sorted(listed)
         #: Why something can't be ended now.
-        self.error: Optional[Exception] = None
+        self.error: Exception | None = None
         # Branches of decided transactions that aren't there any more.
-        self._missing: List[Xid] = []
+        self._missing: list[Xid] = []
 
     def run(self) -> str:
         """Does what the coordinator tells, until it says how that ended."""
@@ -92,7 +94,7 @@ class Recovery:
                 reply = ask(f"end {number} {word_of(self._made(self._call(reply)))}")
             elif verb in ("recovered", "later") or verb == "strange" and words:
                 if self._missing:
-                    how = "%s has %d branches no more that are decided to commit, as %s: an earlier session has ended them, or somebody else"
+                    how = "%s has %d branches no more that are decided to commit, as %s: an earlier session has ended them, or somebody"
                     log.warning(how, self._rm.label, len(self._missing), self._missing[0])
                 return reply
             else:
@@ -105,7 +107,7 @@ class Recovery:
         except ValueError as error:
             raise self._session.coordinator.not_understood(reply, f"a recovery of {self._rm.number}") from error
 
-    def _made(self, call: Call) -> Optional[Code]:
+    def _made(self, call: Call) -> Code | None:
         """Makes a call: how it is answered, or None. One that can't be made now is made again for a
         moment; then a commit is put off, and a rollback left out for a while, so that they hold up
         no others."""
@@ -139,7 +141,7 @@ class Recovery:
             self._session.settle([call.xid])
 
 
-def begin_anew(session: Session, rm: ResourceManager, forgotten: Set[Xid]) -> None:
+def begin_anew(session: Session, rm: ResourceManager, forgotten: set[Xid]) -> None:
     """Ends the session, once no transaction is open, since the database has forgotten in a crash
     that it rolled branches back: to the next session they are an earlier one's, and may stand
     there."""
@@ -149,7 +151,7 @@ def begin_anew(session: Session, rm: ResourceManager, forgotten: Set[Xid]) -> No
     raise CoordinatorGone(f"the session is ended: {rm.label} has forgotten the rollback of {sorted(forgotten)[0]}")
 
 
-def look(session: Session, rm: ResourceManager, connection: Connection) -> Tuple[Set[Xid], Set[Xid]]:
+def look(session: Session, rm: ResourceManager, connection: Connection) -> tuple[set[Xid], set[Xid]]:
     """What the database lists, and what of that it has forgotten in a crash, as MariaDB does: that
     this session rolled it back. Raises SetupError for what only somebody can explain, and is to
     look at: that it is over, by all that the database answered before."""
@@ -174,13 +176,13 @@ def look(session: Session, rm: ResourceManager, connection: Connection) -> Tuple
     return listed, over | earlier & rm.undone
 
 
-def _listed_at(session: Session, connection: Connection) -> Set[Xid]:
+def _listed_at(session: Session, connection: Connection) -> set[Xid]:
     """The manager's branches that the database lists."""
     with connection.timed(session.patience):
         return set(connection.listed())
 
 
-def _over(session: Session, rm: ResourceManager, listed: Set[Xid]) -> Set[Xid]:
+def _over(session: Session, rm: ResourceManager, listed: set[Xid]) -> set[Xid]:
     mine = {xid for xid in listed if xid.incarnation == session.coordinator.incarnation}
     live = session.live() if mine else set()
     return {xid for xid in mine - session.owed_at(rm) if xid.transaction not in live}

@@ -4,11 +4,11 @@ from __future__ import annotations
 
 import threading
 import time
-from typing import Dict, List, Optional, Set
 
 from .adapters.base import Connection, Database, Place
-from .errors import ConnectionLost, log
+from .errors import ConnectionLost
 from .identities import Identities
+from .logger import log
 from .xid import Call, Xid
 
 #: For so many seconds a transaction that begins waits for a recovery that it has started.
@@ -20,7 +20,7 @@ MOST_UNDONE, PUT_OFF = 10000, 10.0
 class ResourceManager:
     """A database under its number, with the connections that the session's lines have to it."""
 
-    def __init__(self, database: Database, place: Place, label: str, identities: Optional[Identities] = None):
+    def __init__(self, database: Database, place: Place, label: str, identities: Identities | None = None):
         self.place = place
         self._identities = identities
         #: What messages call it.
@@ -30,10 +30,10 @@ class ResourceManager:
         #: Held by the recovery that is under way.
         self.is_recovered = threading.Lock()
         #: The branches that this session has prepared, and that are neither ended nor owed, each with when that was.
-        self.prepared: Dict[Xid, float] = {}
+        self.prepared: dict[Xid, float] = {}
         self._database = database
         self._lock = threading.Lock()
-        self._kept: Set[int] = set()
+        self._kept: set[int] = set()
         # There may be connections of earlier drivers, and later those that lines have lost.
         self._has_strays = True
         # When it was last seen that there is no connection to be had, and why.
@@ -46,14 +46,14 @@ class ResourceManager:
         self._said = ""
         # Prepared branches that this session has rolled back, the oldest first; and those that can't be ended now, each with until when it
         # is left alone.
-        self._undone: Dict[Xid, None] = {}
-        self._put_off: Dict[Xid, float] = {}
+        self._undone: dict[Xid, None] = {}
+        self._put_off: dict[Xid, float] = {}
         # Whether the program has never had a connection to it yet, by which it could see how it keeps what it is told.
         self._is_unseen = False
         #: What was found against it before the session.
-        self.objection: Optional[Exception] = None
+        self.objection: Exception | None = None
         #: The branches of the manager that it listed then; None if nobody knows.
-        self.listed: Optional[List[Xid]] = None
+        self.listed: list[Xid] | None = None
 
     @property
     def number(self) -> int:
@@ -127,7 +127,7 @@ class ResourceManager:
         """The statement by which an operator commits a branch."""
         return self._database.by_hand(Call("xa_commit", xid))
 
-    def standing(self) -> Dict[str, float]:
+    def standing(self) -> dict[str, float]:
         """How many branches are prepared, for how many seconds the oldest is, and whether a recovery is due."""
         moments = list(self.prepared.values())
         oldest = time.monotonic() - min(moments) if moments else 0.0
@@ -164,7 +164,7 @@ class ResourceManager:
                 del self._undone[next(iter(self._undone))]
 
     @property
-    def undone(self) -> Set[Xid]:
+    def undone(self) -> set[Xid]:
         """The last of such branches. A database may list them again, after a crash."""
         with self._lock:
             return set(self._undone)
@@ -174,7 +174,7 @@ class ResourceManager:
         with self._lock:
             self._put_off[xid] = time.monotonic() + PUT_OFF
 
-    def put_off_now(self) -> Set[Xid]:
+    def put_off_now(self) -> set[Xid]:
         """The branches that a scan leaves out for a while."""
         with self._lock:
             now = time.monotonic()

@@ -5,18 +5,19 @@ from __future__ import annotations
 import functools
 import threading
 import time
+from collections.abc import Callable, Iterable, Mapping, Sequence
 from dataclasses import dataclass
-from typing import Callable, Dict, Iterable, List, Mapping, Optional, Sequence, Set, Tuple
 
 from .adapters.base import Database
 from .aside import side_by_side
 from .committed import Committed
 from .coordinator import MOST_THREADS, Coordinator, Reply, serve_command
 from .databases import Databases
-from .errors import ConnectionLost, CoordinatorGone, Overdue, SetupError, log
+from .errors import ConnectionLost, CoordinatorGone, Overdue, SetupError
 from .hands import Part, Told
 from .identities import Identities
 from .keeper import Keeper
+from .logger import log
 from .logs import Log, Names, is_new_log, log_at_rest, names_for
 from .mirror import Mirror
 from .outcomes import Outcome, Outcomes
@@ -36,20 +37,20 @@ class Settings:
     threads: int
     patience: float
     #: The manager's name, if it was given one: else it is the one that the log keeps, and a new log draws one.
-    name: Optional[str] = None
+    name: str | None = None
     program: str = "xatm"
     #: The command of the coordinator, if it is to be another one: then nobody reads the log, unless there is a mirror.
-    command: Optional[Sequence[str]] = None
+    command: Sequence[str] | None = None
     #: Where its decisions are mirrored, if they are.
-    mirror: Optional[Database] = None
+    mirror: Database | None = None
 
-    def read_log(self) -> Optional[Log]:
+    def read_log(self) -> Log | None:
         """What the log holds, which no program has; of a new one, nothing. None if nobody reads it."""
         if self.command is None or self.mirror is not None or is_new_log(self.log):
             return log_at_rest(self.program, self.log, self.patience)
         return None
 
-    def names_over(self, kept: Optional[Log]) -> Names:
+    def names_over(self, kept: Log | None) -> Names:
         """The names with which a session begins over a log that holds this."""
         if self.command is not None or kept is None:
             return Names(self.name or "", tuple(self.databases.names))
@@ -68,13 +69,13 @@ class Session:
         self.databases = settings.databases
         self.outcomes = outcomes
         # The branches whose ends are owed to databases.
-        self._owed: Set[Xid] = set()
+        self._owed: set[Xid] = set()
         self._lock = threading.Lock()
         #: Whether it has ended so that the next one ends what it couldn't.
         self.is_to_be_followed = False
         #: The transactions that the mirror says are decided, and the log doesn't know.
-        self.unknown_to_log: Set[str] = set()
-        self.mirror: Optional[Mirror] = None
+        self.unknown_to_log: set[str] = set()
+        self.mirror: Mirror | None = None
         kept, is_new = settings.read_log(), is_new_log(settings.log)
         #: The manager's name stands in front of the transaction in the coordinator's identifiers.
         self.names = settings.names_over(kept)
@@ -95,7 +96,7 @@ class Session:
         self.keeper = Keeper(self)
         self._begin(kept, is_first)
 
-    def _begin(self, kept: Optional[Log], is_first: bool) -> None:
+    def _begin(self, kept: Log | None, is_first: bool) -> None:
         """The coordinator is up: what it knows is asked for, and what was left is ended."""
         try:
             self.outcomes.find(self.coordinator)
@@ -108,7 +109,7 @@ class Session:
                 self.mirror.close()
             raise
 
-    def _look(self, settings: Settings, kept: Optional[Log], is_new: bool, is_first: bool) -> Optional[Log]:
+    def _look(self, settings: Settings, kept: Log | None, is_new: bool, is_first: bool) -> Log | None:
         """Looks at the databases, at the log and at the mirror before the coordinator starts: each start raises the log's incarnation, so
         that after some of them an older log would pass for a newer one. If the log is new, all databases have to be looked at. How a
         database is set up is said at the first start. What the log holds, if that is known."""
@@ -127,7 +128,7 @@ class Session:
             self.mirror.look(kept, [rm.listed for rm in self._rms], settings.name is None)
         return kept
 
-    def _see_log(self, kept: Optional[Log], path: str) -> None:
+    def _see_log(self, kept: Log | None, path: str) -> None:
         """Sees that a log that holds this isn't older than it was, nor than what the databases list. Raises SetupError."""
         if kept is not None:
             self.identities.see_not_older(kept.incarnation)
@@ -144,7 +145,7 @@ class Session:
             raise error
         log.warning("%s can't be used now: %s", rm.label, error)
 
-    def _take_over(self, kept: Optional[Log], is_first: bool) -> None:
+    def _take_over(self, kept: Log | None, is_first: bool) -> None:
         """Ends what earlier sessions have left in doubt."""
         decisions: Mapping[str, Sequence[Xid]] = {} if kept is None else kept.decisions
         self._owed.update(xid for xids in decisions.values() for xid in xids)
@@ -166,7 +167,7 @@ class Session:
 
     # ** transactions
 
-    def begin(self, until: float, is_given_up: Callable[[], bool]) -> Tuple[Thread, str]:
+    def begin(self, until: float, is_given_up: Callable[[], bool]) -> tuple[Thread, str]:
         """A transaction begins: its thread, and its name. A thread is waited for until this moment, or until
         nobody wants it any more. Raises Overdue; NotNow while the log is new and a database wasn't looked at; or CoordinatorGone."""
         self.see_to_recoveries()
@@ -177,7 +178,7 @@ class Session:
             self.let_go(thread)
             raise
 
-    def part(self, thread: Thread, gtrid: str, number: int) -> Tuple[Line, Xid]:
+    def part(self, thread: Thread, gtrid: str, number: int) -> tuple[Line, Xid]:
         """The line of a thread to a database, and the branch that a transaction has there."""
         return thread.lines[number], Xid.of(self.names.manager, gtrid, thread.number, number)
 
@@ -196,7 +197,7 @@ class Session:
         gtrid = xid.transaction
         return self.committed.has(gtrid) and self.coordinator.ask(f"fate {gtrid}") != "committed"
 
-    def live(self) -> Set[str]:
+    def live(self) -> set[str]:
         """The transactions that are open."""
         return {thread.gtrid for thread in self.threads.all_of_them if thread.gtrid is not None}
 
@@ -232,7 +233,7 @@ class Session:
 
     # ** recovery
 
-    def owed_at(self, rm: ResourceManager) -> Set[Xid]:
+    def owed_at(self, rm: ResourceManager) -> set[Xid]:
         """The branches whose ends are owed at a database."""
         with self._lock:
             return {xid for xid in self._owed if xid.rm == rm.number}
@@ -252,7 +253,7 @@ class Session:
             for gtrid in over:
                 self.mirror.over(gtrid)
 
-    def standing(self) -> List[Dict[str, float]]:
+    def standing(self) -> list[dict[str, float]]:
         """What stands at each database: how many ends are owed, how many branches are prepared, for how many seconds the oldest is, and
         whether a recovery is due."""
         return [{"owed": len(self.owed_at(rm)), **rm.standing()} for rm in self._rms]
@@ -264,7 +265,7 @@ class Session:
 
     # ** its end
 
-    def close(self, patience: Optional[float] = None) -> None:
+    def close(self, patience: float | None = None) -> None:
         """Ends the session, once all transactions are over. Where they aren't within so many seconds, or the patience, ends it all the same
         and raises Overdue: the next session rolls them back."""
         seconds = self.patience if patience is None else patience

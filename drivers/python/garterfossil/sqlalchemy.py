@@ -15,7 +15,8 @@ from __future__ import annotations
 import functools
 import threading
 import weakref
-from typing import Any, Callable, Dict, List, Optional, Set, Type, Union
+from collections.abc import Callable
+from typing import Any
 
 import sqlalchemy
 import sqlalchemy.event
@@ -33,7 +34,7 @@ from .manager import TransactionManager
 from .transaction import Transaction
 
 
-def create_engine(manager: TransactionManager, database: Union[int, str] = 0, **options: Any) -> sqlalchemy.engine.Engine:
+def create_engine(manager: TransactionManager, database: int | str = 0, **options: Any) -> sqlalchemy.engine.Engine:
     """An Engine at a database of the manager, by the database's place or name. Its connections are those of the transaction in
     whose block the thread is, so it gives none outside of a block (TransactionOver). `options` are those of
     sqlalchemy.create_engine, except what belongs to the pool."""
@@ -59,7 +60,7 @@ class _Sessions:
         self._lock = threading.Lock()
         self._engines: weakref.WeakKeyDictionary[sqlalchemy.engine.Engine, TransactionManager] = weakref.WeakKeyDictionary()
         self._managers: weakref.WeakSet[TransactionManager] = weakref.WeakSet()
-        self._began: weakref.WeakKeyDictionary[orm.Session, Set[object]] = weakref.WeakKeyDictionary()
+        self._began: weakref.WeakKeyDictionary[orm.Session, set[object]] = weakref.WeakKeyDictionary()
         sqlalchemy.event.listen(orm.Session, "after_transaction_create", self._note)
 
     def add_engine(self, engine: sqlalchemy.engine.Engine, manager: TransactionManager) -> None:
@@ -118,13 +119,13 @@ class _Works:
 
     def __init__(self, transaction: Transaction, branch: Branch):
         self.branch = branch
-        self._works: List[_Work] = []
+        self._works: list[_Work] = []
         self._count = 0
-        self._fault: Optional[str] = None
+        self._fault: str | None = None
         transaction.before_commit(self._require_all_over)
 
     @classmethod
-    def of(cls, transaction: Transaction, database: Union[int, str]) -> _Works:
+    def of(cls, transaction: Transaction, database: int | str) -> _Works:
         """Those of the transaction's branch at a database."""
         branch = transaction[database]
         if branch not in cls._of:
@@ -186,7 +187,7 @@ class _Connection:
 
     def __init__(self, works: _Works):
         self._works = works
-        self._work: Optional[_Work] = None
+        self._work: _Work | None = None
 
     def cursor(self, *words: Any, **options: Any) -> Any:
         if self._work is None:
@@ -227,8 +228,8 @@ class _WithinBranches:
 
     _is_set_up = True
 
-    def on_connect(self) -> Optional[Callable[[Any], None]]:
-        set_up: Optional[Callable[[Any], None]] = super().on_connect()  # type: ignore[misc]
+    def on_connect(self) -> Callable[[Any], None] | None:
+        set_up: Callable[[Any], None] | None = super().on_connect()  # type: ignore[misc]
         if set_up is None:
             return None
         return functools.partial(_set_up_once, set_up, weakref.WeakSet())
@@ -256,10 +257,10 @@ class _WithinBranches:
 class _Entry(DefaultDialect):
     """What SQLAlchemy finds under the name of a dialect within branches: it leads to that dialect."""
 
-    _dialects: Dict[str, Type[Any]] = {}
+    _dialects: dict[str, type[Any]] = {}
 
     @classmethod
-    def get_dialect_cls(cls, url: Any) -> Type[Any]:
+    def get_dialect_cls(cls, url: Any) -> type[Any]:
         """The dialect of a url."""
         return cls._dialects[url.drivername]
 

@@ -3,7 +3,7 @@
 from __future__ import annotations
 
 import re
-from typing import Dict, Iterator, Optional, Pattern
+from collections.abc import Iterator
 
 from .errors import EndRefused
 
@@ -38,14 +38,14 @@ class Texts:
     statement ends, and `comment` all of a comment. If comments `nest`, those between /* and */ are looked through apart from that. What
     `block` matches begins a block of statements, whose parts END ends; if comments nest, one END ends it all."""
 
-    def __init__(self, quoted: str, comment: str, nest: bool = False, block: Optional[str] = None):
+    def __init__(self, quoted: str, comment: str, nest: bool = False, block: str | None = None):
         self._block = None if block is None else re.compile(block, re.IGNORECASE | re.DOTALL)
-        self._comment: Pattern[str] = re.compile(comment, re.DOTALL)
+        self._comment: re.Pattern[str] = re.compile(comment, re.DOTALL)
         self._nest = nest
         # Texts of which it was seen that they end nothing, and whether what they do stays: programs say the same again and again.
-        self._seen: Dict[str, bool] = {}
+        self._seen: dict[str, bool] = {}
         nested = r"|(?P<nested>/\*)" if nest else ""
-        self._parts: Pattern[str] = re.compile(f"(?P<skipped>{quoted}|{comment}){nested}|;", re.DOTALL)
+        self._parts: re.Pattern[str] = re.compile(f"(?P<skipped>{quoted}|{comment}){nested}|;", re.DOTALL)
 
     def refuse_ends(self, text: str) -> bool:
         """Raises EndRefused if one of the statements in the text ends a transaction or begins one.
@@ -72,7 +72,7 @@ class Texts:
 
     def _statements(self, text: str) -> Iterator[str]:
         """The statements of a text, each from its first word on."""
-        begin: Optional[int] = 0
+        begin: int | None = 0
         while begin is not None:
             begin = self._first_word(text, begin)
             end = self._end(text, begin) if text.find(";", begin) >= 0 else None
@@ -89,7 +89,7 @@ class Texts:
             else:
                 return begin
 
-    def _end(self, text: str, begin: int) -> Optional[int]:
+    def _end(self, text: str, begin: int) -> int | None:
         """Where the semicolon stands that ends the statement."""
         while True:
             found = self._parts.search(text, begin)

@@ -7,11 +7,12 @@ import contextlib
 import re
 import threading
 import time
-from typing import Callable, Deque, Dict, Iterator, List, Optional, Sequence
+from collections.abc import Callable, Iterator, Sequence
 
 from .adapters.base import Connection
 from .coordinator import Coordinator, Reply
-from .errors import Overdue, log
+from .errors import Overdue
+from .logger import log
 from .resource_manager import ResourceManager
 
 #: Whoever waits looks after so many seconds whether he is still waited for.
@@ -25,7 +26,7 @@ class Line:
 
     def __init__(self, rm: ResourceManager):
         self.rm = rm
-        self.connection: Optional[Connection] = None
+        self.connection: Connection | None = None
 
     def make_ready(self) -> Connection:
         """Its connection, a new one if it has none. Raises ConnectionLost if the database can't be
@@ -71,13 +72,13 @@ class Thread:
     To the coordinator it is several threads, which it takes by turns: so what it has done with the last one needn't be told before the
     next one goes on, and the name of its next transaction is known mostly before it is asked for."""
 
-    def __init__(self, numbers: Sequence[int], lines: List[Line]):
+    def __init__(self, numbers: Sequence[int], lines: list[Line]):
         self.lines = lines
         #: The transaction that is open.
-        self.gtrid: Optional[str] = None
+        self.gtrid: str | None = None
         # By which numbers the coordinator knows it, the next one first; and the replies that tell the next transactions of these.
-        self._numbers: Deque[int] = collections.deque(numbers)
-        self._next: Dict[int, Reply] = {}
+        self._numbers: collections.deque[int] = collections.deque(numbers)
+        self._next: dict[int, Reply] = {}
 
     @property
     def number(self) -> int:

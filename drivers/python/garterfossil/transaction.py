@@ -6,14 +6,25 @@ import functools
 import os
 import threading
 import time
-from typing import TYPE_CHECKING, Callable, List, Optional, Set, Union
+from collections.abc import Callable
+from typing import TYPE_CHECKING
 
 from .adapters.base import Options
 from .aside import aside
 from .branch import Branch
 from .codes import Code
-from .errors import PASSING, ConnectionLost, HeuristicEnd, OutcomeUnknown, RolledBack, TimedOut, TransactionOver, XaError, log
+from .errors import (
+    PASSING,
+    ConnectionLost,
+    HeuristicEnd,
+    OutcomeUnknown,
+    RolledBack,
+    TimedOut,
+    TransactionOver,
+    XaError,
+)
 from .hands import Hands, Part, Told
+from .logger import log
 from .outcomes import Outcome
 from .recovery import stop
 from .threads import Thread
@@ -33,7 +44,7 @@ class Transaction:
     In a `with` block the transaction is committed at the end, and rolled back if an exception leaves the block."""
 
     def __init__(
-        self, session: Session, thread: Thread, gtrid: str, options: Options = Options(), timeout: Optional[float] = None
+        self, session: Session, thread: Thread, gtrid: str, options: Options = Options(), timeout: float | None = None
     ):
         #: Its name: 32 hexadecimal digits.
         self.gtrid = gtrid
@@ -53,16 +64,16 @@ class Transaction:
         #: Whether its thread is given back, so that nobody is in its block any more.
         self.is_let_go = False
         self._hands = Hands(session, thread, gtrid)
-        self._looks: List[Callable[[], None]] = []
+        self._looks: list[Callable[[], None]] = []
         # Why it can only be rolled back, where that isn't a branch's own matter.
-        self._fault: Optional[RolledBack] = None
+        self._fault: RolledBack | None = None
         #: Why it was rolled back, as far as that has codes.
-        self.codes: Set[Code] = set()
+        self.codes: set[Code] = set()
 
     def __repr__(self) -> str:
         return f"<Transaction {self.gtrid}, {self.outcome.value}, at {len(self._hands.parts)} databases>"
 
-    def __getitem__(self, key: Union[int, str]) -> Branch:
+    def __getitem__(self, key: int | str) -> Branch:
         """The branch at a database: by its place among those of the manager, from 0, or by its name. Raises TransactionOver
         after the end, and IndexError or KeyError if there is no such database."""
         self._require_open()
@@ -98,12 +109,12 @@ class Transaction:
     def __enter__(self) -> Transaction:
         return self
 
-    def __exit__(self, _: object, error: Optional[BaseException], __: object) -> None:
+    def __exit__(self, _: object, error: BaseException | None, __: object) -> None:
         if error is None:
             self.look_before_commit()
         aside(functools.partial(self.leave, error))
 
-    def leave(self, error: Optional[BaseException]) -> None:
+    def leave(self, error: BaseException | None) -> None:
         """Ends it, unless that was done: by a commit, or if there is an exception, by a rollback."""
         with self._steps:
             if self.outcome is not Outcome.OPEN:
@@ -189,7 +200,7 @@ class Transaction:
         go well the next time."""
         return self.outcome is Outcome.ROLLED_BACK and bool(self.codes) and all(code in PASSING for code in self.codes)
 
-    def was_left_for_a_moment(self, error: Optional[BaseException]) -> bool:
+    def was_left_for_a_moment(self, error: BaseException | None) -> bool:
         """Whether an exception that left the block is a database's own, of a reason that is of a moment, or comes from one. (At
         PostgreSQL a savepoint may have taken its statement back, so that the branch had no fault.)"""
         if self.outcome is not Outcome.ROLLED_BACK:
@@ -203,7 +214,7 @@ class Transaction:
 
     # ** why it ends
 
-    def _refusal(self) -> Optional[RolledBack]:
+    def _refusal(self) -> RolledBack | None:
         """Why it can only be rolled back, if so."""
         if self._fault is not None:
             return self._fault
@@ -216,7 +227,7 @@ class Transaction:
                 return self._reason(part, text, code)
         return None
 
-    def _code_of(self, part: Part) -> Optional[Code]:
+    def _code_of(self, part: Part) -> Code | None:
         """Why a branch can only be rolled back, if so."""
         if part.is_lost:
             return Code.RBPROTO if part.connection.is_ended_by_statement else Code.RBCOMMFAIL

@@ -8,7 +8,6 @@ import socket
 import threading
 import time
 import weakref
-from typing import Optional
 
 #: How often the watch looks, in seconds.
 TICK = 0.1
@@ -19,15 +18,15 @@ class Wire:
     has a descriptor of its own, so that it never meets another file that came to have the same number."""
 
     def __init__(self, descriptor: int):
-        self._socket: Optional[socket.socket] = socket.socket(fileno=os.dup(descriptor))
+        self._socket: socket.socket | None = socket.socket(fileno=os.dup(descriptor))
         self._poll = select.poll()
         self._poll.register(self._socket, select.POLLIN)
         self._lock = threading.Lock()
         #: The moment of the monotonic clock when what is under way has had its time. None if nothing is.
-        self.due: Optional[float] = None
+        self.due: float | None = None
         #: The moment when the branch that is at work has had its time, whether or not something is under way: it is cut off then, so
         #: that the database lets its locks go. None if there is no such branch.
-        self.limit: Optional[float] = None
+        self.limit: float | None = None
         #: Whether it was cut off.
         self.is_cut = False
         WATCH.add(self)
@@ -61,8 +60,8 @@ class Watch:
 
     def __init__(self) -> None:
         self._lock = threading.Lock()
-        self._wires: "weakref.WeakSet[Wire]" = weakref.WeakSet()
-        self._process: Optional[int] = None
+        self._wires: weakref.WeakSet[Wire] = weakref.WeakSet()
+        self._process: int | None = None
 
     def add(self, wire: Wire) -> None:
         """Looks at a wire from now on, as long as it is there."""

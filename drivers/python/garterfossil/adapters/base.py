@@ -8,9 +8,9 @@ import random
 import re
 import threading
 import time
+from collections.abc import Callable, Collection, Iterable, Iterator, Mapping, Sequence
 from dataclasses import dataclass
-from typing import Any, Callable, Collection, Dict, FrozenSet, Iterable, Iterator, List, Mapping, Optional, Sequence, Set, Tuple, TypeVar
-from typing import Union
+from typing import Any, TypeVar, Union
 
 from ..codes import Code
 from ..errors import ConnectionLost, HeuristicEnd, TransactionOver, Unanswered, XaError
@@ -27,14 +27,14 @@ Parameters = Union[Sequence[Any], Mapping[str, Any]]
 class Result:
     """What a statement gave: its rows, and how many rows it changed or found."""
 
-    rows: List[Tuple[Any, ...]]
+    rows: list[tuple[Any, ...]]
     rowcount: int
     #: The names of the columns.
     columns: Sequence[str] = ()
     #: The number that MariaDB gave to the last row by itself, if it did.
-    lastrowid: Optional[int] = None
+    lastrowid: int | None = None
 
-    def __iter__(self) -> Iterator[Tuple[Any, ...]]:
+    def __iter__(self) -> Iterator[tuple[Any, ...]]:
         return iter(self.rows)
 
 
@@ -84,7 +84,7 @@ class Options:
     """How the transactions of a branch are to run at the database."""
 
     #: One of SQL's levels of isolation. None for the database's own.
-    isolation: Optional[str] = None
+    isolation: str | None = None
     #: Whether the database is to refuse what writes.
     read_only: bool = False
 
@@ -93,7 +93,7 @@ class Options:
             raise ValueError(f"isolation: one of {', '.join(ISOLATIONS)}, not {self.isolation!r}")
 
     @property
-    def modes(self) -> List[str]:
+    def modes(self) -> list[str]:
         """SQL's words for them."""
         level = [f"ISOLATION LEVEL {self.isolation.upper()}"] if self.isolation else []
         return [*level, "READ ONLY"] if self.read_only else level
@@ -103,9 +103,9 @@ class Database(abc.ABC):
     """A database that takes part in transactions: how it is reached. Its methods may be called by any thread."""
 
     #: What is called with each new connection of the module, before anything is done on it.
-    on_connect: Optional[Callable[[Any], None]] = None
+    on_connect: Callable[[Any], None] | None = None
     #: How SQLAlchemy names its own dialect for the module that reaches the database, if it has one.
-    SQLALCHEMY: Optional[str] = None
+    SQLALCHEMY: str | None = None
     #: The end of a SELECT by which the rows of its table `m` stay as they are until the transaction ends.
     SHARED = "FOR SHARE OF m"
     #: The type of a text of so many letters at most, which is compared byte by byte.
@@ -116,7 +116,7 @@ class Database(abc.ABC):
         return re.sub(r"\{(\d+)\}", lambda found: self.EXACT_TEXT.format(found.group(1)), table)
 
     @staticmethod
-    def with_secrets(parameters: Mapping[str, Any]) -> Dict[str, Any]:
+    def with_secrets(parameters: Mapping[str, Any]) -> dict[str, Any]:
         """The keywords of a connection: a password may be a function, which is asked for it each time."""
         return {word: value() if word in ("password", "passwd") and callable(value) else value for word, value in parameters.items()}
 
@@ -153,7 +153,7 @@ class Timed:
 
     __slots__ = ("_wire", "_seconds")
 
-    def __init__(self, wire: Optional[Wire], seconds: float):
+    def __init__(self, wire: Wire | None, seconds: float):
         self._wire = None if wire is None or wire.due is not None else wire
         self._seconds = seconds
 
@@ -161,7 +161,7 @@ class Timed:
         if self._wire is not None:
             self._wire.due = time.monotonic() + self._seconds
 
-    def __exit__(self, _: object, error: Optional[BaseException], __: object) -> None:
+    def __exit__(self, _: object, error: BaseException | None, __: object) -> None:
         if self._wire is None:
             return
         self._wire.due = None
@@ -179,7 +179,7 @@ class Connection(abc.ABC):
     #: How the database reads the text of a statement.
     TEXTS: Texts
     #: What a program may read of the module's own connection, or call of it: nothing of it changes a transaction or a session.
-    SHOWN: FrozenSet[str] = frozenset()
+    SHOWN: frozenset[str] = frozenset()
     #: Whether a rollback to a savepoint takes a statement back that failed, so that the branch may be committed.
     TAKES_BACK = False
 
@@ -189,17 +189,17 @@ class Connection(abc.ABC):
         self.place = place
         #: For the next branch: how it is to run, and until which moment of the monotonic clock it may.
         self.options = Options()
-        self.limit: Optional[float] = None
+        self.limit: float | None = None
         descriptor = self._descriptor()
         self._wire = None if descriptor is None else Wire(descriptor)
         # Held while something is done on the connection: a branch that another thread has kept waits, and then isn't the one.
         self._lock = threading.RLock()
-        self._xid: Optional[Xid] = None
+        self._xid: Xid | None = None
         self._state = State.NONE
         #: Why the branch can only be rolled back, if its work failed.
-        self._fault: Optional[Code] = None
+        self._fault: Code | None = None
         #: The database's own error because of which it can, or because of which the last branch was rolled back.
-        self.reason: Optional[BaseException] = None
+        self.reason: BaseException | None = None
         #: Whether the database had a branch of the last one's identifier already.
         self.is_double = False
         #: Whether a statement of the program has ended its branch.
@@ -215,7 +215,7 @@ class Connection(abc.ABC):
         rolled back, also where the database itself would go on."""
         return self.work(self._xid, lambda: self._work(statement, parameters))
 
-    def work(self, xid: Optional[Xid], step: Callable[[], T]) -> T:
+    def work(self, xid: Xid | None, step: Callable[[], T]) -> T:
         """Does a step of the work on a branch. Raises TransactionOver, and does nothing, unless it is this branch that is active
         on the connection."""
         with self._lock:
@@ -255,7 +255,7 @@ class Connection(abc.ABC):
         if self._wire is not None:
             self._wire.close()
 
-    def is_active(self, xid: Optional[Xid]) -> bool:
+    def is_active(self, xid: Xid | None) -> bool:
         """Whether work on this branch is under way on the connection."""
         return self._state is State.ACTIVE and xid == self._xid
 
@@ -273,7 +273,7 @@ class Connection(abc.ABC):
         return self._state is not State.NONE
 
     @property
-    def fault(self) -> Optional[Code]:
+    def fault(self) -> Code | None:
         """Why the branch can only be rolled back, if its work failed."""
         return self._fault
 
@@ -343,7 +343,7 @@ class Connection(abc.ABC):
                 self._end_read(is_committed)
                 self._is_over()
 
-    def _watch(self, limit: Optional[float]) -> None:
+    def _watch(self, limit: float | None) -> None:
         """Has the connection cut off at a moment, also if nothing is under way on it then."""
         if self._wire is not None:
             self._wire.limit = limit
@@ -356,7 +356,7 @@ class Connection(abc.ABC):
     def end_those(self, find: Callable[[], Collection[int]], end: Callable[[int], object]) -> int:
         """Ends connections of the place until no more are found, for 20 seconds at most, and then
         this one: how many there were."""
-        ended: Set[int] = set()
+        ended: set[int] = set()
         until = time.monotonic() + min(20, self.place.patience)
         try:
             with self.timed(self.place.patience):
@@ -373,15 +373,15 @@ class Connection(abc.ABC):
         finally:
             self.close()
 
-    def listed(self) -> List[Xid]:
+    def listed(self) -> list[Xid]:
         """The prepared branches of the connection's own place."""
         return [xid for xid in self._listed() if self.place.owns(xid)]
 
-    def all_listed(self) -> List[Xid]:
+    def all_listed(self) -> list[Xid]:
         """The prepared branches of all places and managers."""
         return sorted(self._listed())
 
-    def is_replicated(self) -> Optional[bool]:
+    def is_replicated(self) -> bool | None:
         """Whether what the connection commits is on another machine once that is answered. None if that isn't known."""
         return None
 
@@ -389,21 +389,21 @@ class Connection(abc.ABC):
         """Makes it a connection to a mirror: it reads all that was committed before, by whichever machine, and `warnings` has what the
         database warns of."""
 
-    def warnings(self) -> List[str]:
+    def warnings(self) -> list[str]:
         """What the database has warned of since this was asked last."""
         return []
 
-    def see_durable(self) -> List[str]:
+    def see_durable(self) -> list[str]:
         """Looks at settings and tables by which the database may lose what it has voted for, or what it said is committed: what a warning
         is to say. Raises SetupError if it may do so whenever its own process is killed."""
         return []
 
-    def identity(self, kept: Optional[str]) -> Optional[str]:
+    def identity(self, kept: str | None) -> str | None:
         """What the database calls itself, which no other one does: the same as what was kept of it, if it is the same. None if it has
         nothing of the kind."""
         return None
 
-    def ages(self) -> Dict[Xid, float]:
+    def ages(self) -> dict[Xid, float]:
         """For how many seconds branches have been prepared, as far as the database tells."""
         return {}
 
@@ -413,7 +413,7 @@ class Connection(abc.ABC):
     def _close(self) -> None:
         """Closes the module's connection. Raises nothing."""
 
-    def _descriptor(self) -> Optional[int]:
+    def _descriptor(self) -> int | None:
         """The descriptor of the connection's socket, by which it is cut off if no answer comes in time. None if it isn't known: then
         the module has to see to that."""
         return None
@@ -431,7 +431,7 @@ class Connection(abc.ABC):
         """Whether an error of the module says that the connection is lost."""
         return False
 
-    def _vote_of(self, error: Exception) -> Optional[Code]:
+    def _vote_of(self, error: Exception) -> Code | None:
         """Why a branch is to be rolled back of which some work failed so. None if the error isn't the database's."""
         return None
 
@@ -490,7 +490,7 @@ def varied(seconds: float) -> float:
     return seconds * random.uniform(0.8, 1.0)
 
 
-def xids_in(texts: Iterable[str]) -> List[Xid]:
+def xids_in(texts: Iterable[str]) -> list[Xid]:
     """The identifiers that these texts spell. Others are names that somebody else gave."""
     xids = []
     for text in texts:

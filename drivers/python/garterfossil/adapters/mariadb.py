@@ -6,10 +6,12 @@ import contextlib
 import math
 import re
 import uuid
-from typing import Any, Callable, Collection, Iterable, List, Optional, Sequence, Tuple, Type
+from collections.abc import Callable, Collection, Iterable, Sequence
+from typing import Any
 
 from ..codes import Code
-from ..errors import ConnectionLost, SetupError, Unanswered, log
+from ..errors import ConnectionLost, SetupError, Unanswered
+from ..logger import log
 from ..statements import MARIADB
 from ..xid import Call, Xid
 from .base import Connection, Database, Parameters, Place, Result, varied
@@ -61,7 +63,7 @@ class MariaDB(Database):
     SHARED = "LOCK IN SHARE MODE"
     EXACT_TEXT = "varchar({}) CHARACTER SET ascii COLLATE ascii_bin"
 
-    def __init__(self, *, lock_timeout: int = 10, on_connect: Optional[Callable[[Any], None]] = None, **parameters: Any):
+    def __init__(self, *, lock_timeout: int = 10, on_connect: Callable[[Any], None] | None = None, **parameters: Any):
         if "autocommit" in parameters:
             raise ValueError("autocommit is the driver's own: a branch begins and ends its transaction")
         self.on_connect = on_connect
@@ -69,8 +71,8 @@ class MariaDB(Database):
         self._lock_timeout = lock_timeout
 
     def __repr__(self) -> str:
-        shown = {word: value for word, value in self._parameters.items() if word in ("host", "port", "unix_socket", "user", "database", "db")}
-        return f"MariaDB({', '.join(f'{word}={value!r}' for word, value in shown.items())})"
+        words = ("host", "port", "unix_socket", "user", "database", "db")
+        return f"MariaDB({', '.join(f'{word}={value!r}' for word, value in self._parameters.items() if word in words)})"
 
     def connect(self, place: Place = Place()) -> MariaDBConnection:
         connection = self._connection(place)
@@ -97,7 +99,7 @@ class MariaDB(Database):
             setattr(link, f"_{word}", self._parameters.get(word))
         return MariaDBConnection(link, self._lock_timeout, place)
 
-    def _link(self, module: Any, kind_of_error: Type[Exception], place: Place, waits: Iterable[str]) -> Any:
+    def _link(self, module: Any, kind_of_error: type[Exception], place: Place, waits: Iterable[str]) -> Any:
         """A connection of the module, of which these keywords say for how many seconds it waits."""
         seconds = max(2, math.ceil(place.patience))
         try:
@@ -120,7 +122,7 @@ class MariaDBConnection(Connection):
     def __init__(self, link: Any, lock_timeout: int, place: Place = Place()):
         super().__init__(link, place)
         # The statement whose answer is yet to be read.
-        self._sent: Optional[str] = None
+        self._sent: str | None = None
         self.number = link.thread_id()
         with self.timed(place.patience):
             self.run(f"SET innodb_lock_wait_timeout = {max(1, round(varied(lock_timeout)))}")
@@ -138,7 +140,7 @@ class MariaDBConnection(Connection):
 
         return self.link.cursor(pymysql.cursors.Cursor)
 
-    def _descriptor(self) -> Optional[int]:
+    def _descriptor(self) -> int | None:
         return int(self.link._sock.fileno())
 
     def _close(self) -> None:
@@ -164,7 +166,7 @@ class MariaDBConnection(Connection):
         # MariaDB doesn't tell capital letters from others here.
         return f"garterfossil.{self.place.manager.encode('ascii').hex()}.{self.place.number}.{slot}"
 
-    def _holders(self) -> Sequence[Optional[int]]:
+    def _holders(self) -> Sequence[int | None]:
         """The number of the connection that holds each lock of the place."""
         return self.run("SELECT " + ", ".join(f"IS_USED_LOCK('{self._lock_name(slot)}')" for slot in range(LOCKS))).rows[0]
 
@@ -183,7 +185,7 @@ class MariaDBConnection(Connection):
 
     # ** work
 
-    def _vote_of(self, error: Exception) -> Optional[Code]:
+    def _vote_of(self, error: Exception) -> Code | None:
         """MariaDB would prepare what is left of the branch, except after a deadlock."""
         if not isinstance(error, self.errors.MySQLError) or not isinstance(error.args[0], int):
             # PyMySQL's own: the server knows nothing of it.
@@ -287,10 +289,10 @@ class MariaDBConnection(Connection):
         """Of how much the server has warned in its last answer."""
         return int(self.link._result.warning_count)
 
-    def _listed(self) -> List[Xid]:
+    def _listed(self) -> list[Xid]:
         return [xid for xid in map(xid_of, self.run("XA RECOVER FORMAT='SQL'")) if xid is not None]
 
-    def see_durable(self) -> List[str]:
+    def see_durable(self) -> list[str]:
         names = ("innodb_flush_log_at_trx_commit", "innodb_doublewrite", "default_storage_engine")
         rows = self.run("SHOW GLOBAL VARIABLES WHERE Variable_name IN %s", [names]).rows
         found = {name.lower(): value for name, value in rows}
@@ -312,7 +314,7 @@ class MariaDBConnection(Connection):
             said.append("tables that keep what is rolled back: " + ", ".join(f"{name} ({engine})" for name, engine in tables))
         return said
 
-    def identity(self, kept: Optional[str]) -> Optional[str]:
+    def identity(self, kept: str | None) -> str | None:
         # What the server calls itself changes with its machine. So it is only taken where the database can't have a name of its own.
         if kept is None or not kept.startswith(SERVER):
             own = self._own_identity()
@@ -321,7 +323,7 @@ class MariaDBConnection(Connection):
         rows = self.run("SHOW GLOBAL VARIABLES LIKE 'server_uid'").rows
         return f"{SERVER} {rows[0][1]} of MariaDB" if rows else None
 
-    def _own_identity(self) -> Optional[str]:
+    def _own_identity(self) -> str | None:
         """What is in the view that the driver makes in the database at its first use. None if it can't be made: there is no database,
         or no privilege."""
         read = f"SELECT id FROM {IDENTITY}"
@@ -338,7 +340,7 @@ class MariaDBConnection(Connection):
             return None
         return str(rows[0][0]) if rows else None
 
-    def is_replicated(self) -> Optional[bool]:
+    def is_replicated(self) -> bool | None:
         return self.run("SHOW VARIABLES LIKE 'wsrep_on'").rows == [("wsrep_on", "ON")]
 
     def serve_mirror(self) -> None:
@@ -412,7 +414,7 @@ def text_in_xa(xid: Xid) -> str:
 LISTED = re.compile(r"(X?)'([^']*)'(?:,X?'([^']*)')?(?:,-?[0-9]+)?")
 
 
-def xid_of(row: Tuple[Any, ...]) -> Optional[Xid]:
+def xid_of(row: tuple[Any, ...]) -> Xid | None:
     """The identifier that a row of XA RECOVER FORMAT='SQL' lists. None if it is none of XA's, as with an empty part: then it is another
     program's."""
     found = LISTED.fullmatch(row[3])

@@ -2,7 +2,7 @@
 
 from __future__ import annotations
 
-from typing import Any, Optional
+from typing import Any
 
 from . import mariadb
 from .base import Place
@@ -39,7 +39,7 @@ class MysqlclientConnection(mariadb.MariaDBConnection):
 
         return MySQLdb
 
-    def _descriptor(self) -> Optional[int]:
+    def _descriptor(self) -> int | None:
         return int(self.link.fileno())
 
     def _plain_cursor(self) -> Any:

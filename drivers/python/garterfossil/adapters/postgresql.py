@@ -4,8 +4,9 @@ from __future__ import annotations
 
 import math
 import re
+from collections.abc import Callable, Collection
 from dataclasses import dataclass
-from typing import Any, Callable, Collection, Dict, List, Optional
+from typing import Any
 
 from ..codes import Code
 from ..errors import ConnectionLost, SetupError, Unanswered
@@ -72,7 +73,7 @@ class PostgreSQL(Database):
         *,
         name: str = "garterfossil",
         lock_timeout: float = 10.0,
-        on_connect: Optional[Callable[[Any], None]] = None,
+        on_connect: Callable[[Any], None] | None = None,
         **parameters: Any,
     ):
         for word, instead in (("application_name", "name"), ("async", "transaction_async of the manager"), ("async_", "threads")):
@@ -173,7 +174,7 @@ class PostgreSQLConnection(Connection):
         """How its transaction stands, by libpq's number (`IDLE`, `IN_ERROR`)."""
         return int(self.link.get_transaction_status())
 
-    def _descriptor(self) -> Optional[int]:
+    def _descriptor(self) -> int | None:
         return int(self.link.fileno())
 
     def _close(self) -> None:
@@ -194,7 +195,7 @@ class PostgreSQLConnection(Connection):
     # ** work
 
     @property
-    def fault(self) -> Optional[Code]:
+    def fault(self) -> Code | None:
         if self._status() != IN_ERROR:
             return None
         return self._fault or Code.RBROLLBACK
@@ -212,7 +213,7 @@ class PostgreSQLConnection(Connection):
             return str(statement.as_string(self.link))
         return super().text_of(statement)
 
-    def _vote_of(self, error: Exception) -> Optional[Code]:
+    def _vote_of(self, error: Exception) -> Code | None:
         return vote_of(error) if isinstance(error, self.errors.Error) else None
 
     def _see_branch(self) -> None:
@@ -316,11 +317,11 @@ class PostgreSQLConnection(Connection):
             # It is lost, as what uses it next finds.
             self.close()
 
-    def _listed(self) -> List[Xid]:
+    def _listed(self) -> list[Xid]:
         rows = self.run("SELECT gid FROM pg_prepared_xacts WHERE database = current_database()")
         return xids_in(gid for gid, in rows)
 
-    def see_durable(self) -> List[str]:
+    def see_durable(self) -> list[str]:
         said = [f"{name} = off: {loss}" for name, loss in LOSSES.items() if self.run(f"SHOW {name}").rows == [("off",)]]
         tables = self.run(
             "SELECT c.oid::regclass::text FROM pg_class c JOIN pg_namespace n ON n.oid = c.relnamespace"
@@ -329,7 +330,7 @@ class PostgreSQLConnection(Connection):
         names = ", ".join(str(name) for name, in tables)
         return [*said, f"tables that are UNLOGGED are empty after a crash: {names}"] if tables else said
 
-    def identity(self, kept: Optional[str]) -> Optional[str]:
+    def identity(self, kept: str | None) -> str | None:
         try:
             rows = self.run("SELECT system_identifier, oid FROM pg_control_system(), pg_database WHERE datname = current_database()").rows
         except self.errors.Error:
@@ -337,7 +338,7 @@ class PostgreSQLConnection(Connection):
             return None
         return f"the database {rows[0][1]} of the system {rows[0][0]} of PostgreSQL" if len(rows) == 1 else None
 
-    def is_replicated(self) -> Optional[bool]:
+    def is_replicated(self) -> bool | None:
         waits = self.run("SHOW synchronous_commit").rows[0][0]
         return bool(self.run("SHOW synchronous_standby_names").rows[0][0]) and waits in ("on", "remote_apply")
 
@@ -345,12 +346,12 @@ class PostgreSQLConnection(Connection):
         self.run("SET client_min_messages = warning")
         self.warnings()
 
-    def warnings(self) -> List[str]:
+    def warnings(self) -> list[str]:
         said = [" ".join(notice.split()) for notice in self.link.notices]
         self.link.notices.clear()
         return said
 
-    def ages(self) -> Dict[Xid, float]:
+    def ages(self) -> dict[Xid, float]:
         rows = self.run(
             "SELECT gid, extract(epoch FROM now() - prepared)::float8 FROM pg_prepared_xacts WHERE database = current_database()"
         )
@@ -398,6 +399,6 @@ def vote_of(error: Any) -> Code:
     return Code.RBINTEGRITY if state.startswith("23") else VOTES.get(state, Code.RBOTHER)
 
 
-def state_of(error: Any) -> Optional[str]:
+def state_of(error: Any) -> str | None:
     """The state of an error (SQLSTATE), if the server sent it: psycopg2 and psycopg have it under names of their own."""
     return getattr(error, "pgcode", None) or getattr(error, "sqlstate", None)

@@ -2,7 +2,7 @@
 
 from __future__ import annotations
 
-from typing import Any, List
+from typing import Any
 
 from . import postgresql
 from .base import Place
@@ -32,7 +32,7 @@ class PsycopgConnection(postgresql.PostgreSQLConnection):
     SHOWN = SHOWN
 
     def __init__(self, link: Any, lock_timeout: float, place: Place = Place()):
-        self._warned: List[str] = []
+        self._warned: list[str] = []
         super().__init__(link, lock_timeout, place)
 
     @property
@@ -57,7 +57,7 @@ class PsycopgConnection(postgresql.PostgreSQLConnection):
         self.run("SET client_min_messages = warning")
         self.link.add_notice_handler(lambda diagnostic: self._warned.append(str(diagnostic.message_primary)))
 
-    def warnings(self) -> List[str]:
+    def warnings(self) -> list[str]:
         said, self._warned = self._warned, []
         return said
 

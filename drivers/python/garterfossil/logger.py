@@ -1,0 +1,5 @@
+"""Where the driver says what it does."""
+
+import logging
+
+log = logging.getLogger("garterfossil")
