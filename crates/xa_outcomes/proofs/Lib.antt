@@ -2,15 +2,15 @@ mod Decided
 mod FailedRequests
 mod HeuristicEnds
 mod Lasting
-mod OneHistory
-mod Reached
+pub mod OneHistory
+pub mod Reached
 mod Recovered
 mod ServedOutcomes
-mod ServedSessions
+pub mod ServedSessions
 pub mod ServedTransactions
 mod Transactions
 mod Undecided
 mod Untold
 mod WorkedLines
 mod WorkedServed
-mod WorkedSessions
+pub mod WorkedSessions
