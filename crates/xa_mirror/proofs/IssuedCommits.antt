@@ -30,7 +30,7 @@ use Rattle.xa_outcomes.specs.Parts.{GoesOnUntold, GoesOnUntold.Goes, GoesOnUntol
 -- ** in a history
 
 -- it issues an xa_commit of a branch of the transaction, or resolves a page that lists one
-abbrev issues : Gtrid → Trace → Happening → Bool
+abbrev pub issues : Gtrid → Trace → Happening → Bool
 issues g tr (Issued l (Calls.Commit b one_phase)) = gtrid_eq b.gtrid g
 issues g tr (Resolved r) = lists_one_of g (page tr r)
 issues g tr (ResolvedOpen r) = lists_one_of g (page tr r)

@@ -1,9 +1,12 @@
 mod Copies
+mod DecisionsLeftOut
 mod FactsWithout
 mod IssuedCommits
 mod LinesWithout
+mod LostDecision
 mod MadeLogs
 mod MirroredRows
+mod OneHistory
 mod OneSession
 mod RightWithout
 mod RowsWithout

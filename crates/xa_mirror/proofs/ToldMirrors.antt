@@ -48,7 +48,7 @@ module _ {L : Type 0} (moment : L → Moment) (name : List ℕ) (g : Gtrid) wher
       by (inr here) = inr (issued_seen o kept part.told g only part.is_history
           (untold_issued part.told part.now g part.untold (failed_issued fails part.now g here)))
 
-  never_issued : (last : Option (Server L)) (f : Branch → Standing) (served : AreServed moment name last f) (whole : Trace)
+  pub never_issued : (last : Option (Server L)) (f : Branch → Standing) (served : AreServed moment name last f) (whole : Trace)
       → IsOfServed moment name last f served whole → NoCommitIssued moment name g last f served → were_issued whole g ≡ true → ⊥
   never_issued _ _ NoneYet whole is none e = true≢false (sym e ∙ ap (λ t. were_issued t g) is)
   never_issued _ _ (OneMore last from to handed o told seen now left done cut before handed_on is is_left honest may) whole (past, parts, part) none e =

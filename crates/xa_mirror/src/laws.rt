@@ -6,6 +6,7 @@ ghost use Rattle.xa_mirror.specs.MadeLogs.{MadeLogsHoldLines};
 ghost use Rattle.xa_mirror.specs.Mirrors.{AnewAgree, AnewDecisionsStand, AnewUndecidedStays};
 ghost use Rattle.xa_mirror.specs.Mirrors.{CopiesAreMirrors, CopiesMayLackARow, FailoversAgree};
 ghost use Rattle.xa_mirror.specs.Mirrors.{ParticipantsAreOver, ServedAreServedAnew, SettledAreOver};
+ghost use Rattle.xa_mirror.specs.OneHistory.{FailoversHaveOneHistory, MadeLogsHaveOneHistory};
 ghost use Rattle.xa_mirror.specs.ToldMirrors.{ToldFailoversAgree, ToldMirrorsAreMirrors};
 
 use xa_log::DecisionLog;
@@ -87,11 +88,27 @@ pub fn made_logs_hold_lines<L: DecisionLog + Drop>()
     restored_logs_hold_what_is_said();
 }
 
+/// Sessions over a log, and a session over one that was made anew of its mirror, are parts of one
+/// right history. The mirror may lack rows of transactions of which no xa_commit was issued: their
+/// decisions are left out of the history, as if the log had failed in them. It has all other rows,
+/// and the same records (`LacksOnly`).
+///
+/// - `history`: so it is of a start over such a log;
+/// - `failover`: and after a session over it, wherever branches then stand.
+pub fn made_logs_go_on<L: DecisionLog + Drop>()
+    ensures history { MadeLogsHaveOneHistory L.moment }
+    ensures failover { FailoversHaveOneHistory L.moment }
+{
+    starts_are_histories();
+    starts_find_the_log::<L>();
+    sessions_are_explained::<L>();
+    waiting_calls_are_tracked::<L>();
+}
+
 /// A decision to commit about which nothing was done may be left out of a right history: no
-/// xa_commit of a branch of the transaction was issued, no page that lists one was resolved after
-/// it, and its row didn't leave the log. Without it the history is right, leaves each branch where
-/// it stood, and has the same records and the same rows, except this one. It is as if the log had
-/// failed in it.
+/// xa_commit of a branch of the transaction was issued, and no page that lists one was resolved
+/// after it. Without it the history is right, leaves each branch where it stood, and has the same
+/// records and the same rows, except this one. It is as if the log had failed in it.
 pub fn decisions_may_be_left_out()
     ensures { DecisionsMayBeLeftOut }
 {}

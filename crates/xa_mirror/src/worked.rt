@@ -2,11 +2,11 @@
 
 ghost use Rattle.std.specs.Prelude.{IfOk, IsSomeAnd};
 ghost use Rattle.xa_log.specs.Contract.{Honestly};
-ghost use Rattle.xa_mirror.specs.WorkedFailover.{FailsOver};
+ghost use Rattle.xa_mirror.specs.WorkedFailover.{FailsOver, LosesDecision};
 ghost use Rattle.xa_server.specs.Sessions.{IsEmptyLog};
 ghost use Rattle.xa_tm.specs.Calls.{log_in};
 
-use crate::laws::{mirrors_are_there, mirrors_go_on};
+use crate::laws::{made_logs_go_on, mirrors_are_there, mirrors_go_on};
 use std::alloc::Global;
 use xa_log::DecisionLog;
 use xa_outcomes::{WorkedFault, worked_sessions};
@@ -18,6 +18,10 @@ use xa_server::Server;
 /// that has its rows, in an incarnation that isn't smaller. The one branch may stand committed, and
 /// the other prepared still, where such sessions leave them (`AreServedAnew`).
 ///
+/// If the log is lost after the first session, and the mirror never got the row, a start over a log
+/// that was made anew goes on from one right history with both branches prepared
+/// (`LosesDecision`).
+///
 /// It gives the server that is left.
 pub fn worked_failover<L: DecisionLog + Drop>(
     alloc: Global,
@@ -26,7 +30,11 @@ pub fn worked_failover<L: DecisionLog + Drop>(
     ensures fails_over { IfOk result (λ last.
         Honestly (L.moment log) (L.moment (log_in last.session.manager))
         (IsSomeAnd (L.moment log).content IsEmptyLog → FailsOver L.moment last)) }
+    ensures loses { IfOk result (λ last.
+        Honestly (L.moment log) (L.moment (log_in last.session.manager))
+        (IsSomeAnd (L.moment log).content IsEmptyLog → LosesDecision L.moment)) }
 {
+    made_logs_go_on::<L>();
     mirrors_go_on::<L>();
     mirrors_are_there();
     worked_sessions(alloc, log)

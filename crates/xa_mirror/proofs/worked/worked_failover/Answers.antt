@@ -1,3 +1,4 @@
+use Rattle.xa_mirror.proofs.LostDecision.{lost_decision}
 use Rattle.xa_mirror.specs.Mirrors.{AreServedAnew.MadeAnew, copied}
 use Rattle.std.proofs.lemmas.Result.{IfOk-weaker}
 use Rattle.xa_outcomes.specs.WorkedSessions.{first_gtrid, stand_at}
@@ -12,5 +13,9 @@ returns g c = record {
       MadeAnew left (copied n left) (stand_at first_gtrid Committed Prepared)
       (c.mirrors_go_on.ensures.one_log [] first_gtrid left (stand_at first_gtrid Committed Prepared) ((honestly order honest empty).stand.alone left leaves))
       (c.mirrors_are_there.ensures.copies (stand_at first_gtrid Committed Prepared) left n later first_gtrid))
+      c.worked_sessions.ensures.worked;
+  loses = IfOk-weaker c.worked_sessions.result _ _
+      (λ last honestly order honest empty.
+      lost_decision g.L.DecisionLog.moment last c.made_logs_go_on.ensures.history (honestly order honest empty).told)
       c.worked_sessions.ensures.worked;
 }
