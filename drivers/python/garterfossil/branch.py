@@ -114,16 +114,58 @@ class Branch:
             self._connection.is_changed = True
 
 
-class BranchCursor:
-    """A cursor of the database's module in a branch: it has all that the module's has. What it read is its own, and may be looked at
-    at any time; all else needs the branch."""
+class BranchPart:
+    """What works on a branch's connection, as a cursor of the database's module does, and what that gives, as psycopg's COPY and its
+    streams of rows: each step of it needs the branch."""
 
     _branch: Branch
-    _cursor: Any
+    _part: Any
 
-    def __init__(self, branch: Branch, cursor: Any):
+    def __init__(self, branch: Branch, part: Any):
         object.__setattr__(self, "_branch", branch)
-        object.__setattr__(self, "_cursor", cursor)
+        object.__setattr__(self, "_part", part)
+
+    def __getattr__(self, name: str) -> Any:
+        if name.startswith("_") or name in ("connection", "cursor"):
+            raise AttributeError(f"{name} of what works in a branch isn't given out")
+        value = getattr(self._part, name)
+        return self._guarded(name, value) if callable(value) else value
+
+    def _guarded(self, name: str, method: Callable[..., Any]) -> Callable[..., Any]:
+        def guarded(*words: Any, **options: Any) -> Any:
+            if name in WITH_TEXT and words:
+                self._branch._refuse_ends(words[0])
+            given = self._branch._work(lambda: method(*words, **options))
+            if given is self._part:
+                return self
+            return BranchPart(self._branch, given) if is_lazy(given) else given
+
+        return guarded
+
+    def __iter__(self) -> Iterator[Any]:
+        steps = self._branch._work(lambda: iter(self._part))
+        while True:
+            step = self._branch._work(lambda: next(steps, END))
+            if step is END:
+                return
+            yield step
+
+    def __next__(self) -> Any:
+        step = self._branch._work(lambda: next(self._part, END))
+        if step is END:
+            raise StopIteration
+        return step
+
+    def __enter__(self) -> BranchPart:
+        return BranchPart(self._branch, self._branch._work(self._part.__enter__))
+
+    def __exit__(self, *raised: Any) -> Any:
+        return self._branch._work(lambda: self._part.__exit__(*raised))
+
+
+class BranchCursor(BranchPart):
+    """A cursor of the database's module in a branch: it has all that the module's has. What it read is its own, and may be looked at
+    at any time; all else needs the branch."""
 
     def __repr__(self) -> str:
         return f"<cursor of {self._branch!r}>"
@@ -136,30 +178,10 @@ class BranchCursor:
     def close(self) -> None:
         """Closes the cursor. After the branch nothing is left to close."""
         if self._branch.is_active:
-            self._branch._work(self._cursor.close)
-
-    def __getattr__(self, name: str) -> Any:
-        if name.startswith("_"):
-            raise AttributeError(f"{name} of a cursor isn't given out")
-        value = getattr(self._cursor, name)
-        return self._guarded(name, value) if callable(value) else value
+            self._branch._work(self._part.close)
 
     def __setattr__(self, name: str, value: Any) -> None:
-        self._branch._work(lambda: setattr(self._cursor, name, value))
-
-    def _guarded(self, name: str, method: Callable[..., Any]) -> Callable[..., Any]:
-        def guarded(*words: Any, **options: Any) -> Any:
-            if name in WITH_TEXT and words:
-                self._branch._refuse_ends(words[0])
-            given = self._branch._work(lambda: method(*words, **options))
-            if given is self._cursor:
-                return self
-            return BranchPart(self._branch, given) if is_lazy(given) else given
-
-        return guarded
-
-    def __iter__(self) -> Iterator[Any]:
-        return _steps(self._branch, self._cursor)
+        self._branch._work(lambda: setattr(self._part, name, value))
 
     def __next__(self) -> Any:
         row = self.fetchone()
@@ -172,48 +194,6 @@ class BranchCursor:
 
     def __exit__(self, *_: object) -> None:
         self.close()
-
-
-class BranchPart:
-    """What a cursor gave that goes on working on the connection, as psycopg's COPY and its streams of rows do: each step of it needs
-    the branch."""
-
-    def __init__(self, branch: Branch, part: Any):
-        self._branch = branch
-        self._part = part
-
-    def __getattr__(self, name: str) -> Any:
-        if name.startswith("_") or name in ("connection", "cursor"):
-            raise AttributeError(f"{name} of what a cursor gave isn't given out")
-        value = getattr(self._part, name)
-        if not callable(value):
-            return value
-        return lambda *words, **options: self._branch._work(lambda: value(*words, **options))
-
-    def __iter__(self) -> Iterator[Any]:
-        return _steps(self._branch, self._part)
-
-    def __next__(self) -> Any:
-        step = self._branch._work(lambda: next(self._part, END))
-        if step is END:
-            raise StopIteration
-        return step
-
-    def __enter__(self) -> BranchPart:
-        return BranchPart(self._branch, self._branch._work(self._part.__enter__))
-
-    def __exit__(self, *raised: Any) -> bool:
-        return bool(self._branch._work(lambda: self._part.__exit__(*raised)))
-
-
-def _steps(branch: Branch, given: Any) -> Iterator[Any]:
-    """What something gives one after the other, each in a step of the work on a branch."""
-    steps = branch._work(lambda: iter(given))
-    while True:
-        step = branch._work(lambda: next(steps, END))
-        if step is END:
-            return
-        yield step
 
 
 def is_lazy(given: Any) -> bool:

@@ -137,12 +137,13 @@ class Interrupts(Case):
             until = time.monotonic() + 3
             while time.monotonic() < until:
                 try:
-                    signal.setitimer(signal.ITIMER_REAL, 0.0005 + 0.00001 * (met % 300))
-                    self.move(xa)
+                    try:
+                        signal.setitimer(signal.ITIMER_REAL, 0.0005 + 0.00001 * (met % 300))
+                        self.move(xa)
+                    finally:
+                        signal.setitimer(signal.ITIMER_REAL, 0)
                 except (SoftTimeLimit, garterfossil.XaError):
                     met += 1
-                finally:
-                    signal.setitimer(signal.ITIMER_REAL, 0)
             self.see_all_right(xa, "random moments")
         self.assertGreater(met, 20)
 

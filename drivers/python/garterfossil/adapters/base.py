@@ -3,6 +3,7 @@
 from __future__ import annotations
 
 import abc
+import contextlib
 import enum
 import random
 import re
@@ -33,6 +34,8 @@ class Result:
     columns: Sequence[str] = ()
     #: The number that MariaDB gave to the last row by itself, if it did.
     lastrowid: int | None = None
+    #: What PostgreSQL ended the statement with, as in `UPDATE 1`.
+    tag: str = ""
 
     def __iter__(self) -> Iterator[tuple[Any, ...]]:
         return iter(self.rows)
@@ -228,12 +231,11 @@ class Connection(abc.ABC):
 
     def _worked(self, step: Callable[[], T]) -> T:
         try:
-            done = step()
+            with self._asking():
+                done = step()
         except XaError:
             raise
         except Exception as error:
-            if self._is_lost(error):
-                raise ConnectionLost(str(error).strip()) from error
             vote = self._vote_of(error)
             if vote is not None:
                 self._fault, self.reason = vote, error
@@ -418,10 +420,31 @@ class Connection(abc.ABC):
         the module has to see to that."""
         return None
 
-    @abc.abstractmethod
+    def _plain_cursor(self) -> Any:
+        """A cursor of the module whose rows are tuples, whatever kind of cursor the program has asked for."""
+        return self.link.cursor()
+
     def run(self, statement: str, parameters: Parameters = ()) -> Result:
         """Does a statement for the program's own ends, outside of any branch. Errors of the database are raised as they are, but
         ConnectionLost where the connection is lost."""
+        with self._asking(), self._plain_cursor() as cursor:
+            cursor.execute(statement, parameters or None)
+            columns = [column[0] for column in cursor.description or ()]
+            rows = list(cursor.fetchall()) if columns else []
+            number, tag = getattr(cursor, "lastrowid", None), getattr(cursor, "statusmessage", None)
+            return Result(rows, cursor.rowcount, columns, number or None, tag or "")
+
+    @contextlib.contextmanager
+    def _asking(self) -> Iterator[None]:
+        """A block that asks the database: an error that says that the connection is lost is raised as ConnectionLost."""
+        try:
+            yield
+        except XaError:
+            raise
+        except Exception as error:
+            if self._is_lost(error):
+                raise ConnectionLost(str(error).strip()) from error
+            raise
 
     def _work(self, statement: str, parameters: Parameters) -> Result:
         """Does a statement in the branch."""

@@ -14,7 +14,7 @@ from ..errors import ConnectionLost, SetupError, Unanswered
 from ..logger import log
 from ..statements import MARIADB
 from ..xid import Call, Xid
-from .base import Connection, Database, Parameters, Place, Result, varied
+from .base import Connection, Database, Place, varied
 
 #: Errors of MariaDB by their number.
 NO_SUCH_BRANCH, IN_USE = 1397, 1440
@@ -135,7 +135,6 @@ class MariaDBConnection(Connection):
         return pymysql.err
 
     def _plain_cursor(self) -> Any:
-        """A cursor whose rows are tuples, whatever kind of cursor the program has asked for."""
         import pymysql
 
         return self.link.cursor(pymysql.cursors.Cursor)
@@ -375,28 +374,13 @@ class MariaDBConnection(Connection):
     def _xa(self, verb: str, xid: Xid, tail: str = "") -> None:
         statement = statement_of(verb, xid, tail)
         sent, self._sent = self._sent, None
-        try:
+        with self._asking():
             if sent is None:
                 self.link.query(statement)
             elif sent == statement:
                 self._read()
             else:
                 raise ConnectionLost(f"the answer to {sent} was never read")
-        except (self.errors.MySQLError, OSError) as error:
-            if self._is_lost(error):
-                raise ConnectionLost(str(error)) from error
-            raise
-
-    def run(self, statement: str, parameters: Parameters = ()) -> Result:
-        try:
-            with self._plain_cursor() as cursor:
-                cursor.execute(statement, parameters or None)
-                columns = [column[0] for column in cursor.description or ()]
-                return Result(list(cursor.fetchall()), cursor.rowcount, columns, cursor.lastrowid or None)
-        except (self.errors.MySQLError, OSError) as error:
-            if self._is_lost(error):
-                raise ConnectionLost(str(error)) from error
-            raise
 
 
 def statement_of(verb: str, xid: Xid, tail: str = "") -> str:

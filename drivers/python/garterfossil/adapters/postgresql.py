@@ -5,14 +5,13 @@ from __future__ import annotations
 import math
 import re
 from collections.abc import Callable, Collection
-from dataclasses import dataclass
 from typing import Any
 
 from ..codes import Code
 from ..errors import ConnectionLost, SetupError, Unanswered
 from ..statements import POSTGRESQL
 from ..xid import Call, Xid
-from .base import Connection, Database, Parameters, Place, Result, State, varied, xids_in
+from .base import Connection, Database, Place, State, varied, xids_in
 
 #: By the state of an error (SQLSTATE) why the branch was rolled back. All of class 23 break a constraint.
 VOTES = {
@@ -161,7 +160,6 @@ class PostgreSQLConnection(Connection):
         return psycopg2
 
     def _plain_cursor(self) -> Any:
-        """A cursor whose rows are tuples, whatever kind of cursor the program has asked for."""
         import psycopg2
 
         return self.link.cursor(cursor_factory=psycopg2.extensions.cursor)
@@ -357,18 +355,7 @@ class PostgreSQLConnection(Connection):
         )
         return {xid: float(age) for gid, age in rows for xid in xids_in([gid])}
 
-    # ** statements
-
-    def run(self, statement: str, parameters: Parameters = ()) -> Tagged:
-        try:
-            with self._plain_cursor() as cursor:
-                cursor.execute(statement, parameters or None)
-                columns = [column[0] for column in cursor.description or ()]
-                return Tagged(cursor.fetchall() if columns else [], cursor.rowcount, columns, tag=cursor.statusmessage)
-        except self.errors.Error as error:
-            if self._is_lost(error):
-                raise ConnectionLost(str(error).strip()) from error
-            raise
+    # ** its state
 
     def _is_lost(self, error: Exception) -> bool:
         """Whether the connection is lost: it is closed, or PostgreSQL says that it ends it. 57014 is of one statement that was
@@ -384,13 +371,6 @@ class PostgreSQLConnection(Connection):
 
     def _is_idle(self) -> bool:
         return self._status() == IDLE
-
-
-@dataclass(frozen=True)
-class Tagged(Result):
-    """What a statement gave, and the tag that PostgreSQL ended it with, as in `UPDATE 1`."""
-
-    tag: str = ""
 
 
 def vote_of(error: Any) -> Code:
