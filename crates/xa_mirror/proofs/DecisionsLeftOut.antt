@@ -16,6 +16,7 @@ use Rattle.xa_mirror.proofs.IssuedCommits.{issues, were_issued}
 use Rattle.xa_mirror.proofs.RightWithout.{right_without}
 use Rattle.xa_mirror.proofs.RowsWithout.{none_listed}
 use Rattle.xa_mirror.specs.HistoryWithout.{IsLeftUntouched, IsRightWithout, LeavesUntouched, history_without}
+use Rattle.xa_mirror.specs.OneHistory.{history_without_each}
 use Rattle.xa_model.proofs.ProcessLemmas.Joining.{gone_right}
 use Rattle.xa_model.proofs.ProcessLemmas.SameLogs.{records_again, rows_again, rows_without}
 use Rattle.xa_model.specs.Facts.{doubt, heuristic_rows, heuristics_changed, how_in, incarnation, lists_one_of, lists_row, log, rows_changed, standing, without}
@@ -242,6 +243,7 @@ module _ (content : StartsHaveContent) (apart : StartRowsAreApart) where
   -- a history without these decisions: a start over the log without their rows finds its log
   pub record IsLeftOut (gs : List Gtrid) (c : Content) (whole : Trace) : Type 0 where
     pub left : Trace
+    pub is : left ≡ history_without_each gs whole
     pub right : AllRight left
     pub there : (b : Branch) → standing left b ≡ standing whole b
     pub named : AllAreNamed whole → AllAreNamed left
@@ -249,7 +251,7 @@ module _ (content : StartsHaveContent) (apart : StartRowsAreApart) where
 
   pub left_out : (gs : List Gtrid) (c : Content) (whole : Trace) → AllRight whole → FindsLog whole (start_of c)
       → All (λ g. were_issued whole g ≡ false) gs → IsLeftOut gs c whole
-  left_out [] c whole right found none = record { left = whole; right = right; there = λ b. refl; named = λ n. n; found = found }
+  left_out [] c whole right found none = record { left = whole; is = refl; right = right; there = λ b. refl; named = λ n. n; found = found }
   left_out (g ∷ gs) c whole right found none =
       let this : were_issued whole g ≡ false = All-head (λ h. were_issued whole h ≡ false) g gs none in
       let others : All (λ h. were_issued (history_without g whole) h ≡ false) gs =
@@ -260,6 +262,7 @@ module _ (content : StartsHaveContent) (apart : StartRowsAreApart) where
       (found_without g c whole right this found (start_of (without_decision g c)) (raised_once content apart (without_decision g c))) others in
       record {
         left = rest.left;
+        is = rest.is;
         right = rest.right;
         there = λ b. rest.there b ∙ standing_is g whole b;
         named = λ n. rest.named (named_without g whole n);

@@ -12,7 +12,7 @@ use Rattle.xa_log.specs.Contract.{Moment}
 use Rattle.xa_mirror.proofs.DecisionsLeftOut.{IsLeftOut, found_again, left_out}
 use Rattle.xa_mirror.proofs.IssuedCommits.{were_issued}
 use Rattle.xa_mirror.proofs.ToldMirrors.{never_issued}
-use Rattle.xa_mirror.specs.OneHistory.{FailoversHaveOneHistory, LacksOnly, MadeLogsHaveOneHistory}
+use Rattle.xa_mirror.specs.OneHistory.{FailoversHaveOneHistory, HaveHistoryAnew, LacksOnly, MadeLogsHaveOneHistory}
 use Rattle.xa_mirror.specs.ToldMirrors.{NoCommitIssued}
 use Rattle.xa_model.proofs.AgreementLemmas.Alike.{undone_no_row}
 use Rattle.xa_model.proofs.ProcessLemmas.Joining.{gone_right}
@@ -29,6 +29,7 @@ use Rattle.xa_monitor.specs.Standings.{Comes}
 use Rattle.xa_outcomes.proofs.OneHistory.{committed_by}
 use Rattle.xa_outcomes.proofs.Reached.{IsOneHistory, goes_on, reached}
 use Rattle.xa_outcomes.proofs.ServedSessions.{GoesOnFrom, all_on}
+use Rattle.xa_outcomes.specs.Parts.{IsPart}
 use Rattle.xa_server.proofs.Failures.{IsFailedToHear, failed_in_answer, failed_in_request}
 use Rattle.xa_server.proofs.LeftLogs.{raised_once, start_of}
 use Rattle.xa_server.proofs.LogLemmas.{same_keeps}
@@ -50,21 +51,21 @@ module _ (whole : Trace) (right : AllRight whole) (f : Branch → Standing) (the
   gone_so : AllRight (gone whole)
   gone_so = gone_right whole right
 
-  committed_so : (b : Branch) → f b ≡ Committed → (ever whole b.gtrid ≡ true) ⊎ (handed_over whole b.gtrid ≡ true)
+  pub committed_so : (b : Branch) → f b ≡ Committed → (ever whole b.gtrid ≡ true) ⊎ (handed_over whole b.gtrid ≡ true)
   committed_so b e = by (committed_by (gone whole) gone_so b (there b ∙ ap broken e))
     where
       by : (had_row whole b.gtrid ≡ true) ⊎ (handed_over whole b.gtrid ≡ true) → (ever whole b.gtrid ≡ true) ⊎ (handed_over whole b.gtrid ≡ true)
       by (inl had) = inl (or_right (adds_row (doubt whole) b.gtrid) (had_row whole b.gtrid) had)
       by (inr handed) = inr handed
 
-  undone_so : (b : Branch) → IsUndone (f b) → ever whole b.gtrid ≡ false
+  pub undone_so : (b : Branch) → IsUndone (f b) → ever whole b.gtrid ≡ false
   undone_so b u = undone_no_row (gone whole) b gone_so (subst IsUndone (sym (there b)) (still (f b) u))
     where
       still : (s : Standing) → IsUndone s → IsUndone (broken s)
       still s (inl e) = inl (ap broken e)
       still s (inr e) = inr (ap broken e)
 
-  pub one_history : (next : Origin) → FindsLog whole next → HasOneHistory f next
+  abbrev pub one_history : (next : Origin) → FindsLog whole next → HasOneHistory f next
   one_history next found = record {
     whole = whole;
     right = right;
@@ -149,18 +150,31 @@ module _ {L : Type 0} (moment : L → Moment) (laws : Laws L) (content : StartsH
         may_fail = may_fail;
       }
 
-      all_of : (kept : Seen) (fails : Option Fault) → Is_session o kept fails → (done cut : List Line)
-          → MayAllStand o kept (λ b. Comes kept b (broken (f b))) done cut to → Finds (LeftBy o kept fails) next → HasOneHistory to next
-      all_of kept fails session done cut may finds =
+      abbrev All_of : Seen → Type 0
+      All_of seen = HaveHistoryAnew moment name last f served gs o told seen to next
+
+      all_of : (seen kept : Seen) → (kept ≡ told) ⊎ (kept ≡ seen) → (fails : Option Fault) → Is_session o kept fails → (done cut : List Line)
+          → MayAllStand o kept (λ b. Comes kept b (broken (f b))) done cut to → Finds (LeftBy o kept fails) next → All_of seen
+      all_of seen kept is_kept fails session done cut may finds =
           let all = goes_on l.left l.right (l.named m.named) f to there o finds_left kept fails session done cut may in
-          one_history all.whole all.right to all.there next (all.finds next finds)
+          record {
+            history = one_history all.whole all.right to all.there next (all.finds next finds);
+            before = m.whole;
+            parts = on.parts m.whole m.parts;
+            session = record {
+              kept = kept;
+              is_kept = is_kept;
+              fails = fails;
+              part = subst (λ past. IsPart o kept fails past all.whole) l.is all.part;
+            };
+          }
 
       -- in an answer: what the next start finds is what was left after it, or before it, with the
       -- call under way
       in_answer : (t r : ℕ) (code : Code) (call : Call) → known_waiting now.session.lines t r ≡ Some call → IsFailedToHear t r code call now left
           → (done cut : List Line)
           → MayAllStand o (Answered told (line t r) call (Ret code)) (λ b. Comes (Answered told (line t r) call (Ret code)) b (broken (f b))) done cut to
-          → HasOneHistory to next
+          → All_of (Answered told (line t r) call (Ret code))
       in_answer t r code call waits failed done cut may = either (found.finds e next (subst (λ k. IsTied true k (Some e)) failed.book is_tied) from_e)
         where
           found : IsFailedAnswer o told now.session (line t r) call (Ret code)
@@ -185,22 +199,25 @@ module _ {L : Type 0} (moment : L → Moment) (laws : Laws L) (content : StartsH
               (goes_on l.left l.right (l.named m.named) f to there o finds_left (Answered told (line t r) call (Ret code)) None answered done cut may).explained
               (λ b. broken (f b)) done cut to may
 
-          either : Finds (LeftBy o (Answered told (line t r) call (Ret code)) None) next ⊎ Finds (LeftBy o told None) next → HasOneHistory to next
-          either (inl finds) = all_of (Answered told (line t r) call (Ret code)) None answered done cut may finds
-          either (inr finds) = all_of told None (session None tt) (done ++ line t r ∷ []) cut before finds
+          either : Finds (LeftBy o (Answered told (line t r) call (Ret code)) None) next ⊎ Finds (LeftBy o told None) next
+              → All_of (Answered told (line t r) call (Ret code))
+          either (inl finds) =
+              all_of (Answered told (line t r) call (Ret code)) (Answered told (line t r) call (Ret code)) (inr refl) None answered done cut may finds
+          either (inr finds) =
+              all_of (Answered told (line t r) call (Ret code)) told (inl refl) None (session None tt) (done ++ line t r ∷ []) cut before finds
 
     one_more : (to : Branch → Standing) (handed : L) (o : Origin) (told seen : Seen) (now left : Server L) (done cut : List Line) → HoldsLeft moment d handed
         → IsSession moment name handed o told now → IsSessionLeft moment told now seen left → (moment (log_in left.session.manager)).is_honest
         → MayAllStand o seen (λ b. Comes seen b (broken (f b))) done cut to → (e : Content) → LeavesContent moment left.session.manager e
-        → (next : Origin) → IsRaisedFrom e next → HasOneHistory to next
+        → (next : Origin) → IsRaisedFrom e next → HaveHistoryAnew moment name last f served gs o told seen to next
     one_more to handed o told _ now _ done cut has is AfterLine honest may e leaves next from_e =
         let keeps = same_keeps moment now now refl in
-        all_of to handed o told now has is now keeps honest e leaves next from_e told None
+        all_of to handed o told now has is now keeps honest e leaves next from_e told told (inl refl) None
         (session to handed o told now has is now keeps honest e leaves next from_e None tt) done cut may
         (laws.left o told now.session e next is.tracks (is_tied to handed o told now has is now keeps honest e leaves next from_e) from_e)
     one_more to handed o told _ now _ done cut has is (InRequest request left asks performs) honest may e leaves next from_e =
         let failed = failed_in_request moment laws.decision laws.settlement laws.done o told now left is.tracks request asks performs in
-        all_of to handed o told now has is left performs.keeps honest e leaves next from_e told (Some failed.fault)
+        all_of to handed o told now has is left performs.keeps honest e leaves next from_e told told (inl refl) (Some failed.fault)
         (session to handed o told now has is left performs.keeps honest e leaves next from_e (Some failed.fault) failed.step.may_fail) done cut may
         (failed.step.finds e next
         (subst (λ k. IsTied true k (Some e)) failed.book (is_tied to handed o told now has is left performs.keeps honest e leaves next from_e)) from_e)

@@ -88,13 +88,14 @@ pub fn made_logs_hold_lines<L: DecisionLog + Drop>()
     restored_logs_hold_what_is_said();
 }
 
-/// Sessions over a log, and a session over one that was made anew of its mirror, are parts of one
-/// right history. The mirror may lack rows of transactions of which no xa_commit was issued: their
+/// There is one right history of sessions over a log and of one over a log that was made anew of
+/// its mirror. The mirror may lack rows of transactions of which no xa_commit was issued: their
 /// decisions are left out of the history, as if the log had failed in them. It has all other rows,
 /// and the same records (`LacksOnly`).
 ///
-/// - `history`: so it is of a start over such a log;
-/// - `failover`: and after a session over it, wherever branches then stand.
+/// - `history`: a start over such a log goes on from one right history of the sessions before;
+/// - `failover`: a session over it is the last part of one, wherever branches then stand. Before it
+///   comes the history of the others, without those decisions.
 pub fn made_logs_go_on<L: DecisionLog + Drop>()
     ensures history { MadeLogsHaveOneHistory L.moment }
     ensures failover { FailoversHaveOneHistory L.moment }
