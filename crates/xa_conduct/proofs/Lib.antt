@@ -3,6 +3,7 @@ pub mod AskedLines
 pub mod BackingLemmas
 pub mod ConductLemmas
 pub mod DecidedLemmas
+pub mod FirstWords
 pub mod MoveLemmas
 pub mod NotStuckLemmas
 pub mod PlainLemmas

@@ -199,10 +199,11 @@ tells_names asked noted now t text names tells =
     let within : t < length noted = subst (λ (n : ℕ). t < n) names.0 tells.among in
     record {
       transaction = tells.transaction;
+      next = tells.next;
       among = within;
       name = tells.name ∙ names.1 tells.transaction within;
       rests = tells.rests;
-      tells = tells.tells;
+      is = tells.is;
     }
 
 pub told_names : (asked : (Request → Bool) → Bool) (noted now : List Transaction) (reply : Reply) (text : List ℕ)
@@ -220,12 +221,12 @@ reply_to : (asked : (Request → Bool) → Bool) (noted : List Transaction) (thr
     → IsOfThread thread reply → IsToldBy asked noted reply text → IsReply asked noted thread text
 reply_to asked noted thread (replies.Thread t) text of told =
     subst (λ (o : Option ℕ). IsReply asked noted o text) (sym of)
-    (elim told [ inl tells ↦ inl tells | inr error ↦ inr (inr error) ])
-reply_to asked noted thread (replies.Started t g) text of told = subst (λ (o : Option ℕ). IsReply asked noted o text) (sym of) (inr (inl told))
-reply_to asked noted None replies.NoMove text of told = told
-reply_to asked noted (Some t) replies.NoMove text of told = inr (inr told)
-reply_to asked noted None replies.NotNow text of told = told
-reply_to asked noted (Some t) replies.NotNow text of told = inr (inr told)
+    (elim told [ inl tells ↦ inl tells | inr error ↦ inr (inr (inr error)) ])
+reply_to asked noted thread (replies.Started t g) text of told = subst (λ (o : Option ℕ). IsReply asked noted o text) (sym of) (inr (inl (g, told)))
+reply_to asked noted None replies.NoMove text of told = inl told
+reply_to asked noted (Some t) replies.NoMove text of told = inr (inr (inl told))
+reply_to asked noted None replies.NotNow text of told = inr told
+reply_to asked noted (Some t) replies.NotNow text of told = inr (inr (inr told))
 
 -- the thread of the move is the one that the part of the line names
 of_part : (part : List ℕ) (asked : Option Move) (reply : Reply) → IsReadOf part asked → IsReplyOf asked reply → IsOfThread (thread_in part) reply

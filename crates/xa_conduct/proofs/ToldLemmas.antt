@@ -1,61 +1,63 @@
 -- Texts that go on, and what they tell.
-use Rattle.std.proofs.Common.{◌≡◌, ◌∙◌, ℕ, ◌<◌, Bool, true, false, List, [], ◌∷◌, ◌++◌, ap, append-nil, append_assoc, get_or, inl, length, refl, sym}
-use Rattle.std.specs.Prelude.{MatchBool}
+use Rattle.std.proofs.Common.{◌≡◌, ◌∙◌, ℕ, ◌<◌, zero, suc, Bool, true, false, List, [], ◌∷◌, ◌++◌, Option, Some, None, ap, ap₂, append_assoc, arith, get_or, inl, length, refl, sym, take}
+use Rattle.std.proofs.lemmas.Bool.{or_parts}
+use Rattle.std.specs.List.{find, list_any}
+use Rattle.std.specs.Prelude.{if◌then◌else◌}
+use Rattle.xa_base.specs.declared.branch.Gtrid.{Gtrid}
 use Rattle.xa_requests.specs.declared.request.Request.{Request}
 use Rattle.xa_conduct.specs.Backing.{TransactionRests}
-use Rattle.xa_conduct.specs.Over.{has_calls}
-use Rattle.xa_conduct.specs.Told.{AddsText, HasFirst, IsBehindWord, IsToldBy, TellsCall, TellsOf, joined_replies, standing_word}
+use Rattle.xa_conduct.specs.Over.{has_calls, is_decided}
+use Rattle.xa_conduct.specs.Texts.{begun_text, calls_text, outcome_text, standing_text, told_text}
+use Rattle.xa_conduct.specs.Told.{AddsText, IsToldBy, joined_replies}
 use Rattle.xa_conduct.specs.declared.notes.Reply.TheVariants as replies
 use Rattle.xa_conduct.specs.declared.part.Part.{Part}
 use Rattle.xa_conduct.specs.declared.transaction.Transaction.{Transaction}
 
-behind_both : (xs ys : List ℕ) → IsBehindWord xs → IsBehindWord ys → IsBehindWord (xs ++ ys)
-behind_both [] ys one other = other
-behind_both (x ∷ xs) ys one other = one
+-- the first that passes
+pub find_here : (p : Part → Bool) (parts : List Part) (k : ℕ) (d : Part) → k < length parts → list_any p (take k parts) ≡ false
+    → p (get_or parts k d) ≡ true → find p parts ≡ Some (get_or parts k d)
+find_here p [] k d within none is = absurd (omega (arith, within))
+find_here p (part ∷ parts) zero d within none is = rw is refl
+find_here p (part ∷ parts) (suc k) d within none is =
+    let before = or_parts (p part) (list_any p (take k parts)) none in
+    let inside : k < length parts = omega (arith, within) in
+    rw before.0 (find_here p parts k d inside before.1 is)
+
+pub find_none : (p : Part → Bool) (parts : List Part) → list_any p parts ≡ false → find p parts ≡ None
+find_none p [] none = refl
+find_none p (part ∷ parts) none =
+    let all = or_parts (p part) (list_any p parts) none in
+    rw all.0 (find_none p parts all.1)
 
 -- one addition behind the other
-adds_both : (a b c xs ys : List ℕ) → b ≡ a ++ xs → c ≡ b ++ ys → c ≡ a ++ (xs ++ ys)
+pub adds_both : (a b c xs ys : List ℕ) → b ≡ a ++ xs → c ≡ b ++ ys → c ≡ a ++ (xs ++ ys)
 adds_both a b c xs ys one other = other ∙ ap (λ z. z ++ ys) one ∙ append_assoc a xs ys
 
-pub adds_none : (a : List ℕ) → AddsText IsBehindWord a a
-adds_none a = ([], sym (append-nil a), tt)
+-- what is told: calls; or if there are none, the outcome; or if there is none, that branches began
+abbrev chosen : Transaction → (has_calls is_decided : Bool) → List ℕ
+chosen t has_calls is_decided = if has_calls then calls_text t.parts.items else if is_decided then outcome_text t else standing_text t.standing
 
-pub adds_behind : (a b c : List ℕ) → AddsText IsBehindWord a b → AddsText IsBehindWord b c → AddsText IsBehindWord a c
-adds_behind a b c one other = (one.0 ++ other.0, adds_both a b c one.0 other.0 one.1 other.1, behind_both one.0 other.0 one.2 other.2)
+told_chosen : (t : Transaction) → told_text t ≡ chosen t (has_calls t) (is_decided t.standing)
+unfolding told_text
+told_chosen t = refl
 
-pub first_behind : (word xs ys : List ℕ) → HasFirst word xs → IsBehindWord ys → HasFirst word (xs ++ ys)
-first_behind word xs ys first behind = record {
-  rest = first.rest ++ ys;
-  is = ap (λ z. z ++ ys) first.is ∙ append_assoc word first.rest ys;
-  parted = behind_both first.rest ys first.parted behind;
-}
+pub told_calls : (t : Transaction) → has_calls t ≡ true → told_text t ≡ calls_text t.parts.items
+told_calls t calls = told_chosen t ∙ ap (λ (b : Bool). chosen t b (is_decided t.standing)) calls
 
--- ** one transaction
+pub told_outcome : (t : Transaction) → has_calls t ≡ false → is_decided t.standing ≡ true → told_text t ≡ outcome_text t
+told_outcome t none decided = told_chosen t ∙ ap₂ (chosen t) none decided
 
-tells_or : (b : Bool) (branches : List Part) (word xs ys : List ℕ) → MatchBool b (TellsCall branches xs) (HasFirst word xs) → IsBehindWord ys
-    → MatchBool b (TellsCall branches (xs ++ ys)) (HasFirst word (xs ++ ys))
-tells_or true branches word xs ys tells behind = record {
-  part = tells.part;
-  among = tells.among;
-  asked = tells.asked;
-  first = first_behind _ xs ys tells.first behind;
-}
-tells_or false branches word xs ys tells behind = first_behind word xs ys tells behind
+pub told_standing : (t : Transaction) → has_calls t ≡ false → is_decided t.standing ≡ false → told_text t ≡ standing_text t.standing
+told_standing t none undecided = told_chosen t ∙ ap₂ (chosen t) none undecided
 
--- what is told of the transaction that is noted of a thread, and words behind it
-pub told_thread : (asked : (Request → Bool) → Bool) (noted : List Transaction) (thread : ℕ) (t : Transaction) (a b c : List ℕ) → thread < length noted
-    → t.gtrid ≡ (get_or noted thread t).gtrid → TransactionRests asked t → AddsText (TellsOf t) a b → AddsText IsBehindWord b c
+-- what is told of the transaction that is noted of a thread, and the name of the next one behind it
+pub told_thread : (asked : (Request → Bool) → Bool) (noted : List Transaction) (thread : ℕ) (t : Transaction) (next : Option Gtrid) (a b c : List ℕ)
+    → thread < length noted → t.gtrid ≡ (get_or noted thread t).gtrid → TransactionRests asked t → b ≡ a ++ told_text t → c ≡ b ++ begun_text t next
     → AddsText (IsToldBy asked noted (replies.Thread thread)) a c
-told_thread asked noted thread t a b c among name rests told behind = (
-  told.0 ++ behind.0,
-  adds_both a b c told.0 behind.0 told.1 behind.1,
-  inl (record {
-    transaction = t;
-    among = among;
-    name = name;
-    rests = rests;
-    tells = tells_or (has_calls t) t.parts.items (standing_word t.standing) told.0 behind.0 told.2 behind.2;
-  }),
+told_thread asked noted thread t next a b c among name rests told begun = (
+  told_text t ++ begun_text t next,
+  adds_both a b c (told_text t) (begun_text t next) told begun,
+  inl (record { transaction = t; next = next; among = among; name = name; rests = rests; is = refl }),
 )
 
 -- ** one reply behind the other

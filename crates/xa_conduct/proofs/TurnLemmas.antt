@@ -7,7 +7,7 @@ use Rattle.std.proofs.lemmas.List.Sums.{sum_by-le}
 use Rattle.std.specs.List.{list_any, sum_by}
 use Rattle.std.specs.Prelude.{MatchBool}
 use Rattle.xa_conduct.proofs.ProgressLemmas.{all_step_both, one_at_most, steps_both, steps_none}
-use Rattle.xa_conduct.proofs.ToldLemmas.{joined_more}
+use Rattle.xa_conduct.proofs.ToldLemmas.{adds_both, joined_more}
 use Rattle.xa_conduct.specs.Over.{is_decided, is_all_answered}
 use Rattle.xa_conduct.specs.Places.{is_asked, steps_at}
 use Rattle.xa_conduct.specs.Progress.{AllStep, Steps, branch_steps, moves_taken, steps_made, steps_of, steps_to}
@@ -30,12 +30,11 @@ said_push [] (y ∷ ys) reply text all one = absurd all
 said_push (r ∷ rs) [] reply text all one = absurd all
 said_push (r ∷ rs) (y ∷ ys) reply text all one = (all.0, said_push rs ys reply text all.1 one)
 
--- what is told of a transaction, and words behind it
-pub said_thread : {P Q : List ℕ → Type 0} (thread : ℕ) (reply : Reply) (a b c : List ℕ) → reply ≡ replies.Thread thread → AddsText P a b → AddsText Q b c
+-- what is told of a transaction, and behind it
+pub said_thread : (thread : ℕ) (reply : Reply) (a b c xs ys : List ℕ) → reply ≡ replies.Thread thread → b ≡ a ++ xs → c ≡ b ++ ys
     → AddsText (IsSaid reply) a c
-said_thread thread reply a b c is told behind =
-    subst (λ (r : Reply). AddsText (IsSaid r) a c) (sym is)
-    (told.0 ++ behind.0, behind.1 ∙ ap (λ z. z ++ behind.0) told.1 ∙ append_assoc a told.0 behind.0, tt)
+said_thread thread reply a b c xs ys is told behind =
+    subst (λ (r : Reply). AddsText (IsSaid r) a c) (sym is) (xs ++ ys, adds_both a b c xs ys told behind, tt)
 
 -- a part and others, of so many replies
 pub record SaysSome (told : List Reply) (text : List ℕ) : Type 0 where

@@ -18,5 +18,6 @@ pub mod Progress
 pub mod RecoveriesEnd
 pub mod Refusals
 pub mod RowsLeave
+pub mod Texts
 pub mod Told
 pub mod Turns

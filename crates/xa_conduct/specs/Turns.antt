@@ -5,7 +5,8 @@ use Rattle.xa_log.specs.Contract.{Moment}
 use Rattle.xa_conduct.specs.Conducting.{MovesNone}
 use Rattle.xa_conduct.specs.Over.{is_all_answered}
 use Rattle.xa_conduct.specs.Progress.{AllStep, is_start, moves_taken}
-use Rattle.xa_conduct.specs.Told.{HasFirst, joined_replies}
+use Rattle.xa_conduct.specs.Texts.{started_text}
+use Rattle.xa_conduct.specs.Told.{joined_replies}
 use Rattle.xa_conduct.specs.declared.conductor.Conductor.{Conductor}
 use Rattle.xa_conduct.specs.declared.notes.Reply.{Reply}
 use Rattle.xa_conduct.specs.declared.notes.Reply.TheVariants as replies
@@ -14,12 +15,12 @@ use Rattle.xa_conduct.specs.declared.transaction.Transaction.{Transaction}
 
 -- ** the reply to a line
 
--- The text of a reply: where no move was taken, or a thread's first transaction began, its first word says so.
+-- The text of a reply: where no move was taken, or a thread's first transaction began, it says so.
 abbrev pub IsSaid : Reply → List ℕ → Type 0
 IsSaid (replies.Thread t) text = Unit {0}
-IsSaid (replies.Started t g) text = HasFirst (codes "started") text
-IsSaid replies.NoMove text = HasFirst (codes "error") text
-IsSaid replies.NotNow text = HasFirst (codes "error") text
+IsSaid (replies.Started t g) text = text ≡ started_text g
+IsSaid replies.NoMove text = text ≡ codes "error not a move"
+IsSaid replies.NotNow text = text ≡ codes "error not now"
 
 abbrev pub AreSaid : List Reply → List (List ℕ) → Type 0
 AreSaid [] [] = Unit {0}

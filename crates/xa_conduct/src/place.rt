@@ -3,7 +3,7 @@
 ghost use Rattle.std.specs.Prelude.{◌≡◌};
 ghost use Rattle.xa_conduct.specs.NotStuck.{may_be_undone};
 ghost use Rattle.xa_conduct.specs.Places.{is_asked};
-ghost use Rattle.xa_conduct.specs.Told.{verb_at};
+ghost use Rattle.xa_conduct.specs.Texts.{verb_at};
 
 /// How far a branch has come: which of its calls wait on its line, and so, which one its driver was told to make.
 #[derive(Clone, Copy, Debug, PartialEq, Eq)]

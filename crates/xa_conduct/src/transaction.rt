@@ -1,9 +1,9 @@
 //! The transaction of a thread, and how far it has come. Nothing here touches the server: what is to be asked of it goes
 //! into a plan.
 
-ghost use Rattle.std.specs.Prelude.{◌≡◌, ◌<◌, ◌≤◌, ◌-◌, Bool, true, false, IfOk, IfSome, None};
+ghost use Rattle.std.specs.Prelude.{◌≡◌, ◌<◌, ◌≤◌, ◌-◌, Bool, true, false, IfOk};
 ghost use Rattle.std.specs.Prelude.{ℕ, length, nat_lt, if◌then◌else◌};
-ghost use Rattle.std.specs.List.{Contains, list_all, list_any};
+ghost use Rattle.std.specs.List.{list_all, list_any};
 ghost use Rattle.xa_conduct.specs.Backing.{KeepAllBacked, KeepsResting, TransactionRests, branch_at_rm};
 ghost use Rattle.xa_conduct.specs.Backing.{standing_once_heard};
 ghost use Rattle.xa_conduct.specs.Decided.{AsksNoLess, CommitIsAsked, is_for, is_rollback_of};
@@ -13,6 +13,7 @@ ghost use Rattle.xa_conduct.specs.Over.{has_calls, has_left, has_spare_row, is_d
 ghost use Rattle.xa_conduct.specs.Places.{is_asked};
 ghost use Rattle.xa_conduct.specs.Progress.{IsBegun, Steps, are_working, branch_steps, is_asked_in};
 ghost use Rattle.xa_conduct.specs.Progress.{is_part_at, is_new_at, steps_to};
+ghost use Rattle.xa_conduct.specs.Texts.{first_verb};
 ghost use Rattle.xa_conduct.specs.declared.transaction.Standing.TheVariants as Standings;
 ghost use Rattle.xa_requests.specs.declared.request.Request.{Request};
 
@@ -275,18 +276,16 @@ impl Transaction {
         self.parts.iter().any(|part| part.place.is_asked())
     }
 
-    /// The first branch of which a call was told that is yet to be answered.
-    pub fn first_asked(&self) -> Option<Part>
-        ensures among { IfSome result (Contains self.now.parts.items) }
-        ensures asked { IfSome result (λ part. is_asked part.place ≡ true) }
-        ensures none { result ≡ None → has_calls self.now ≡ false }
+    /// The call that was told and is yet to be answered, of the first branch that has one.
+    pub fn first_verb(&self) -> &'static str
+        ensures { result.now ≡ first_verb self.now.parts.items }
     {
         for part in self.parts.as_slice() {
             if part.place.is_asked() {
-                return Some(*part);
+                return part.place.verb();
             }
         }
-        None
+        ""
     }
 
     /// Whether it has an outcome.
@@ -307,7 +306,7 @@ impl Transaction {
     }
 
     /// Whether the end of a branch is left to the recovery.
-    fn has_left(&self) -> bool
+    pub fn has_left(&self) -> bool
         ensures { result ≡ has_left self.now }
     {
         self.parts.iter().any(|part| part.is_owed())

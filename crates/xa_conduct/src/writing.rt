@@ -1,8 +1,10 @@
 //! What a driver is told.
 
-ghost use Rattle.std.specs.Prelude.{◌≡◌, true, IfOk, string_bytes};
-ghost use Rattle.xa_conduct.specs.Over.{has_calls};
-ghost use Rattle.xa_conduct.specs.Told.{AddsText, HasFirst, IsBehindWord, TellsCall, TellsOf, standing_word};
+ghost use Rattle.std.specs.List.{flat_map, list_any};
+ghost use Rattle.std.specs.Prelude.{◌≡◌, ◌++◌, codes, OnOk, string_bytes};
+ghost use Rattle.xa_conduct.specs.Texts.{asked_at, calls_text, end_text, is_against, is_mixed};
+ghost use Rattle.xa_conduct.specs.Texts.{mixed_text, next_text, owed_text, spaced, standing_text};
+ghost use Rattle.xa_conduct.specs.Texts.{told_text, why_text};
 
 use crate::part::Part;
 use crate::transaction::{Standing, Transaction};
@@ -12,8 +14,7 @@ use xa_base::{Gtrid, How, Memory, RbCode};
 /// Adds a number.
 #[tactic(auto, using(xa_files::proofs::Pieces::four_pieces))]
 fn add_number(text: &mut String, alloc: Global, number: u32) -> Result<(), Memory>
-    ensures { IfOk result (λ _.
-        AddsText IsBehindWord (string_bytes text.old) (string_bytes text.new)) }
+    ensures { OnOk result (string_bytes text.new ≡ string_bytes text.old ++ spaced number) }
 {
     let word = format!(in alloc; " {number}")?;
     text.push_str(word.as_str())?;
@@ -22,22 +23,18 @@ fn add_number(text: &mut String, alloc: Global, number: u32) -> Result<(), Memor
 
 /// Adds the calls that are to be made next. They have one verb: calls of two kinds never wait at a time.
 fn add_calls(text: &mut String, alloc: Global, transaction: &Transaction) -> Result<(), Memory>
-    requires { has_calls transaction.now ≡ true }
-    ensures { IfOk result (λ _. AddsText (TellsCall transaction.now.parts.items)
-        (string_bytes text.old) (string_bytes text.new)) }
+    ensures { OnOk result
+        (string_bytes text.new ≡ string_bytes text.old ++ calls_text transaction.now.parts.items) }
 {
-    let Some(first) = transaction.first_asked() else {
-        return Ok(());
-    };
-    text.push_str(first.place.verb())?;
+    text.push_str(transaction.first_verb())?;
     add_asked(text, alloc, transaction)?;
     Ok(())
 }
 
 /// Adds the resource managers of the branches that were told a call.
 fn add_asked(text: &mut String, alloc: Global, transaction: &Transaction) -> Result<(), Memory>
-    ensures { IfOk result (λ _.
-        AddsText IsBehindWord (string_bytes text.old) (string_bytes text.new)) }
+    ensures { OnOk result (string_bytes text.new
+        ≡ string_bytes text.old ++ flat_map asked_at transaction.now.parts.items) }
 {
     for part in transaction.parts.as_slice() {
         if part.place.is_asked() {
@@ -49,8 +46,8 @@ fn add_asked(text: &mut String, alloc: Global, transaction: &Transaction) -> Res
 
 /// Adds how it stands.
 fn add_standing(text: &mut String, alloc: Global, standing: Standing) -> Result<(), Memory>
-    ensures { IfOk result (λ _. AddsText (HasFirst (standing_word standing))
-        (string_bytes text.old) (string_bytes text.new)) }
+    ensures { OnOk result
+        (string_bytes text.new ≡ string_bytes text.old ++ standing_text standing) }
 {
     match standing {
         Standing::Idle | Standing::Open | Standing::Ready => {
@@ -76,8 +73,7 @@ fn add_standing(text: &mut String, alloc: Global, standing: Standing) -> Result<
 /// Adds why it was rolled back and at which resource manager, if a branch is the reason.
 #[tactic(auto, using(xa_files::proofs::Pieces::four_pieces))]
 fn add_why(text: &mut String, alloc: Global, why: Option<(RbCode, u32)>) -> Result<(), Memory>
-    ensures { IfOk result (λ _.
-        AddsText IsBehindWord (string_bytes text.old) (string_bytes text.new)) }
+    ensures { OnOk result (string_bytes text.new ≡ string_bytes text.old ++ why_text why) }
 {
     let Some((code, rm)) = why else {
         return Ok(());
@@ -88,84 +84,81 @@ fn add_why(text: &mut String, alloc: Global, why: Option<(RbCode, u32)>) -> Resu
     Ok(())
 }
 
-/// Whether a branch ended by itself against what was decided.
-fn is_mixed(how: How, standing: Standing) -> bool {
+/// Whether to end by itself so is against how the transaction stands.
+fn is_against(how: How, standing: Standing) -> bool
+    ensures { result ≡ is_against standing how }
+{
     match (how, standing) {
         (How::Com, Standing::Committed) | (How::Rb, Standing::RolledBack(_)) => false,
         _ => true,
     }
 }
 
-/// Adds the branches whose end is left to the recovery, and those that ended otherwise.
-fn add_parts(text: &mut String, alloc: Global, transaction: &Transaction) -> Result<(), Memory>
-    ensures { IfOk result (λ _.
-        AddsText IsBehindWord (string_bytes text.old) (string_bytes text.new)) }
+/// Whether a branch ended by itself against how the transaction stands.
+fn is_mixed(part: &Part, standing: Standing) -> bool
+    ensures { result ≡ is_mixed standing part.now }
 {
-    add_owed(text, alloc, transaction)?;
-    add_mixed(text, alloc, transaction)?;
-    Ok(())
+    match part.alone {
+        Some(how) => is_against(how, standing),
+        None => false,
+    }
 }
 
-/// Adds a word, unless it was added before.
-fn add_once(text: &mut String, is_first: bool, word: &str) -> Result<(), Memory>
-    requires { IsBehindWord word.now }
-    ensures { IfOk result (λ _.
-        AddsText IsBehindWord (string_bytes text.old) (string_bytes text.new)) }
+/// Whether one of the branches did.
+fn has_mixed(transaction: &Transaction) -> bool
+    ensures { result ≡ list_any (is_mixed transaction.now.standing) transaction.now.parts.items }
 {
-    if !is_first {
-        return Ok(());
-    }
-    text.push_str(word)?;
-    Ok(())
+    transaction
+        .parts
+        .iter()
+        .any(|part| is_mixed(part, transaction.standing))
 }
 
 /// Adds the branches whose end is left to the recovery.
 fn add_owed(text: &mut String, alloc: Global, transaction: &Transaction) -> Result<(), Memory>
-    ensures { IfOk result (λ _.
-        AddsText IsBehindWord (string_bytes text.old) (string_bytes text.new)) }
+    ensures { OnOk result
+        (string_bytes text.new ≡ string_bytes text.old ++ owed_text transaction.now) }
 {
-    let mut is_first = true;
+    if !transaction.has_left() {
+        return Ok(());
+    }
+    text.push_str(" owed")?;
     for part in transaction.parts.as_slice() {
         if part.is_owed() {
-            add_once(text, is_first, " owed")?;
-            is_first = false;
             add_number(text, alloc, part.rm)?;
         }
     }
     Ok(())
 }
 
-/// How a branch ended by itself, if that is against what was decided.
-fn mixed_end(part: &Part, standing: Standing) -> Option<How> {
-    match part.alone {
-        Some(how) if is_mixed(how, standing) => Some(how),
-        _ => None,
-    }
-}
-
 /// Adds the branches that ended otherwise than was decided.
 fn add_mixed(text: &mut String, alloc: Global, transaction: &Transaction) -> Result<(), Memory>
-    ensures { IfOk result (λ _.
-        AddsText IsBehindWord (string_bytes text.old) (string_bytes text.new)) }
+    ensures { OnOk result
+        (string_bytes text.new ≡ string_bytes text.old ++ mixed_text transaction.now) }
 {
-    let mut is_first = true;
+    if !has_mixed(transaction) {
+        return Ok(());
+    }
+    text.push_str(" mixed")?;
     for part in transaction.parts.as_slice() {
-        if let Some(how) = mixed_end(part, transaction.standing) {
-            add_once(text, is_first, " mixed")?;
-            is_first = false;
-            add_end(text, alloc, part.rm, how)?;
+        if is_mixed(part, transaction.standing) {
+            add_end(text, alloc, part)?;
         }
     }
     Ok(())
 }
 
-/// Adds how a branch at a resource manager ended by itself.
+/// Adds the resource manager of a branch that ended by itself, and how it did.
 #[tactic(auto, using(xa_files::proofs::Pieces::four_pieces))]
-fn add_end(text: &mut String, alloc: Global, rm: u32, how: How) -> Result<(), Memory>
-    ensures { IfOk result (λ _.
-        AddsText IsBehindWord (string_bytes text.old) (string_bytes text.new)) }
+fn add_end(text: &mut String, alloc: Global, part: &Part) -> Result<(), Memory>
+    ensures { OnOk result
+        (string_bytes text.new ≡ string_bytes text.old ++ end_text part.now.rm part.now.alone) }
 {
+    let Some(how) = part.alone else {
+        return Ok(());
+    };
     let number = how.number();
+    let rm = part.rm;
     let word = format!(in alloc; " {rm} {number}")?;
     text.push_str(word.as_str())?;
     Ok(())
@@ -173,8 +166,7 @@ fn add_end(text: &mut String, alloc: Global, rm: u32, how: How) -> Result<(), Me
 
 /// Adds the name of the thread's next transaction.
 pub(crate) fn add_next(text: &mut String, alloc: Global, gtrid: Gtrid) -> Result<(), Memory>
-    ensures { IfOk result (λ _.
-        AddsText IsBehindWord (string_bytes text.old) (string_bytes text.new)) }
+    ensures { OnOk result (string_bytes text.new ≡ string_bytes text.old ++ next_text gtrid) }
 {
     let name = gtrid.text(alloc)?;
     text.push_str(" next ")?;
@@ -188,8 +180,8 @@ pub(crate) fn add_told(
     alloc: Global,
     transaction: &Transaction,
 ) -> Result<(), Memory>
-    ensures { IfOk result (λ _. AddsText (TellsOf transaction.now)
-        (string_bytes text.old) (string_bytes text.new)) }
+    ensures { OnOk result
+        (string_bytes text.new ≡ string_bytes text.old ++ told_text transaction.now) }
 {
     if transaction.is_asked() {
         add_calls(text, alloc, transaction)?;
@@ -197,7 +189,8 @@ pub(crate) fn add_told(
     }
     add_standing(text, alloc, transaction.standing)?;
     if transaction.has_outcome() {
-        add_parts(text, alloc, transaction)?;
+        add_owed(text, alloc, transaction)?;
+        add_mixed(text, alloc, transaction)?;
     }
     Ok(())
 }

@@ -12,6 +12,7 @@ use Rattle.xa_base.specs.declared.call.Call.TheVariants as Calls
 use Rattle.xa_base.specs.declared.state.Standing.{Standing}
 use Rattle.xa_base.specs.declared.step.Outcome.{Outcome}
 use Rattle.xa_base.specs.declared.step.Outcome.TheVariants as outcomes
+use Rattle.xa_conduct.proofs.FirstWords.{TellsCall, TellsOf, error_first, reply_first, start_first}
 use Rattle.xa_conduct.proofs.MoveLemmas.{paired_weaker}
 use Rattle.xa_conduct.specs.Acting.{done_by, done_of, is_done}
 use Rattle.xa_conduct.specs.Backing.{IsBacked, OutcomeRests, TransactionRests, WasAtOnce, asks_at_once, branch_at_rm, is_backed, says_committed, says_rolled_back, loses, tells_code}
@@ -21,7 +22,8 @@ use Rattle.xa_conduct.specs.Outcomes.{IsDecisionOf, OutcomesAreTrue, SaysDecided
 use Rattle.xa_conduct.specs.Over.{has_calls}
 use Rattle.xa_conduct.specs.Places.{is_asked}
 use Rattle.xa_conduct.specs.Plain.{is_gtrid}
-use Rattle.xa_conduct.specs.Told.{HasFirst, IsReply, IsReplyTo, TellsCall, TellsOf, TellsSo, joined_replies, verb_at, standing_word}
+use Rattle.xa_conduct.specs.Texts.{standing_word, verb_at}
+use Rattle.xa_conduct.specs.Told.{HasFirst, IsReply, IsReplyTo, TellsSo, joined_replies}
 use Rattle.xa_conduct.specs.declared.place.Place.{Place}
 use Rattle.xa_conduct.specs.declared.place.Place.TheVariants.{Working, Preparing, AtOnce, Prepared, Committing, RollingBack, Undoing, Refusing, Forgetting, Over, Owed}
 use Rattle.xa_conduct.specs.declared.transaction.Standing.{Standing as NotedStanding}
@@ -278,7 +280,7 @@ module _ {L : Type 0} (moment : L → Moment) (name : List ℕ) (handed : L) (o 
   reply_in : (noted : List Transaction) (part : List ℕ) (thread : Option ℕ) (text : List ℕ) → thread_in part ≡ thread → IsReply asked noted thread text
       → PartSeen noted part text
   reply_in noted part (Some t) text at (inl tells_so) =
-      let saw = told_seen tells_so.transaction text tells_so.rests tells_so.tells in
+      let saw = told_seen tells_so.transaction text tells_so.rests (reply_first tells_so.transaction tells_so.next text tells_so.is) in
       record {
         gtrid = saw.gtrid;
         moved = λ w. record { thread = t; moves = at; among = tells_so.among; name = name_noted noted t text tells_so saw.gtrid saw.same };
@@ -287,9 +289,10 @@ module _ {L : Type 0} (moment : L → Moment) (name : List ℕ) (handed : L) (o 
         unknown = saw.unknown;
       }
   reply_in noted part (Some t) text at (inr (inl started)) =
-      no_outcome noted part (codes "started") text (refl, refl) (refl, (refl, refl)) refl started
-  reply_in noted part (Some t) text at (inr (inr error)) = no_outcome noted part (codes "error") text (refl, refl) (refl, (refl, refl)) refl error
-  reply_in noted part None text at error = no_outcome noted part (codes "error") text (refl, refl) (refl, (refl, refl)) refl error
+      no_outcome noted part (codes "started") text (refl, refl) (refl, (refl, refl)) refl (start_first text started)
+  reply_in noted part (Some t) text at (inr (inr error)) =
+      no_outcome noted part (codes "error") text (refl, refl) (refl, (refl, refl)) refl (error_first text error)
+  reply_in noted part None text at error = no_outcome noted part (codes "error") text (refl, refl) (refl, (refl, refl)) refl (error_first text error)
 
   reply_seen : (noted : List Transaction) (part text : List ℕ) → IsReplyTo asked noted part text → PartSeen noted part text
   reply_seen noted part text reply = reply_in noted part (thread_in part) text refl reply

@@ -33,10 +33,11 @@ module _ (asked more : (Request → Bool) → Bool) (keeps : (p : Request → Bo
   reply_more noted (Some t) text (inl tells) =
       inl (record {
         transaction = tells.transaction;
+        next = tells.next;
         among = tells.among;
         name = tells.name;
         rests = rests_more asked more keeps tells.transaction tells.rests;
-        tells = tells.tells;
+        is = tells.is;
       })
   reply_more noted (Some t) text (inr other) = inr other
   reply_more noted None text error = error

@@ -7,7 +7,8 @@ ghost use Rattle.xa_conduct.specs.Backing.{KeepResting, KeepsRest, TransactionRe
 ghost use Rattle.xa_conduct.specs.Decided.{AsksNoLess, is_same};
 ghost use Rattle.xa_conduct.specs.Moves.{AreMovedOnce, is_reply_to};
 ghost use Rattle.xa_conduct.specs.Progress.{AllStep};
-ghost use Rattle.xa_conduct.specs.Told.{AddsText, AreRepliesTold, IsBehindWord, IsSameAt, IsToldBy};
+ghost use Rattle.xa_conduct.specs.Texts.{begun_text};
+ghost use Rattle.xa_conduct.specs.Told.{AddsText, AreRepliesTold, IsSameAt, IsToldBy};
 ghost use Rattle.xa_conduct.specs.Turns.{AllPass, IsSaid, Passes, SaysAll};
 ghost use Rattle.xa_conduct.specs.declared.notes.Reply.{Reply};
 ghost use Rattle.xa_conduct.specs.declared.notes.Reply.TheVariants as Replies;
@@ -264,8 +265,8 @@ fn add_begun(
     ensures rests { IfOk result (λ _. (asked : (Request → Bool) → Bool) →
         TransactionRests asked transaction.old → TransactionRests asked transaction.new) }
     ensures passes { IfOk result (λ _. Passes transaction.old transaction.new) }
-    ensures adds { IfOk result (λ _.
-        AddsText IsBehindWord (string_bytes text.old) (string_bytes text.new)) }
+    ensures adds { IfOk result (λ _. string_bytes text.new
+        ≡ string_bytes text.old ++ begun_text transaction.old next) }
 {
     if !transaction.is_over() {
         return Ok(());

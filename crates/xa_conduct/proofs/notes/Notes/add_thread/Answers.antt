@@ -1,7 +1,6 @@
-use Rattle.std.proofs.Common.{◌∙◌, ◌<◌, Bool, false, ap, arith, length, refl, subst, sym}
+use Rattle.std.proofs.Common.{◌∙◌, ◌<◌, false, ap, arith, length, refl, subst, sym}
 use Rattle.std.proofs.lemmas.List.{get_or_default}
-use Rattle.std.specs.Prelude.{All, string_bytes}
-use Rattle.xa_requests.specs.declared.request.Request.{Request}
+use Rattle.std.specs.Prelude.{string_bytes}
 use Rattle.xa_conduct.proofs.BackingLemmas.{rest_begun}
 use Rattle.xa_conduct.proofs.ToldLemmas.{told_thread}
 use Rattle.xa_conduct.proofs.TurnLemmas.{all_pass_set, passes_moved, said_thread}
@@ -24,7 +23,7 @@ returns-clause-tells c = λ asked rest.
     let ts = c.args.self.now.transactions.items in
     let within : c.args.thread < length ts = omega (arith, c.in-Some.ensures.variant.0 refl) in
     let told = record t { has_moved = false } in
-    told_thread asked ts c.args.thread told (string_bytes c.args.text.now) (string_bytes c.add_told.new.text) (string_bytes c.add_begun.new.text) within
+    told_thread asked ts c.args.thread told c.args.next (string_bytes c.args.text.now) (string_bytes c.add_told.new.text) (string_bytes c.add_begun.new.text) within
     (ap (λ (x : Transaction). x.gtrid) (c.in-Some.ensures.value ∙ get_or_default ts c.args.thread t told within)) here c.in_ok-add_told.ensures
     c.in_ok-add_begun.ensures.adds
 
@@ -36,5 +35,5 @@ returns-clause-passes c =
 
 pub returns-clause-said : goal.returns-clause-said
 returns-clause-said c = λ reply is.
-    said_thread c.args.thread reply (string_bytes c.args.text.now) (string_bytes c.add_told.new.text) (string_bytes c.add_begun.new.text) is
+    said_thread c.args.thread reply (string_bytes c.args.text.now) (string_bytes c.add_told.new.text) (string_bytes c.add_begun.new.text) _ _ is
     c.in_ok-add_told.ensures c.in_ok-add_begun.ensures.adds
