@@ -51,7 +51,7 @@ module _ {L : Type 0} (moment : L → Moment) where
   -- some moved, as a plan says that was done, and of these it is told
   pub moves_told : (old new : Conductor L) (plan : List Request) (moved : List Transaction) (line text : List ℕ) → old.notes.is_stopped ≡ false
       → KeepResting [] plan old.notes.transactions.items moved → KeepsRest moved new.notes.transactions.items
-      → ((asked : (Request → Bool) → Bool) → All (TransactionRests asked) moved → AreReplies asked old.notes.transactions.items line text)
+      → ((asked : (Request → Bool) → Bool) → All (TransactionRests asked) moved → AreReplies asked old.notes.transactions.items new.notes.transactions.items line text)
       → GoesOnBy moment plan old.server new.server → TurnsSo moment old new line text
   moves_told old new plan moved line text going moves keeps tells goes = λ first was.
       let asked : (Request → Bool) → Bool = was_asked (was.done ++ plan) [] in

@@ -6,7 +6,7 @@ use Rattle.std.specs.Prelude.{MatchBool, codes, if◌then◌else◌}
 use Rattle.xa_base.specs.declared.branch.Gtrid.{Gtrid}
 use Rattle.xa_base.specs.declared.code.RbCode.{RbCode}
 use Rattle.xa_conduct.proofs.ToldLemmas.{told_calls, told_outcome, told_standing}
-use Rattle.xa_conduct.specs.Over.{has_calls, has_left, is_all_answered, is_decided}
+use Rattle.xa_conduct.specs.Over.{has_calls, has_left, is_decided}
 use Rattle.xa_conduct.specs.Places.{is_asked, is_left}
 use Rattle.xa_conduct.specs.Texts.{asked_at, begun_text, calls_text, first_verb, is_mixed, is_told, mixed_at, mixed_text, next_text, outcome_text, owed_at, owed_text, reply_text, spaced, standing_text, standing_word, started_text, told_text, verb_at, verb_of, why_text}
 use Rattle.xa_conduct.specs.Told.{HasFirst, IsBehindWord, IsError, IsStart}
@@ -113,9 +113,9 @@ outcome_first t =
 
 -- ** the whole
 
-behind_begun : (t : Transaction) (next : Option Gtrid) → IsBehindWord (begun_text t next)
-behind_begun t None = tt
-behind_begun t (Some g) = behind_if (is_all_answered t) (next_text g) refl
+behind_begun : (next : Option Gtrid) → IsBehindWord (begun_text next)
+behind_begun None = tt
+behind_begun (Some g) = refl
 
 told_first : (t : Transaction) → TellsOf t (told_text t)
 told_first t = by (has_calls t) refl
@@ -142,7 +142,7 @@ tells_or false branches word xs ys tells behind = first_behind word xs ys tells 
 pub reply_first : (t : Transaction) (next : Option Gtrid) (text : List ℕ) → text ≡ reply_text t next → TellsOf t text
 reply_first t next text is =
     subst (TellsOf t) (sym is)
-    (tells_or (has_calls t) t.parts.items (standing_word t.standing) (told_text t) (begun_text t next) (told_first t) (behind_begun t next))
+    (tells_or (has_calls t) t.parts.items (standing_word t.standing) (told_text t) (begun_text next) (told_first t) (behind_begun next))
 
 pub start_first : (text : List ℕ) → IsStart text → HasFirst (codes "started") text
 start_first text start = record { rest = next_text start.0; is = start.1; parted = refl }

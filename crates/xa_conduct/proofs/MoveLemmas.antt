@@ -1,15 +1,17 @@
 -- Moves and replies at the same place, and that a thread moves once on a line.
 use Rattle.std.proofs.Common.{◌≡◌, ◌∙◌, ◌==◌, ℕ, zero, suc, ◌<◌, ◌+◌, Bool, true, false, List, [], ◌∷◌, ◌++◌, ◌≤◌, ap, append_assoc, arith, eq-eqb, get_or, inl, inr, length, map, refl, subst, sym, take}
 use Rattle.std.proofs.lemmas.Bool.{cases_Bool, eqb-true, false≢true, le-leb, lt-leb, or_cases, or_from, or_left, or_parts, or_right, true≢false}
-use Rattle.std.proofs.lemmas.List.{take_more}
+use Rattle.std.proofs.lemmas.List.{get_or_default, take_more}
 use Rattle.std.proofs.lemmas.List.Folds.{list_any-append, list_any_at, list_any_more}
 use Rattle.std.specs.List.{list_any, slice_split}
-use Rattle.std.specs.Prelude.{MatchBool, Option, Some, None, if◌then◌else◌}
+use Rattle.std.specs.Prelude.{MatchBool, Option, Some, None, if◌then◌else◌, is_some}
+use Rattle.xa_base.specs.declared.branch.Gtrid.{Gtrid}
 use Rattle.xa_requests.specs.declared.request.Request.{Request}
 use Rattle.xa_conduct.proofs.ToldLemmas.{joined_more}
 use Rattle.xa_conduct.specs.Moves.{AreMovedOnce, ArePairedInOrder, IsOfThread, IsReadOf, IsReplyOf, has_moved, is_reply_to, parts_of, thread_in, thread_of}
+use Rattle.xa_conduct.specs.Over.{is_all_answered}
 use Rattle.xa_conduct.specs.Progress.{AllStep, is_start}
-use Rattle.xa_conduct.specs.Told.{AddsText, AreReplies, AreRepliesTold, IsReply, IsReplyTo, IsSameAt, IsToldBy, TellsSo, joined_replies}
+use Rattle.xa_conduct.specs.Told.{AddsText, AreReplies, AreRepliesTold, GivesWay, HasNext, IsReply, IsReplyTo, IsSameAt, IsToldBy, TellsSo, joined_replies}
 use Rattle.xa_conduct.specs.declared.moves.Move.{Move}
 use Rattle.xa_conduct.specs.declared.notes.Reply.{Reply}
 use Rattle.xa_conduct.specs.declared.notes.Reply.TheVariants as replies
@@ -193,9 +195,9 @@ pub names_kept : (told : List Reply) (ts us : List Transaction) → AreMovedOnce
     → HaveNames t ts us
 names_kept told ts us once steps t is = (steps.count, λ d inside. (steps.each t d inside (thread_no_start t told once is)).same)
 
-tells_names : (asked : (Request → Bool) → Bool) (noted now : List Transaction) (t : ℕ) (text : List ℕ) → HaveNames t noted now
-    → TellsSo asked now t text → TellsSo asked noted t text
-tells_names asked noted now t text names tells =
+tells_names : (asked : (Request → Bool) → Bool) (noted now left : List Transaction) (t : ℕ) (text : List ℕ) → HaveNames t noted now
+    → TellsSo asked now left t text → TellsSo asked noted left t text
+tells_names asked noted now left t text names tells =
     let within : t < length noted = subst (λ (n : ℕ). t < n) names.0 tells.among in
     record {
       transaction = tells.transaction;
@@ -204,29 +206,30 @@ tells_names asked noted now t text names tells =
       name = tells.name ∙ names.1 tells.transaction within;
       rests = tells.rests;
       is = tells.is;
+      gives = tells.gives;
     }
 
-pub told_names : (asked : (Request → Bool) → Bool) (noted now : List Transaction) (reply : Reply) (text : List ℕ)
-    → ((t : ℕ) → is_thread t reply ≡ true → HaveNames t noted now) → IsToldBy asked now reply text → IsToldBy asked noted reply text
-told_names asked noted now (replies.Thread t) text names told =
+pub told_names : (asked : (Request → Bool) → Bool) (noted now left : List Transaction) (reply : Reply) (text : List ℕ)
+    → ((t : ℕ) → is_thread t reply ≡ true → HaveNames t noted now) → IsToldBy asked now left reply text → IsToldBy asked noted left reply text
+told_names asked noted now left (replies.Thread t) text names told =
     elim told [
-      | inl tells ↦ inl (tells_names asked noted now t text (names t (eq-eqb t t refl)) tells)
+      | inl tells ↦ inl (tells_names asked noted now left t text (names t (eq-eqb t t refl)) tells)
       | inr error ↦ inr error
     ]
-told_names asked noted now (replies.Started t g) text names told = told
-told_names asked noted now replies.NoMove text names told = told
-told_names asked noted now replies.NotNow text names told = told
+told_names asked noted now left (replies.Started t g) text names told = told
+told_names asked noted now left replies.NoMove text names told = told
+told_names asked noted now left replies.NotNow text names told = told
 
-reply_to : (asked : (Request → Bool) → Bool) (noted : List Transaction) (thread : Option ℕ) (reply : Reply) (text : List ℕ)
-    → IsOfThread thread reply → IsToldBy asked noted reply text → IsReply asked noted thread text
-reply_to asked noted thread (replies.Thread t) text of told =
-    subst (λ (o : Option ℕ). IsReply asked noted o text) (sym of)
+reply_to : (asked : (Request → Bool) → Bool) (noted left : List Transaction) (thread : Option ℕ) (reply : Reply) (text : List ℕ)
+    → IsOfThread thread reply → IsToldBy asked noted left reply text → IsReply asked noted left thread text
+reply_to asked noted left thread (replies.Thread t) text of told =
+    subst (λ (o : Option ℕ). IsReply asked noted left o text) (sym of)
     (elim told [ inl tells ↦ inl tells | inr error ↦ inr (inr (inr error)) ])
-reply_to asked noted thread (replies.Started t g) text of told = subst (λ (o : Option ℕ). IsReply asked noted o text) (sym of) (inr (inl (g, told)))
-reply_to asked noted None replies.NoMove text of told = inl told
-reply_to asked noted (Some t) replies.NoMove text of told = inr (inr (inl told))
-reply_to asked noted None replies.NotNow text of told = inr told
-reply_to asked noted (Some t) replies.NotNow text of told = inr (inr (inr told))
+reply_to asked noted left thread (replies.Started t g) text of told = subst (λ (o : Option ℕ). IsReply asked noted left o text) (sym of) (inr (inl (g, told)))
+reply_to asked noted left None replies.NoMove text of told = inl told
+reply_to asked noted left (Some t) replies.NoMove text of told = inr (inr (inl told))
+reply_to asked noted left None replies.NotNow text of told = inr told
+reply_to asked noted left (Some t) replies.NotNow text of told = inr (inr (inr told))
 
 -- the thread of the move is the one that the part of the line names
 of_part : (part : List ℕ) (asked : Option Move) (reply : Reply) → IsReadOf part asked → IsReplyOf asked reply → IsOfThread (thread_in part) reply
@@ -236,87 +239,87 @@ of_part part asked replies.NoMove read of = tt
 of_part part asked replies.NotNow read of = tt
 
 -- each part of a line is replied
-pub all_replied : (asked : (Request → Bool) → Bool) (noted now : List Transaction) (parts : List (List ℕ)) (moves : List (Option Move))
+pub all_replied : (asked : (Request → Bool) → Bool) (noted now left : List Transaction) (parts : List (List ℕ)) (moves : List (Option Move))
     (told : List Reply) (texts : List (List ℕ)) → ArePairedInOrder IsReadOf parts moves → ArePairedInOrder IsReplyOf moves told
-    → ((t : ℕ) → list_any (is_thread t) told ≡ true → HaveNames t noted now) → ArePairedInOrder (IsToldBy asked now) told texts
-    → ArePairedInOrder (IsReplyTo asked noted) parts texts
-all_replied asked noted now [] [] [] [] read of names each = tt
-all_replied asked noted now (part ∷ parts) (move ∷ moves) (reply ∷ told) (text ∷ texts) read of names each = (
-  reply_to asked noted (thread_in part) reply text (of_part part move reply read.0 of.0)
-      (told_names asked noted now reply text (λ t is. names t (or_left (is_thread t reply) (list_any (is_thread t) told) is)) each.0),
-  all_replied asked noted now parts moves told texts read.1 of.1 (λ t is. names t (or_right (is_thread t reply) (list_any (is_thread t) told) is)) each.1,
+    → ((t : ℕ) → list_any (is_thread t) told ≡ true → HaveNames t noted now) → ArePairedInOrder (IsToldBy asked now left) told texts
+    → ArePairedInOrder (IsReplyTo asked noted left) parts texts
+all_replied asked noted now left [] [] [] [] read of names each = tt
+all_replied asked noted now left (part ∷ parts) (move ∷ moves) (reply ∷ told) (text ∷ texts) read of names each = (
+  reply_to asked noted left (thread_in part) reply text (of_part part move reply read.0 of.0)
+      (told_names asked noted now left reply text (λ t is. names t (or_left (is_thread t reply) (list_any (is_thread t) told) is)) each.0),
+  all_replied asked noted now left parts moves told texts read.1 of.1 (λ t is. names t (or_right (is_thread t reply) (list_any (is_thread t) told) is)) each.1,
 )
-all_replied asked noted now [] (move ∷ moves) told texts read of names each = absurd read
-all_replied asked noted now (part ∷ parts) [] told texts read of names each = absurd read
-all_replied asked noted now [] [] (reply ∷ told) texts read of names each = absurd of
-all_replied asked noted now (part ∷ parts) (move ∷ moves) [] texts read of names each = absurd of
-all_replied asked noted now [] [] [] (text ∷ texts) read of names each = absurd each
-all_replied asked noted now (part ∷ parts) (move ∷ moves) (reply ∷ told) [] read of names each = absurd each
+all_replied asked noted now left [] (move ∷ moves) told texts read of names each = absurd read
+all_replied asked noted now left (part ∷ parts) [] told texts read of names each = absurd read
+all_replied asked noted now left [] [] (reply ∷ told) texts read of names each = absurd of
+all_replied asked noted now left (part ∷ parts) (move ∷ moves) [] texts read of names each = absurd of
+all_replied asked noted now left [] [] [] (text ∷ texts) read of names each = absurd each
+all_replied asked noted now left (part ∷ parts) (move ∷ moves) (reply ∷ told) [] read of names each = absurd each
 
 -- so a line is
-pub line_replied : (asked : (Request → Bool) → Bool) (noted now : List Transaction) (line text : List ℕ) (moves : List (Option Move)) (told : List Reply)
-    → ArePairedInOrder IsReadOf (parts_of line) moves → ArePairedInOrder IsReplyOf moves told → AreMovedOnce told → AllStep told noted now → AreRepliesTold asked now told text
-    → AreReplies asked noted line text
-line_replied asked noted now line text moves told read of once steps tells = record {
+pub line_replied : (asked : (Request → Bool) → Bool) (noted now left : List Transaction) (line text : List ℕ) (moves : List (Option Move)) (told : List Reply)
+    → ArePairedInOrder IsReadOf (parts_of line) moves → ArePairedInOrder IsReplyOf moves told → AreMovedOnce told → AllStep told noted now → AreRepliesTold asked now left told text
+    → AreReplies asked noted left line text
+line_replied asked noted now left line text moves told read of once steps tells = record {
   replies = tells.texts;
   are = tells.are;
-  each = all_replied asked noted now (parts_of line) moves told tells.texts read of (names_kept told noted now once steps) tells.each;
+  each = all_replied asked noted now left (parts_of line) moves told tells.texts read of (names_kept told noted now once steps) tells.each;
 }
 
 -- ** one reply behind the other
 
 -- a reply and others, with what parts them
-pub record TellsSome (asked : (Request → Bool) → Bool) (noted : List Transaction) (told : List Reply) (text : List ℕ) : Type 0 where
+pub record TellsSome (asked : (Request → Bool) → Bool) (noted left : List Transaction) (told : List Reply) (text : List ℕ) : Type 0 where
   pub first : List ℕ
   pub others : List (List ℕ)
   pub are : text ≡ joined_replies (first ∷ others)
-  pub each : ArePairedInOrder (IsToldBy asked noted) told (first ∷ others)
+  pub each : ArePairedInOrder (IsToldBy asked noted left) told (first ∷ others)
 
 -- none was added yet, or some were
-abbrev pub ToldSoFar : ((Request → Bool) → Bool) → List Transaction → List Reply → (is_first : Bool) → List ℕ → Type 0
-ToldSoFar asked noted told is_first text = MatchBool is_first ((told ≡ []) × (text ≡ [])) (TellsSome asked noted told text)
+abbrev pub ToldSoFar : ((Request → Bool) → Bool) → (noted left : List Transaction) → List Reply → (is_first : Bool) → List ℕ → Type 0
+ToldSoFar asked noted left told is_first text = MatchBool is_first ((told ≡ []) × (text ≡ [])) (TellsSome asked noted left told text)
 
-pub told_more : (asked : (Request → Bool) → Bool) (noted : List Transaction) (told now : List Reply) (reply : Reply) (is_first : Bool) (a b c : List ℕ)
-    → now ≡ told ++ reply ∷ [] → (is_first ≡ true → b ≡ a) → (is_first ≡ false → b ≡ a ++ 59 ∷ []) → ToldSoFar asked noted told is_first a
-    → AddsText (IsToldBy asked noted reply) b c → TellsSome asked noted now c
-told_more asked noted told now reply true a b c is first other none more = record {
+pub told_more : (asked : (Request → Bool) → Bool) (noted left : List Transaction) (told now : List Reply) (reply : Reply) (is_first : Bool) (a b c : List ℕ)
+    → now ≡ told ++ reply ∷ [] → (is_first ≡ true → b ≡ a) → (is_first ≡ false → b ≡ a ++ 59 ∷ []) → ToldSoFar asked noted left told is_first a
+    → AddsText (IsToldBy asked noted left reply) b c → TellsSome asked noted left now c
+told_more asked noted left told now reply true a b c is first other none more = record {
   first = more.0;
   others = [];
   are = more.1 ∙ ap (λ z. z ++ more.0) (first refl ∙ none.1);
   each =
-      subst (λ (rs : List Reply). ArePairedInOrder (IsToldBy asked noted) rs (more.0 ∷ [])) (sym (is ∙ ap (λ (rs : List Reply). rs ++ reply ∷ []) none.0))
+      subst (λ (rs : List Reply). ArePairedInOrder (IsToldBy asked noted left) rs (more.0 ∷ [])) (sym (is ∙ ap (λ (rs : List Reply). rs ++ reply ∷ []) none.0))
       (more.2, tt);
 }
-told_more asked noted told now reply false a b c is first other some more = record {
+told_more asked noted left told now reply false a b c is first other some more = record {
   first = some.first;
   others = some.others ++ more.0 ∷ [];
   are =
       more.1 ∙ ap (λ z. z ++ more.0) (other refl) ∙ append_assoc a (59 ∷ []) more.0 ∙ ap (λ z. z ++ (59 ∷ more.0)) some.are
       ∙ sym (joined_more some.first some.others more.0);
   each =
-      subst (λ (rs : List Reply). ArePairedInOrder (IsToldBy asked noted) rs (some.first ∷ (some.others ++ more.0 ∷ []))) (sym is)
-      (paired_push (IsToldBy asked noted) told (some.first ∷ some.others) reply more.0 some.each more.2);
+      subst (λ (rs : List Reply). ArePairedInOrder (IsToldBy asked noted left) rs (some.first ∷ (some.others ++ more.0 ∷ []))) (sym is)
+      (paired_push (IsToldBy asked noted left) told (some.first ∷ some.others) reply more.0 some.each more.2);
 }
 
-pub told_all : (asked : (Request → Bool) → Bool) (noted : List Transaction) (told now : List Reply) (is_first : Bool) (text : List ℕ) → now ≡ told
-    → ToldSoFar asked noted now is_first text → AreRepliesTold asked noted told text
-told_all asked noted told now true text is none = record {
+pub told_all : (asked : (Request → Bool) → Bool) (noted left : List Transaction) (told now : List Reply) (is_first : Bool) (text : List ℕ) → now ≡ told
+    → ToldSoFar asked noted left now is_first text → AreRepliesTold asked noted left told text
+told_all asked noted left told now true text is none = record {
   texts = [];
   are = none.1;
-  each = subst (λ (rs : List Reply). ArePairedInOrder (IsToldBy asked noted) rs []) (sym none.0 ∙ is) tt;
+  each = subst (λ (rs : List Reply). ArePairedInOrder (IsToldBy asked noted left) rs []) (sym none.0 ∙ is) tt;
 }
-told_all asked noted told now false text is some = record {
+told_all asked noted left told now false text is some = record {
   texts = some.first ∷ some.others;
   are = some.are;
-  each = subst (λ (rs : List Reply). ArePairedInOrder (IsToldBy asked noted) rs (some.first ∷ some.others)) is some.each;
+  each = subst (λ (rs : List Reply). ArePairedInOrder (IsToldBy asked noted left) rs (some.first ∷ some.others)) is some.each;
 }
 
 -- what is told by a reply of a thread that was told nothing yet is told of its transaction as it was
-pub told_as_was : (asked : (Request → Bool) → Bool) (told : List Reply) (k : ℕ) (d : Reply) (was now : List Transaction) (text : List ℕ)
+pub told_as_was : (asked : (Request → Bool) → Bool) (told : List Reply) (k : ℕ) (d : Reply) (was now left : List Transaction) (text : List ℕ)
     → AreMovedOnce told → k < length told → length now ≡ length was → ((t : ℕ) → list_any (is_reply_to t) (take k told) ≡ false → IsSameAt t was now)
-    → IsToldBy asked now (get_or told k d) text → IsToldBy asked was (get_or told k d) text
-told_as_was asked told k d was now text once within count same is =
-    told_names asked was now (get_or told k d) text
+    → IsToldBy asked now left (get_or told k d) text → IsToldBy asked was left (get_or told k d) text
+told_as_was asked told k d was now left text once within count same is =
+    told_names asked was now left (get_or told k d) text
     (λ t of.
     let none = once_at told k t d once within (thread_of_one t (get_or told k d) of) in
     (count, λ e inside. ap (λ (x : Transaction). x.gtrid) (same t none e))) is
@@ -326,6 +329,98 @@ told_as_was asked told k d was now text once within count same is =
     thread_of_one t (replies.Started s g) of = absurd (false≢true of)
     thread_of_one t replies.NoMove of = absurd (false≢true of)
     thread_of_one t replies.NotNow of = absurd (false≢true of)
+
+-- what was told stays so, as long as the thread isn't told more
+stays_told : (asked : (Request → Bool) → Bool) (noted left next : List Transaction) (reply : Reply) (text : List ℕ)
+    → ((t : ℕ) → is_reply_to t reply ≡ true → IsSameAt t left next) → IsToldBy asked noted left reply text → IsToldBy asked noted next reply text
+stays_told asked noted left next (replies.Thread t) text same told =
+    elim told [
+      | inl tells ↦
+          inl (record {
+            transaction = tells.transaction;
+            next = tells.next;
+            among = tells.among;
+            name = tells.name;
+            rests = tells.rests;
+            is = tells.is;
+            gives = subst (GivesWay tells.transaction tells.next) (sym (same t (eq-eqb t t refl) tells.transaction)) tells.gives;
+          })
+      | inr error ↦ inr error
+    ]
+stays_told asked noted left next (replies.Started t g) text same told = told
+stays_told asked noted left next replies.NoMove text same told = told
+stays_told asked noted left next replies.NotNow text same told = told
+
+each_stays : (asked : (Request → Bool) → Bool) (noted left next : List Transaction) (told : List Reply) (texts : List (List ℕ))
+    → ((t : ℕ) → list_any (is_reply_to t) told ≡ true → IsSameAt t left next) → ArePairedInOrder (IsToldBy asked noted left) told texts
+    → ArePairedInOrder (IsToldBy asked noted next) told texts
+each_stays asked noted left next [] [] same each = tt
+each_stays asked noted left next (reply ∷ told) (text ∷ texts) same each = (
+  stays_told asked noted left next reply text (λ t is. same t (or_left (is_reply_to t reply) (list_any (is_reply_to t) told) is)) each.0,
+  each_stays asked noted left next told texts (λ t is. same t (or_right (is_reply_to t reply) (list_any (is_reply_to t) told) is)) each.1,
+)
+each_stays asked noted left next [] (text ∷ texts) same each = absurd each
+each_stays asked noted left next (reply ∷ told) [] same each = absurd each
+
+pub told_stays : (asked : (Request → Bool) → Bool) (noted left next : List Transaction) (told : List Reply) (is_first : Bool) (text : List ℕ)
+    → ((t : ℕ) → list_any (is_reply_to t) told ≡ true → IsSameAt t left next) → ToldSoFar asked noted left told is_first text
+    → ToldSoFar asked noted next told is_first text
+told_stays asked noted left next told true text same none = none
+told_stays asked noted left next told false text same some = record {
+  first = some.first;
+  others = some.others;
+  are = some.are;
+  each = each_stays asked noted left next told (some.first ∷ some.others) same some.each;
+}
+
+-- a thread moves once, so what it was told before isn't changed by the reply at this place
+pub others_same : (told : List Reply) (k : ℕ) (d : Reply) (now next : List Transaction) → AreMovedOnce told → k < length told
+    → ((t : ℕ) → is_reply_to t (get_or told k d) ≡ false → IsSameAt t now next) → (t : ℕ) → list_any (is_reply_to t) (take k told) ≡ true
+    → IsSameAt t now next
+others_same told k d now next once within others t moved =
+    elim (cases_Bool (is_reply_to t (get_or told k d))) [
+      | inl is ↦ absurd (true≢false (sym moved ∙ once_at told k t d once within is))
+      | inr none ↦ others t none
+    ]
+
+-- a name goes with the reply still
+name_kept : (reply : Reply) (next : Option Gtrid) (was now : List Transaction) → length now ≡ length was
+    → ((t : ℕ) → is_reply_to t reply ≡ true → IsSameAt t was now) → HasNext was reply next → HasNext now reply next
+name_kept (replies.Thread t) next was now count same has = λ d inside.
+    has d (subst (λ (n : ℕ). t < n) count inside) ∙ ap (λ (x : Transaction). is_all_answered x) (sym (same t (eq-eqb t t refl) d))
+name_kept (replies.Started t g) next was now count same has = tt
+name_kept replies.NoMove next was now count same has = tt
+name_kept replies.NotNow next was now count same has = tt
+
+paired_at : {X Y : Type 0} (AreSo : X → Y → Type 0) (xs : List X) (ys : List Y) (k : ℕ) (d : X) (e : Y) → k < length xs → ArePairedInOrder AreSo xs ys
+    → AreSo (get_or xs k d) (get_or ys k e)
+paired_at AreSo [] ys k d e within each = absurd (omega (arith, within))
+paired_at AreSo (x ∷ xs) [] k d e within each = absurd each
+paired_at AreSo (x ∷ xs) (y ∷ ys) zero d e within each = each.0
+paired_at AreSo (x ∷ xs) (y ∷ ys) (suc k) d e within each =
+    let inside : k < length xs = omega (arith, within) in paired_at AreSo xs ys k d e inside each.1
+
+pub name_at : (told : List Reply) (nexts : List (Option Gtrid)) (k : ℕ) (d : Reply) (was now : List Transaction) → AreMovedOnce told → k < length told
+    → ArePairedInOrder (HasNext was) told nexts → length now ≡ length was
+    → ((t : ℕ) → list_any (is_reply_to t) (take k told) ≡ false → IsSameAt t was now) → HasNext now (get_or told k d) (get_or nexts k None)
+name_at told nexts k d was now once within names count same =
+    name_kept (get_or told k d) (get_or nexts k None) was now count (λ t is. same t (once_at told k t d once within is))
+    (paired_at (HasNext was) told nexts k d None within names)
+
+-- a name more, for the reply at this place
+pub names_more : (told : List Reply) (k : ℕ) (d : Reply) (nexts all : List (Option Gtrid)) (next : Option Gtrid) (ts us : List Transaction)
+    → k < length told → us ≡ ts → all ≡ nexts ++ next ∷ [] → ArePairedInOrder (HasNext ts) (take k told) nexts → HasNext us (get_or told k d) next
+    → ArePairedInOrder (HasNext ts) (take (k + 1) told) all
+names_more told k d nexts all next ts us within same is names one =
+    subst (λ (rs : List Reply). ArePairedInOrder (HasNext ts) rs all) (sym (take_more told k d within))
+    (subst (ArePairedInOrder (HasNext ts) (take k told ++ get_or told k d ∷ [])) (sym is)
+    (paired_push (HasNext ts) (take k told) nexts (get_or told k d) next names
+    (subst (λ (xs : List Transaction). HasNext xs (get_or told k d) next) same one)))
+
+-- the name behind a reply of a thread
+pub name_of_thread : (ts : List Transaction) (thread : ℕ) (t : Transaction) (next : Option Gtrid) → t ≡ get_or ts thread t
+    → is_some next ≡ is_all_answered t → HasNext ts (replies.Thread thread) next
+name_of_thread ts thread t next at is = λ d inside. is ∙ ap (λ (x : Transaction). is_all_answered x) (at ∙ get_or_default ts thread t d inside)
 
 -- none of the first ones and not this one
 pub same_more : (told : List Reply) (k : ℕ) (d : Reply) (was now next : List Transaction) → k < length told

@@ -8,7 +8,7 @@ use Rattle.xa_requests.specs.declared.request.Request.{Request}
 use Rattle.xa_conduct.specs.Backing.{TransactionRests}
 use Rattle.xa_conduct.specs.Over.{has_calls, is_decided}
 use Rattle.xa_conduct.specs.Texts.{begun_text, calls_text, outcome_text, standing_text, told_text}
-use Rattle.xa_conduct.specs.Told.{AddsText, IsToldBy, joined_replies}
+use Rattle.xa_conduct.specs.Told.{AddsText, GivesWay, IsToldBy, joined_replies}
 use Rattle.xa_conduct.specs.declared.notes.Reply.TheVariants as replies
 use Rattle.xa_conduct.specs.declared.part.Part.{Part}
 use Rattle.xa_conduct.specs.declared.transaction.Transaction.{Transaction}
@@ -51,13 +51,13 @@ pub told_standing : (t : Transaction) → has_calls t ≡ false → is_decided t
 told_standing t none undecided = told_chosen t ∙ ap₂ (chosen t) none undecided
 
 -- what is told of the transaction that is noted of a thread, and the name of the next one behind it
-pub told_thread : (asked : (Request → Bool) → Bool) (noted : List Transaction) (thread : ℕ) (t : Transaction) (next : Option Gtrid) (a b c : List ℕ)
-    → thread < length noted → t.gtrid ≡ (get_or noted thread t).gtrid → TransactionRests asked t → b ≡ a ++ told_text t → c ≡ b ++ begun_text t next
-    → AddsText (IsToldBy asked noted (replies.Thread thread)) a c
-told_thread asked noted thread t next a b c among name rests told begun = (
-  told_text t ++ begun_text t next,
-  adds_both a b c (told_text t) (begun_text t next) told begun,
-  inl (record { transaction = t; next = next; among = among; name = name; rests = rests; is = refl }),
+pub told_thread : (asked : (Request → Bool) → Bool) (noted now : List Transaction) (thread : ℕ) (t : Transaction) (next : Option Gtrid) (a b c : List ℕ)
+    → thread < length noted → t.gtrid ≡ (get_or noted thread t).gtrid → TransactionRests asked t → b ≡ a ++ told_text t → c ≡ b ++ begun_text next → GivesWay t next (get_or now thread t)
+    → AddsText (IsToldBy asked noted now (replies.Thread thread)) a c
+told_thread asked noted now thread t next a b c among name rests told begun gives = (
+  told_text t ++ begun_text next,
+  adds_both a b c (told_text t) (begun_text next) told begun,
+  inl (record { transaction = t; next = next; among = among; name = name; rests = rests; is = refl; gives = gives }),
 )
 
 -- ** one reply behind the other

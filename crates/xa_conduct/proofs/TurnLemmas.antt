@@ -11,8 +11,8 @@ use Rattle.xa_conduct.proofs.ToldLemmas.{adds_both, joined_more}
 use Rattle.xa_conduct.specs.Over.{is_decided, is_all_answered}
 use Rattle.xa_conduct.specs.Places.{is_asked, steps_at}
 use Rattle.xa_conduct.specs.Progress.{AllStep, Steps, branch_steps, moves_taken, steps_made, steps_of, steps_to}
-use Rattle.xa_conduct.specs.Told.{AddsText, joined_replies}
-use Rattle.xa_conduct.specs.Turns.{AllPass, AreSaid, IsNew, IsSaid, IsSame, Passes, SaysAll, TransactionsEnd, TurnsOn, Turns, Turns.NoLine, Turns.OneMore}
+use Rattle.xa_conduct.specs.Told.{IsSame, AddsText, joined_replies}
+use Rattle.xa_conduct.specs.Turns.{AllPass, AreSaid, IsNew, IsSaid, Passes, SaysAll, TransactionsEnd, TurnsOn, Turns, Turns.NoLine, Turns.OneMore}
 use Rattle.xa_conduct.specs.declared.notes.Reply.{Reply}
 use Rattle.xa_conduct.specs.declared.notes.Reply.TheVariants as replies
 use Rattle.xa_conduct.specs.declared.part.Part.{Part}

@@ -29,4 +29,4 @@ module _ {L : Type 0} (moment : L → Moment) where
   abbrev pub TurnsSo : (old new : Conductor L) → (line text : List ℕ) → Type 0
   TurnsSo old new line text =
       (first : Server L) → Conducts first old
-      → (now : Conducts first new) × (AreReplies (was_asked now.done []) old.notes.transactions.items line text ⊎ MovesNone old new)
+      → (now : Conducts first new) × (AreReplies (was_asked now.done []) old.notes.transactions.items new.notes.transactions.items line text ⊎ MovesNone old new)

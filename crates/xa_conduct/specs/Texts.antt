@@ -8,7 +8,7 @@ use Rattle.xa_base.specs.declared.branch.Gtrid.{Gtrid}
 use Rattle.xa_base.specs.declared.code.How.{How}
 use Rattle.xa_base.specs.declared.code.How.TheVariants as hows
 use Rattle.xa_base.specs.declared.code.RbCode.{RbCode}
-use Rattle.xa_conduct.specs.Over.{has_calls, has_left, is_all_answered, is_decided}
+use Rattle.xa_conduct.specs.Over.{has_calls, has_left, is_decided}
 use Rattle.xa_conduct.specs.Places.{is_asked, is_left}
 use Rattle.xa_conduct.specs.declared.part.Part.{Part}
 use Rattle.xa_conduct.specs.declared.place.Place.{Place}
@@ -117,13 +117,12 @@ told_text t = if has_calls t then calls_text t.parts.items else if is_decided t.
 abbrev pub next_text : Gtrid → List ℕ
 next_text g = codes " next " ++ gtrid_text g
 
--- a name is told behind an outcome alone
-abbrev pub begun_text : Transaction → Option Gtrid → List ℕ
-begun_text t None = []
-begun_text t (Some g) = if is_all_answered t then next_text g else []
+abbrev pub begun_text : Option Gtrid → List ℕ
+begun_text None = []
+begun_text (Some g) = next_text g
 
 abbrev pub reply_text : Transaction → Option Gtrid → List ℕ
-reply_text t next = told_text t ++ begun_text t next
+reply_text t next = told_text t ++ begun_text next
 
 -- the reply to the move by which a thread's first transaction begins
 abbrev pub started_text : Gtrid → List ℕ

@@ -1,9 +1,11 @@
 -- What the reply to a line of moves tells.
-use Rattle.std.specs.Prelude.{◌≡◌, ◌<◌, ◌⊎◌, ℕ, Bool, List, [], ◌∷◌, ◌++◌, Option, Some, None, codes, get_or, length}
+use Rattle.std.specs.Prelude.{◌≡◌, ◌<◌, ◌⊎◌, ℕ, Bool, true, false, List, [], ◌∷◌, ◌++◌, Option, Some, None, codes, get_or, is_some, length}
 use Rattle.xa_base.specs.declared.branch.Gtrid.{Gtrid}
 use Rattle.xa_requests.specs.declared.request.Request.{Request}
 use Rattle.xa_conduct.specs.Backing.{TransactionRests}
 use Rattle.xa_conduct.specs.Moves.{ArePairedInOrder, parts_of, thread_in}
+use Rattle.xa_conduct.specs.Over.{is_all_answered}
+use Rattle.xa_conduct.specs.Progress.{IsBegun}
 use Rattle.xa_conduct.specs.Texts.{reply_text, started_text}
 use Rattle.xa_conduct.specs.declared.notes.Reply.{Reply}
 use Rattle.xa_conduct.specs.declared.notes.Reply.TheVariants as replies
@@ -28,15 +30,27 @@ AddsText IsSo old new = (said : List ℕ) × (new ≡ old ++ said) × IsSo said
 
 -- ** replies
 
--- What is told of the transaction that is noted of a thread, by its name, rests on what was asked for, and is told whole. Behind an outcome a name is
--- told: of the thread's next transaction.
-pub record TellsSo (asked : (Request → Bool) → Bool) (noted : List Transaction) (thread : ℕ) (text : List ℕ) : Type 0 where
+-- the transaction stands as it did
+pub record IsSame (t u : Transaction) : Type 0 where
+  pub gtrid : u.gtrid ≡ t.gtrid
+  pub standing : u.standing ≡ t.standing
+  pub parts : u.parts.items ≡ t.parts.items
+
+-- A transaction goes on, and no name is told behind it; or it is over, and the thread's next has begun, by the name that is.
+abbrev pub GivesWay : Transaction → Option Gtrid → Transaction → Type 0
+GivesWay t None u = (is_all_answered t ≡ false) × IsSame t u
+GivesWay t (Some g) u = (is_all_answered t ≡ true) × IsBegun g u
+
+-- What is told of the transaction that was noted of a thread, by its name, rests on what was asked for, and is told whole; and that transaction, or
+-- the next, is the one that is noted then.
+pub record TellsSo (asked : (Request → Bool) → Bool) (noted now : List Transaction) (thread : ℕ) (text : List ℕ) : Type 0 where
   pub transaction : Transaction
   pub next : Option Gtrid
   pub among : thread < length noted
   pub name : transaction.gtrid ≡ (get_or noted thread transaction).gtrid
   pub rests : TransactionRests asked transaction
   pub is : text ≡ reply_text transaction next
+  pub gives : GivesWay transaction next (get_or now thread transaction)
 
 -- it says that the thread's first transaction began, by its name; or that nothing was done
 abbrev pub IsStart : List ℕ → Type 0
@@ -46,13 +60,13 @@ abbrev pub IsError : List ℕ → Type 0
 IsError text = (text ≡ codes "error not a move") ⊎ (text ≡ codes "error not now")
 
 -- A reply to a move of the thread tells of that thread's transaction, or is one of these.
-abbrev pub IsReply : ((Request → Bool) → Bool) → List Transaction → (thread : Option ℕ) → List ℕ → Type 0
-IsReply asked noted (Some thread) text = TellsSo asked noted thread text ⊎ (IsStart text ⊎ IsError text)
-IsReply asked noted None text = IsError text
+abbrev pub IsReply : ((Request → Bool) → Bool) → (noted now : List Transaction) → (thread : Option ℕ) → List ℕ → Type 0
+IsReply asked noted now (Some thread) text = TellsSo asked noted now thread text ⊎ (IsStart text ⊎ IsError text)
+IsReply asked noted now None text = IsError text
 
 -- to the move that this part of a line asks for
-abbrev pub IsReplyTo : ((Request → Bool) → Bool) → List Transaction → (part text : List ℕ) → Type 0
-IsReplyTo asked noted part text = IsReply asked noted (thread_in part) text
+abbrev pub IsReplyTo : ((Request → Bool) → Bool) → (noted now : List Transaction) → (part text : List ℕ) → Type 0
+IsReplyTo asked noted now part text = IsReply asked noted now (thread_in part) text
 
 -- replies, with this between any two
 abbrev pub joined_replies : List (List ℕ) → List ℕ
@@ -61,11 +75,11 @@ joined_replies (x ∷ []) = x
 joined_replies (x ∷ (y ∷ ys)) = x ++ (59 ∷ joined_replies (y ∷ ys))
 
 -- The replies to a line of moves are one to each of its parts, in their order. What is told of the transaction of a thread is told of the one that
--- was noted of it before the line.
-pub record AreReplies (asked : (Request → Bool) → Bool) (noted : List Transaction) (line text : List ℕ) : Type 0 where
+-- was noted of it before the line; and that one, or the thread's next, is the one that is noted behind it.
+pub record AreReplies (asked : (Request → Bool) → Bool) (noted now : List Transaction) (line text : List ℕ) : Type 0 where
   pub replies : List (List ℕ)
   pub are : text ≡ joined_replies replies
-  pub each : ArePairedInOrder (IsReplyTo asked noted) (parts_of line) replies
+  pub each : ArePairedInOrder (IsReplyTo asked noted now) (parts_of line) replies
 
 -- ** while a line is replied
 
@@ -74,14 +88,19 @@ abbrev pub IsSameAt : (thread : ℕ) → List Transaction → List Transaction �
 IsSameAt t old new = (d : Transaction) → get_or new t d ≡ get_or old t d
 
 -- what is told by a reply
-abbrev pub IsToldBy : ((Request → Bool) → Bool) → List Transaction → Reply → List ℕ → Type 0
-IsToldBy asked noted (replies.Thread t) text = TellsSo asked noted t text ⊎ (text ≡ codes "error not now")
-IsToldBy asked noted (replies.Started t g) text = text ≡ started_text g
-IsToldBy asked noted replies.NoMove text = text ≡ codes "error not a move"
-IsToldBy asked noted replies.NotNow text = text ≡ codes "error not now"
+abbrev pub IsToldBy : ((Request → Bool) → Bool) → (noted now : List Transaction) → Reply → List ℕ → Type 0
+IsToldBy asked noted now (replies.Thread t) text = TellsSo asked noted now t text ⊎ (text ≡ codes "error not now")
+IsToldBy asked noted now (replies.Started t g) text = text ≡ started_text g
+IsToldBy asked noted now replies.NoMove text = text ≡ codes "error not a move"
+IsToldBy asked noted now replies.NotNow text = text ≡ codes "error not now"
+
+-- A name goes with a reply exactly if the transaction that it tells of is over.
+abbrev pub HasNext : List Transaction → Reply → Option Gtrid → Type 0
+HasNext ts (replies.Thread t) next = (d : Transaction) → t < length ts → is_some next ≡ is_all_answered (get_or ts t d)
+HasNext ts reply next = Unit {0}
 
 -- by each of these
-pub record AreRepliesTold (asked : (Request → Bool) → Bool) (noted : List Transaction) (told : List Reply) (text : List ℕ) : Type 0 where
+pub record AreRepliesTold (asked : (Request → Bool) → Bool) (noted now : List Transaction) (told : List Reply) (text : List ℕ) : Type 0 where
   pub texts : List (List ℕ)
   pub are : text ≡ joined_replies texts
-  pub each : ArePairedInOrder (IsToldBy asked noted) told texts
+  pub each : ArePairedInOrder (IsToldBy asked noted now) told texts

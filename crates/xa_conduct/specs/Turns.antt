@@ -6,7 +6,7 @@ use Rattle.xa_conduct.specs.Conducting.{MovesNone}
 use Rattle.xa_conduct.specs.Over.{is_all_answered}
 use Rattle.xa_conduct.specs.Progress.{AllStep, is_start, moves_taken}
 use Rattle.xa_conduct.specs.Texts.{started_text}
-use Rattle.xa_conduct.specs.Told.{joined_replies}
+use Rattle.xa_conduct.specs.Told.{IsSame, joined_replies}
 use Rattle.xa_conduct.specs.declared.conductor.Conductor.{Conductor}
 use Rattle.xa_conduct.specs.declared.notes.Reply.{Reply}
 use Rattle.xa_conduct.specs.declared.notes.Reply.TheVariants as replies
@@ -34,11 +34,6 @@ pub record SaysAll (told : List Reply) (text : List ℕ) : Type 0 where
   pub said : AreSaid told texts
 
 -- ** one transaction after another
-
-pub record IsSame (t u : Transaction) : Type 0 where
-  pub gtrid : u.gtrid ≡ t.gtrid
-  pub standing : u.standing ≡ t.standing
-  pub parts : u.parts.items ≡ t.parts.items
 
 -- nothing has happened in it
 abbrev pub IsNew : Transaction → Type 0

@@ -269,33 +269,33 @@ module _ {L : Type 0} (moment : L → Moment) (name : List ℕ) (handed : L) (o 
       any_name = record { incarnation = 0; sequence = 0 }
 
   -- the name is the one that was noted
-  name_noted : (noted : List Transaction) (t : ℕ) (text : List ℕ) (tells_so : TellsSo asked noted t text) (g : Gtrid)
+  name_noted : (noted after : List Transaction) (t : ℕ) (text : List ℕ) (tells_so : TellsSo asked noted after t text) (g : Gtrid)
       → (is_gtrid tells_so.transaction.gtrid ≡ true → g ≡ tells_so.transaction.gtrid) → (d : Transaction)
       → is_gtrid (get_or noted t d).gtrid ≡ true → g ≡ (get_or noted t d).gtrid
-  name_noted noted t text tells_so g same d fit =
+  name_noted noted after t text tells_so g same d fit =
       let e : tells_so.transaction.gtrid ≡ (get_or noted t d).gtrid =
       tells_so.name ∙ ap (λ (x : Transaction). x.gtrid) (get_or_default noted t tells_so.transaction d tells_so.among) in
       same (subst (λ (h : Gtrid). is_gtrid h ≡ true) (sym e) fit) ∙ e
 
-  reply_in : (noted : List Transaction) (part : List ℕ) (thread : Option ℕ) (text : List ℕ) → thread_in part ≡ thread → IsReply asked noted thread text
+  reply_in : (noted after : List Transaction) (part : List ℕ) (thread : Option ℕ) (text : List ℕ) → thread_in part ≡ thread → IsReply asked noted after thread text
       → PartSeen noted part text
-  reply_in noted part (Some t) text at (inl tells_so) =
+  reply_in noted after part (Some t) text at (inl tells_so) =
       let saw = told_seen tells_so.transaction text tells_so.rests (reply_first tells_so.transaction tells_so.next text tells_so.is) in
       record {
         gtrid = saw.gtrid;
-        moved = λ w. record { thread = t; moves = at; among = tells_so.among; name = name_noted noted t text tells_so saw.gtrid saw.same };
+        moved = λ w. record { thread = t; moves = at; among = tells_so.among; name = name_noted noted after t text tells_so saw.gtrid saw.same };
         committed = saw.committed;
         rolled_back = saw.rolled_back;
         unknown = saw.unknown;
       }
-  reply_in noted part (Some t) text at (inr (inl started)) =
+  reply_in noted after part (Some t) text at (inr (inl started)) =
       no_outcome noted part (codes "started") text (refl, refl) (refl, (refl, refl)) refl (start_first text started)
-  reply_in noted part (Some t) text at (inr (inr error)) =
+  reply_in noted after part (Some t) text at (inr (inr error)) =
       no_outcome noted part (codes "error") text (refl, refl) (refl, (refl, refl)) refl (error_first text error)
-  reply_in noted part None text at error = no_outcome noted part (codes "error") text (refl, refl) (refl, (refl, refl)) refl (error_first text error)
+  reply_in noted after part None text at error = no_outcome noted part (codes "error") text (refl, refl) (refl, (refl, refl)) refl (error_first text error)
 
-  reply_seen : (noted : List Transaction) (part text : List ℕ) → IsReplyTo asked noted part text → PartSeen noted part text
-  reply_seen noted part text reply = reply_in noted part (thread_in part) text refl reply
+  reply_seen : (noted after : List Transaction) (part text : List ℕ) → IsReplyTo asked noted after part text → PartSeen noted part text
+  reply_seen noted after part text reply = reply_in noted after part (thread_in part) text refl reply
 
 -- ** in one of the sessions
 
@@ -314,17 +314,17 @@ module _ {L : Type 0} (moment : L → Moment) (name : List ℕ) where
     are : text ≡ joined_replies replies
     each : ArePairedInOrder (WasSeen noted last f served) (parts_of line) replies
 
-  were_seen : (noted : List Transaction) (line text : List ℕ) (last : Option (Server L)) (f : Branch → Standing) (served : AreServed moment name last f)
-      → WasReplied moment name noted line text last f served → AreSeen noted line text last f served
-  were_seen noted line text _ _ NoneYet was = absurd was
-  were_seen noted line text _ _ (OneMore last from to handed o told seen now left done cut before handed_on is is_left honest may) (inl replied) = record {
+  were_seen : (noted after : List Transaction) (line text : List ℕ) (last : Option (Server L)) (f : Branch → Standing) (served : AreServed moment name last f)
+      → WasReplied moment name noted after line text last f served → AreSeen noted line text last f served
+  were_seen noted after line text _ _ NoneYet was = absurd was
+  were_seen noted after line text _ _ (OneMore last from to handed o told seen now left done cut before handed_on is is_left honest may) (inl replied) = record {
     replies = replied.replies;
     are = replied.are;
     each =
-        paired_weaker (IsReplyTo (was_done (lines_read name is.lines) is.replies) noted)
+        paired_weaker (IsReplyTo (was_done (lines_read name is.lines) is.replies) noted after)
         (WasSeen noted (Some left) to (OneMore last from to handed o told seen now left done cut before handed_on is is_left honest may))
         (λ part r reply.
-        let saw = reply_seen moment name handed o told now is noted part r reply in
+        let saw = reply_seen moment name handed o told now is noted after part r reply in
         record {
           gtrid = saw.gtrid;
           moved = saw.moved;
@@ -334,8 +334,8 @@ module _ {L : Type 0} (moment : L → Moment) (name : List ℕ) where
         })
         (parts_of line) replied.replies replied.each;
   }
-  were_seen noted line text _ _ (OneMore last from to handed o told seen now left done cut before handed_on is is_left honest may) (inr earlier) =
-      let saw = were_seen noted line text last from before earlier in
+  were_seen noted after line text _ _ (OneMore last from to handed o told seen now left done cut before handed_on is is_left honest may) (inr earlier) =
+      let saw = were_seen noted after line text last from before earlier in
       record {
         replies = saw.replies;
         are = saw.are;
@@ -352,8 +352,8 @@ module _ {L : Type 0} (moment : L → Moment) (name : List ℕ) where
             })
             (parts_of line) saw.replies saw.each;
       }
-  were_seen noted line text _ _ (Between last from to d how before was_prepared final) was =
-      let saw = were_seen noted line text last from before was in
+  were_seen noted after line text _ _ (Between last from to d how before was_prepared final) was =
+      let saw = were_seen noted after line text last from before was in
       record {
         replies = saw.replies;
         are = saw.are;
@@ -414,8 +414,8 @@ module _ {L : Type 0} (moment : L → Moment) (commits : ServedCommitStands mome
       record { each = commits name (Some last) f served g told; row_stays = row_stays name last f c served g left told }
 
   pub replies_true : RepliesAreTrue moment
-  replies_true name last f c served noted line text left was =
-      let saw = were_seen moment name noted line text (Some last) f served was in
+  replies_true name last f c served noted after line text left was =
+      let saw = were_seen moment name noted after line text (Some last) f served was in
       record {
         replies = saw.replies;
         are = saw.are;

@@ -29,8 +29,8 @@ lines_asked done lines replies asked p e =
     elim (or_cases (list_any p done) false e) [ inl was ↦ asked p was | inr none ↦ absurd (false≢true none) ]
 
 module _ (asked more : (Request → Bool) → Bool) (keeps : (p : Request → Bool) → asked p ≡ true → more p ≡ true) where
-  reply_more : (noted : List Transaction) (thread : Option ℕ) (text : List ℕ) → IsReply asked noted thread text → IsReply more noted thread text
-  reply_more noted (Some t) text (inl tells) =
+  reply_more : (noted after : List Transaction) (thread : Option ℕ) (text : List ℕ) → IsReply asked noted after thread text → IsReply more noted after thread text
+  reply_more noted after (Some t) text (inl tells) =
       inl (record {
         transaction = tells.transaction;
         next = tells.next;
@@ -38,16 +38,17 @@ module _ (asked more : (Request → Bool) → Bool) (keeps : (p : Request → Bo
         name = tells.name;
         rests = rests_more asked more keeps tells.transaction tells.rests;
         is = tells.is;
+        gives = tells.gives;
       })
-  reply_more noted (Some t) text (inr other) = inr other
-  reply_more noted None text error = error
+  reply_more noted after (Some t) text (inr other) = inr other
+  reply_more noted after None text error = error
 
-  replies_more : (noted : List Transaction) (line text : List ℕ) → AreReplies asked noted line text → AreReplies more noted line text
-  replies_more noted line text are = record {
+  replies_more : (noted after : List Transaction) (line text : List ℕ) → AreReplies asked noted after line text → AreReplies more noted after line text
+  replies_more noted after line text are = record {
     replies = are.replies;
     are = are.are;
     each =
-        paired_weaker (IsReplyTo asked noted) (IsReplyTo more noted) (λ part r. reply_more noted (thread_in part) r) (parts_of line) are.replies are.each;
+        paired_weaker (IsReplyTo asked noted after) (IsReplyTo more noted after) (λ part r. reply_more noted after (thread_in part) r) (parts_of line) are.replies are.each;
   }
 
 module _ {L : Type 0} (moment : L → Moment) (seen : ServedSessionsAreSeen moment) where
@@ -89,10 +90,11 @@ module _ {L : Type 0} (moment : L → Moment) (seen : ServedSessionsAreSeen mome
       let done = turned.0.done in
       let acts = on done first turned.0.acts in
       let noted = old.notes.transactions.items in
-      session_of threads rms handed first now done acts (λ lines replies. AreReplies (was_done lines replies) noted line text) starts
+      let left = new.notes.transactions.items in
+      session_of threads rms handed first now done acts (λ lines replies. AreReplies (was_done lines replies) noted left line text) starts
       (elim turned.1 [
         | inl told ↦
-            replies_more (was_asked done []) (was_done acts.lines acts.replies) (lines_asked done acts.lines acts.replies acts.asked) noted line text told
+            replies_more (was_asked done []) (was_done acts.lines acts.replies) (lines_asked done acts.lines acts.replies acts.asked) noted left line text told
         | inr none ↦ absurd (moves none)
       ])
 

@@ -53,12 +53,12 @@ was_done lines replies p = list_any p (done_of lines replies)
 module _ {L : Type 0} (moment : L → Moment) (name : List ℕ) where
   -- A conductor that had noted these transactions was told a line of moves in one of these
   -- sessions, and replied so, which rests on what lines of the session asked for, and was done.
-  abbrev pub WasReplied : (noted : List Transaction) (line text : List ℕ) (last : Option (Server L)) (f : Branch → Standing)
+  abbrev pub WasReplied : (noted after : List Transaction) (line text : List ℕ) (last : Option (Server L)) (f : Branch → Standing)
       → AreServed moment name last f → Type 0
-  WasReplied noted line text _ _ NoneYet = ⊥
-  WasReplied noted line text _ _ (OneMore last from to handed o told seen now left done cut before handed_on is is_left honest may) =
-      AreReplies (was_done (lines_read name is.lines) is.replies) noted line text ⊎ WasReplied noted line text last from before
-  WasReplied noted line text _ _ (Between last from to d how before was final) = WasReplied noted line text last from before
+  WasReplied noted after line text _ _ NoneYet = ⊥
+  WasReplied noted after line text _ _ (OneMore last from to handed o told seen now left done cut before handed_on is is_left honest may) =
+      AreReplies (was_done (lines_read name is.lines) is.replies) noted after line text ⊎ WasReplied noted after line text last from before
+  WasReplied noted after line text _ _ (Between last from to d how before was final) = WasReplied noted after line text last from before
 
   -- It noted this of a transaction, which rests on the same.
   abbrev pub WasNoted : Transaction → (last : Option (Server L)) (f : Branch → Standing) → AreServed moment name last f → Type 0
@@ -103,8 +103,8 @@ module _ {L : Type 0} (moment : L → Moment) (name : List ℕ) where
 abbrev pub RepliesAreTrue : {L : Type 0} → (L → Moment) → Type 0
 RepliesAreTrue {L} moment =
     (name : List ℕ) (last : Server L) (f : Branch → Standing) (c : Content) (served : AreServed moment name (Some last) f)
-    (noted : List Transaction) (line text : List ℕ) → LeavesContent moment last.session.manager c
-    → WasReplied moment name noted line text (Some last) f served → RepliesAreSo moment name (Some last) f served c noted line text
+    (noted after : List Transaction) (line text : List ℕ) → LeavesContent moment last.session.manager c
+    → WasReplied moment name noted after line text (Some last) f served → RepliesAreSo moment name (Some last) f served c noted line text
 
 -- The same of what it noted of any transaction, if the numbers of its name fit their types.
 abbrev pub NotesAreTrue : {L : Type 0} → (L → Moment) → Type 0

@@ -44,7 +44,7 @@ module _ {L : Type 0} (moment : L → Moment) where
       (threads rms : ℕ) (handed : L) (first now : Server L) (old new : Conductor L) (line text : List ℕ)
       → StartsOver moment threads rms handed first → Conducts moment first old → TurnsSo moment old new line text → (MovesNone moment old new → ⊥)
       → GoesOn moment new.server now
-      → IsServedWith threads rms handed first now (λ lines replies. AreReplies (was_done lines replies) old.notes.transactions.items line text)
+      → IsServedWith threads rms handed first now (λ lines replies. AreReplies (was_done lines replies) old.notes.transactions.items new.notes.transactions.items line text)
 
   -- And so does what it notes of each transaction, unless nothing is told any more.
   abbrev pub NotesAreServed : Type 0

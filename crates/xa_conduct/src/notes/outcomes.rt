@@ -1,14 +1,15 @@
 //! What follows from a line of moves: decisions, rows that leave the log, transactions that begin, and the replies.
 
 ghost use Rattle.std.specs.Prelude.{◌≡◌, ◌==◌, ◌≤◌, ◌++◌, ◌∷◌, [], true, false, length};
-ghost use Rattle.std.specs.Prelude.{ℕ, All, Bool, IfOk, string_bytes};
+ghost use Rattle.std.specs.Prelude.{ℕ, All, Bool, IfOk, None, get_or, is_some, string_bytes};
 ghost use Rattle.std.specs.List.{list_any};
 ghost use Rattle.xa_conduct.specs.Backing.{KeepResting, KeepsRest, TransactionRests};
 ghost use Rattle.xa_conduct.specs.Decided.{AsksNoLess, is_same};
-ghost use Rattle.xa_conduct.specs.Moves.{AreMovedOnce, is_reply_to};
+ghost use Rattle.xa_conduct.specs.Moves.{AreMovedOnce, ArePairedInOrder, is_reply_to};
+ghost use Rattle.xa_conduct.specs.Over.{is_all_answered};
 ghost use Rattle.xa_conduct.specs.Progress.{AllStep};
 ghost use Rattle.xa_conduct.specs.Texts.{begun_text};
-ghost use Rattle.xa_conduct.specs.Told.{AddsText, AreRepliesTold, IsSameAt, IsToldBy};
+ghost use Rattle.xa_conduct.specs.Told.{AddsText, AreRepliesTold, GivesWay, HasNext, IsSameAt, IsToldBy};
 ghost use Rattle.xa_conduct.specs.Turns.{AllPass, IsSaid, Passes, SaysAll};
 ghost use Rattle.xa_conduct.specs.declared.notes.Reply.{Reply};
 ghost use Rattle.xa_conduct.specs.declared.notes.Reply.TheVariants as Replies;
@@ -120,31 +121,56 @@ impl Notes {
         replies: &[Reply],
         plan: &mut Plan,
     ) -> Result<Vec<Option<Gtrid>>, Memory>
+        ensures names { IfOk result (λ nexts. ArePairedInOrder
+            (HasNext self.old.transactions.items) replies.now nexts.items) }
         ensures more { IfOk result (λ _.
             AsksNoLess plan.old.requests.items plan.new.requests.items) }
         ensures same { self.new.transactions ≡ self.old.transactions }
     {
         let mut nexts = Vec::with_capacity(self.alloc, replies.len())?;
         for reply in replies {
-            let over = match transaction_of(self.transactions.as_slice(), *reply) {
-                Some(transaction) if transaction.is_over() => Some(transaction.thread),
-                _ => None,
-            };
-            let next = match over {
-                Some(thread) => {
-                    plan.begin(thread)?;
-                    Some(self.next())
-                }
-                None => None,
-            };
+            let next = self.next_behind(*reply, plan)?;
             nexts.push(next)?;
         }
         Ok(nexts)
     }
 
+    /// The name of the transaction that begins behind the one that a reply is of, if that is over.
+    fn next_behind(&mut self, reply: Reply, plan: &mut Plan) -> Result<Option<Gtrid>, Memory>
+        ensures name { IfOk result (HasNext self.old.transactions.items reply) }
+        ensures more { IfOk result (λ _.
+            AsksNoLess plan.old.requests.items plan.new.requests.items) }
+        ensures same { self.new.transactions ≡ self.old.transactions }
+    {
+        match reply {
+            Reply::Thread(thread) => self.next_of(thread, plan),
+            Reply::Started(_, _) | Reply::NoMove | Reply::NotNow => Ok(None),
+        }
+    }
+
+    /// The name of the thread's next transaction, which begins if its transaction is over.
+    fn next_of(&mut self, thread: u32, plan: &mut Plan) -> Result<Option<Gtrid>, Memory>
+        ensures name { IfOk result
+            (HasNext self.old.transactions.items (Replies.Thread thread)) }
+        ensures more { IfOk result (λ _.
+            AsksNoLess plan.old.requests.items plan.new.requests.items) }
+        ensures same { self.new.transactions ≡ self.old.transactions }
+    {
+        let Some(transaction) = self.transactions.get(thread as usize) else {
+            return Ok(None);
+        };
+        if !transaction.is_over() {
+            return Ok(None);
+        }
+        plan.begin(thread)?;
+        Ok(Some(self.next()))
+    }
+
     /// The replies to the moves of a line.
     pub fn reply(&mut self, replies: &[Reply], nexts: &[Option<Gtrid>]) -> Result<String, Memory>
-        requires { AreMovedOnce replies.now }
+        requires once { AreMovedOnce replies.now }
+        requires names { ArePairedInOrder (HasNext self.old.transactions.items)
+            replies.now nexts.now }
         ensures rests { IfOk result (λ _. KeepsRest self.old.transactions.items
             self.new.transactions.items) }
         ensures passes { IfOk result (λ _. AllPass self.old.transactions.items
@@ -152,18 +178,15 @@ impl Notes {
         ensures said { IfOk result (λ text. SaysAll replies.now (string_bytes text)) }
         ensures tells { IfOk result (λ text. (asked : (Request → Bool) → Bool) →
             All (TransactionRests asked) self.old.transactions.items →
-            AreRepliesTold asked self.old.transactions.items replies.now (string_bytes text)) }
+            AreRepliesTold asked self.old.transactions.items self.new.transactions.items
+            replies.now (string_bytes text)) }
     {
         let mut text = String::new(self.alloc);
-        let mut nexts = nexts.iter();
         let mut is_first = true;
-        for reply in replies {
+        for (at, reply) in replies.iter().enumerate() {
             add_semicolon(&mut text, is_first)?;
             is_first = false;
-            let next = match nexts.next() {
-                Some(next) => *next,
-                None => None,
-            };
+            let next = next_at(nexts, at);
             self.add_reply(&mut text, *reply, next)?;
         }
         Ok(text)
@@ -176,6 +199,7 @@ impl Notes {
         reply: Reply,
         next: Option<Gtrid>,
     ) -> Result<(), Memory>
+        requires { HasNext self.old.transactions.items reply next }
         ensures rests { IfOk result (λ _. KeepsRest self.old.transactions.items
             self.new.transactions.items) }
         ensures passes { IfOk result (λ _. AllPass self.old.transactions.items
@@ -186,8 +210,8 @@ impl Notes {
             IsSameAt t self.old.transactions.items self.new.transactions.items) }
         ensures tells { IfOk result (λ _. (asked : (Request → Bool) → Bool) →
             All (TransactionRests asked) self.old.transactions.items →
-            AddsText (IsToldBy asked self.old.transactions.items reply)
-            (string_bytes text.old) (string_bytes text.new)) }
+            AddsText (IsToldBy asked self.old.transactions.items self.new.transactions.items
+            reply) (string_bytes text.old) (string_bytes text.new)) }
     {
         match reply {
             Reply::Thread(thread) => self.add_thread(text, thread, next),
@@ -217,6 +241,7 @@ impl Notes {
         thread: u32,
         next: Option<Gtrid>,
     ) -> Result<(), Memory>
+        requires { HasNext self.old.transactions.items (Replies.Thread thread) next }
         ensures rests { IfOk result (λ _. KeepsRest self.old.transactions.items
             self.new.transactions.items) }
         ensures passes { IfOk result (λ _. AllPass self.old.transactions.items
@@ -227,8 +252,8 @@ impl Notes {
             IsSameAt t self.old.transactions.items self.new.transactions.items) }
         ensures tells { IfOk result (λ _. (asked : (Request → Bool) → Bool) →
             All (TransactionRests asked) self.old.transactions.items →
-            AddsText (IsToldBy asked self.old.transactions.items (Replies.Thread thread))
-            (string_bytes text.old) (string_bytes text.new)) }
+            AddsText (IsToldBy asked self.old.transactions.items self.new.transactions.items
+            (Replies.Thread thread)) (string_bytes text.old) (string_bytes text.new)) }
     {
         let Some(transaction) = self.transactions.get_mut(thread as usize) else {
             text.push_str("error not now")?;
@@ -238,6 +263,16 @@ impl Notes {
         add_told(text, self.alloc, transaction)?;
         add_begun(text, self.alloc, transaction, next)?;
         Ok(())
+    }
+}
+
+/// The name that goes with the reply at this place.
+fn next_at(nexts: &[Option<Gtrid>], at: usize) -> Option<Gtrid>
+    ensures { result ≡ get_or nexts.now at None }
+{
+    match nexts.get(at) {
+        Some(next) => *next,
+        None => None,
     }
 }
 
@@ -255,22 +290,21 @@ fn add_semicolon(text: &mut String, is_first: bool) -> Result<(), Memory>
     Ok(())
 }
 
-/// Adds the name of the transaction that begins behind this one, if this one is over.
+/// Adds the name of the transaction that begins behind this one, which there is if this one is over.
 fn add_begun(
     text: &mut String,
     alloc: Global,
     transaction: &mut Transaction,
     next: Option<Gtrid>,
 ) -> Result<(), Memory>
+    requires { is_some next ≡ is_all_answered transaction.old }
+    ensures gives { IfOk result (λ _. GivesWay transaction.old next transaction.new) }
     ensures rests { IfOk result (λ _. (asked : (Request → Bool) → Bool) →
         TransactionRests asked transaction.old → TransactionRests asked transaction.new) }
     ensures passes { IfOk result (λ _. Passes transaction.old transaction.new) }
     ensures adds { IfOk result (λ _. string_bytes text.new
-        ≡ string_bytes text.old ++ begun_text transaction.old next) }
+        ≡ string_bytes text.old ++ begun_text next) }
 {
-    if !transaction.is_over() {
-        return Ok(());
-    }
     let Some(gtrid) = next else {
         return Ok(());
     };

@@ -1,13 +1,16 @@
-use Rattle.std.proofs.Common.{List, ap, inl, inr, rules, subst, sym}
+use Rattle.std.proofs.Common.{List, Option, ap, inl, inr, rules, subst, sym}
 use Rattle.std.specs.Prelude.{All, string_bytes}
+use Rattle.xa_base.specs.declared.branch.Gtrid.{Gtrid}
 use Rattle.xa_requests.specs.declared.request.Request.{Request}
 use Rattle.xa_conduct.proofs.ConductLemmas.{moves_told, ok_all, rest_stays, stops_told}
 use Rattle.xa_conduct.proofs.MoveLemmas.{line_replied}
 use Rattle.xa_conduct.proofs.TurnLemmas.{line_steps}
 use Rattle.xa_conduct.specs.Backing.{TransactionRests, was_asked}
-use Rattle.xa_conduct.specs.Told.{AreRepliesTold}
+use Rattle.xa_conduct.specs.Moves.{ArePairedInOrder}
+use Rattle.xa_conduct.specs.Told.{AreRepliesTold, HasNext}
 use Rattle.xa_conduct.specs.Turns.{SaysAll}
 use Rattle.xa_conduct.specs.declared.notes.Reply.{Reply}
+use Rattle.xa_conduct.specs.declared.transaction.Transaction.{Transaction}
 use Rattle.xa_conduct.proofs.conductor.Conductor.move_threads.Goals as goal
 
 pub returns-clause-rests : goal.returns-clause-rests
@@ -33,9 +36,9 @@ returns-clause-rests g c = λ line read.
     (c.in_ok-decide.ensures.rests past (c.in_ok-replies.ensures.rests past first))))
     c.in_ok-text.ensures.rests
     (λ asked rest.
-    line_replied asked s.notes.transactions.items begun.self.transactions.items line text c.args.moves.now told read c.in_ok-replies.ensures.threads
+    line_replied asked s.notes.transactions.items begun.self.transactions.items c.reply.new.self.transactions.items line text c.args.moves.now told read c.in_ok-replies.ensures.threads
     c.in_ok-replies.ensures.once steps
-    (subst (λ (rs : List Reply). AreRepliesTold asked begun.self.transactions.items rs text) c.as_slice-4.ensures.value
+    (subst (λ (rs : List Reply). AreRepliesTold asked begun.self.transactions.items c.reply.new.self.transactions.items rs text) c.as_slice-4.ensures.value
     (c.in_ok-text.ensures.tells asked rest)))
     (c.ask_all.ensures.done (search rules))
 
@@ -61,3 +64,13 @@ returns-clause-steps g c = inl (record {
 
 pub returns-then-not-ask_all-clause-steps : goal.returns-then-not-ask_all-clause-steps
 returns-then-not-ask_all-clause-steps g c = ok_all c.stop.result _ (λ text. inr (inr c.stop.ensures.stopped))
+
+pub reply-requires-clause-names : goal.reply-requires-clause-names
+reply-requires-clause-names g c =
+    let begun = c.begin_next.new.self.transactions.items in
+    let nexts = c.in_ok-nexts.nexts.items in
+    subst (λ (names : List (Option Gtrid)). ArePairedInOrder (HasNext begun) c.as_slice-4.result.now names) (sym c.as_slice-5.ensures.value)
+    (subst (λ (told : List Reply). ArePairedInOrder (HasNext begun) told nexts) (sym c.as_slice-4.ensures.value)
+    (subst (λ (told : List Reply). ArePairedInOrder (HasNext begun) told nexts) c.as_slice-3.ensures.value
+    (subst (λ (ts : List Transaction). ArePairedInOrder (HasNext ts) c.as_slice-3.result.now nexts) (sym (ap (λ v. v.items) c.begin_next.ensures.same))
+    c.in_ok-nexts.ensures.names)))

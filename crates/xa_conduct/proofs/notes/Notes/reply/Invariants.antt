@@ -11,13 +11,13 @@ use Rattle.xa_conduct.specs.Turns.{AllPass}
 use Rattle.xa_conduct.proofs.notes.Notes.reply.Given as goal
 
 -- so far each reply tells of a transaction what rested at the start, and what is noted then rests on the same
-abbrev pub invariant-loop-reply : goal.invariant-loop-reply
-invariant-loop-reply l = record {
+abbrev pub invariant-loop-at : goal.invariant-loop-at
+invariant-loop-at l = record {
   rests : KeepsRest l.fn.self.transactions.items l.self.transactions.items;
   passes : AllPass l.fn.self.transactions.items l.self.transactions.items;
-  said : SaidSoFar (take l.reply-index l.replies) l.is_first (string_bytes l.text);
-  others : (t : ℕ) → list_any (is_reply_to t) (take l.reply-index l.replies) ≡ false → IsSameAt t l.fn.self.transactions.items l.self.transactions.items;
+  said : SaidSoFar (take l.at l.replies) l.is_first (string_bytes l.text);
+  others : (t : ℕ) → list_any (is_reply_to t) (take l.at l.replies) ≡ false → IsSameAt t l.fn.self.transactions.items l.self.transactions.items;
   tells :
       (asked : (Request → Bool) → Bool) → All (TransactionRests asked) l.fn.self.transactions.items
-      → ToldSoFar asked l.fn.self.transactions.items (take l.reply-index l.replies) l.is_first (string_bytes l.text);
+      → ToldSoFar asked l.fn.self.transactions.items l.self.transactions.items (take l.at l.replies) l.is_first (string_bytes l.text);
 }
