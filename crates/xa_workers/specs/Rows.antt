@@ -1,6 +1,6 @@
 -- The rows that a run of jobs adds to a log.
-use Rattle.std.specs.Prelude.{◌≡◌, ◌≢◌, ℕ, ◌+◌, ◌≤◌, Bool, true, false, ◌&&◌, if◌then◌else◌}
-use Rattle.std.specs.Prelude.{IsSomeAnd, List, Option, Some, None, slice_get, slice_index_or}
+use Rattle.std.specs.Prelude.{◌≡◌, ◌≢◌, ℕ, ◌+◌, ◌<◌, ◌≤◌, Bool, true, false, ◌&&◌, if◌then◌else◌}
+use Rattle.std.specs.Prelude.{IsSomeAnd, length, List, Option, Some, None, slice_get, slice_index_or}
 use Rattle.std.specs.FinMap.{get}
 use Rattle.std.specs.List.{list_any}
 use Rattle.xa_base.specs.Branch.{branch_cmp}
@@ -96,3 +96,8 @@ FailsNot moment old new = (moment new).fault_count ≡ (moment old).fault_count
 abbrev pub HasRowsOf : {L : Type 0} → DecisionLog.Ghosts L → Jobs → (incarnation : ℕ) → RunRows L → Type 0
 HasRowsOf g jobs incarnation run_rows =
     Logs g incarnation (written_rows (participants_of_job jobs incarnation) run_rows.written.items) run_rows.first.value run_rows.log
+
+-- job i is noted as written
+pub record IsNoted (written : List Bool) (i : ℕ) : Type 0 where
+  pub within : i < length written
+  pub noted : slice_index_or written i false ≡ true

@@ -1,9 +1,9 @@
 //! The log's worker.
-ghost use Rattle.std.specs.Prelude.{◌≡◌, ◌≢◌, ◌≤◌, ◌<◌, Err, IfOk, OnOk, vec_len};
+ghost use Rattle.std.specs.Prelude.{◌≡◌, ◌≢◌, ◌≤◌, ◌<◌, All, Err, IfOk, OnOk, vec_len};
 ghost use Rattle.xa_log.specs.Content.{last_number};
 ghost use Rattle.xa_log.specs.Contract.{FitsRow};
 ghost use Rattle.std.specs.List.{AllByRecursion};
-ghost use Rattle.xa_workers.specs.Rows.{Adds, FailsNot, HasFailed, HasRowsOf, Logs, no_rows};
+ghost use Rattle.xa_workers.specs.Rows.{Adds, FailsNot, HasFailed, HasRowsOf, IsNoted, Logs, no_rows};
 
 use crate::brand::Run;
 use crate::crew::Crew;
@@ -69,6 +69,7 @@ impl<L: DecisionLog> RunRows<L> {
         ensures first { self.new.first ≡ self.old.first }
         ensures len { vec_len self.new.written ≡ vec_len self.old.written }
         ensures kept { OnOk result (HasRowsOf L.DecisionLog jobs.now incarnation self.new) }
+        ensures noted { OnOk result (IsNoted self.new.written.items job) }
         ensures log { result ≡ Err WorkFault.Log → HasFailed L.moment self.old.log self.new.log }
         ensures other { result ≢ Err WorkFault.Log → FailsNot L.moment self.old.log self.new.log }
     {
@@ -103,6 +104,7 @@ impl<L: DecisionLog> RunRows<L> {
             AllByRecursion (λ d. FitsRow d.gtrid) decisions.items) }
         ensures own { IfOk result (λ decisions. AllByRecursion (λ d.
             AllByRecursion (λ b. b.gtrid ≡ d.gtrid) d.participants.items) decisions.items) }
+        ensures noted { OnOk result (All (λ a. IsNoted self.new.written.items a.job) asked.now) }
         ensures fault { result ≢ Err WorkFault.Log }
     {
         let mut decisions = Vec::new(alloc);
@@ -131,6 +133,7 @@ impl<L: DecisionLog> RunRows<L> {
         ensures first { self.new.first ≡ self.old.first }
         ensures len { vec_len self.new.written ≡ vec_len self.old.written }
         ensures kept { OnOk result (HasRowsOf L.DecisionLog jobs.now incarnation self.new) }
+        ensures noted { OnOk result (All (λ a. IsNoted self.new.written.items a.job) asked.now) }
         ensures log { result ≡ Err WorkFault.Log → HasFailed L.moment self.old.log self.new.log }
         ensures other { result ≢ Err WorkFault.Log → FailsNot L.moment self.old.log self.new.log }
     {
@@ -138,6 +141,47 @@ impl<L: DecisionLog> RunRows<L> {
         self.log.commit_all(alloc, decisions.as_slice())?;
         Ok(())
     }
+
+    /// Writes the rows of the jobs that threads ask for: one by itself, several at once.
+    fn write_each(
+        &mut self,
+        alloc: Global,
+        jobs: &Jobs,
+        incarnation: u64,
+        asked: &[Asked],
+    ) -> Result<(), WorkFault>
+        requires few { vec_len self.old.written ≤ JOB_LIMIT }
+        requires some { 0 < jobs.now.threads }
+        requires fits { incarnation ≤ last_number }
+        requires kept { HasRowsOf L.DecisionLog jobs.now incarnation self.old }
+        ensures first { self.new.first ≡ self.old.first }
+        ensures len { vec_len self.new.written ≡ vec_len self.old.written }
+        ensures kept { OnOk result (HasRowsOf L.DecisionLog jobs.now incarnation self.new) }
+        ensures noted { OnOk result (All (λ a. IsNoted self.new.written.items a.job) asked.now) }
+        ensures log { result ≡ Err WorkFault.Log → HasFailed L.moment self.old.log self.new.log }
+        ensures other { result ≢ Err WorkFault.Log → FailsNot L.moment self.old.log self.new.log }
+    {
+        match asked {
+            [Asked { job, .. }] => self.write(alloc, jobs, incarnation, *job),
+            several => self.write_all(alloc, jobs, incarnation, several),
+        }
+    }
+}
+
+/// Tells a thread that the row of its job is written, and wakes it. It isn't told before the log has
+/// the row.
+fn reply<J: Run, G: Gate, L: DecisionLog>(
+    crew: &Crew<'_, J, G>,
+    run_rows: &RunRows<L>,
+    thread: u32,
+    job: usize,
+)
+    requires few { vec_len run_rows.now.written ≤ JOB_LIMIT }
+    requires kept { HasRowsOf L.DecisionLog crew.now.jobs.now crew.now.incarnation run_rows.now }
+    requires noted { IsNoted run_rows.now.written.items job }
+{
+    crew.docket.reply(thread, job);
+    crew.signals.wake_thread(thread);
 }
 
 /// Writes the rows that threads of control ask for, those that are asked for at the same time at
@@ -165,16 +209,14 @@ fn write_asked<J: Run, G: Gate, L: DecisionLog>(
     }
     pace.fill(clock, crew.docket);
     let asked = crew.docket.take_all(alloc)?;
-    let start = Instant::now(clock).ok();
-    match asked.as_slice() {
-        [] => return Ok(false),
-        [Asked { job, .. }] => run_rows.write(alloc, crew.jobs, crew.incarnation, *job)?,
-        several => run_rows.write_all(alloc, crew.jobs, crew.incarnation, several)?,
+    if asked.is_empty() {
+        return Ok(false);
     }
+    let start = Instant::now(clock).ok();
+    run_rows.write_each(alloc, crew.jobs, crew.incarnation, asked.as_slice())?;
     pace.wrote(clock, start);
-    for Asked { thread, .. } in &asked {
-        crew.docket.reply(*thread);
-        crew.signals.wake_thread(*thread);
+    for Asked { thread, job } in &asked {
+        reply(crew, run_rows, *thread, *job);
     }
     Ok(true)
 }
