@@ -4,10 +4,9 @@ use Rattle.std.proofs.Math.Logic.{∥∥₁_elim}
 use Rattle.std.specs.FinMap.{len-empty}
 use Rattle.std.specs.List.{list_any}
 use Rattle.std.proofs.lemmas.List.Elements.{All-nil}
-use Rattle.sqlite.specs.Files.{AreFoundIn, file_state, over_files}
+use Rattle.sqlite.specs.Files.{file_state, over_files}
 use Rattle.sqlite.specs.Held.{Held}
 use Rattle.sqlite.specs.Recovery.{Image}
-use Rattle.sqlite.specs.Start.{FindsIn}
 use Rattle.sqlite.specs.State.{State, IsLive, Opens}
 use Rattle.sqlite.specs.Tree.{Trees}
 use Rattle.sqlite.proofs.ListingLemmas.{empty_is_sound}
@@ -45,6 +44,7 @@ use Rattle.xa_server.specs.declared.server.Server.{Server}
 use Rattle.xa_session.specs.Logging.{LeavesContent}
 use Rattle.xa_sql_log.proofs.Closing.{found_whole, ready_content, whole_holds}
 use Rattle.xa_sql_log.proofs.FoundDatabase.{none_found}
+use Rattle.xa_sql_log.specs.FoundFiles.{FindsLogIn}
 use Rattle.xa_sql_log.specs.OpenedDatabase.{HoldsLog, HoldsLogOrNothing, IsBlank}
 use Rattle.xa_sql_log.specs.PreparedDatabase.{Prepares}
 use Rattle.xa_sql_log.specs.Rows.{content_of}
@@ -135,13 +135,13 @@ module _ (s : State) (opens : Opens s) (live : IsLive s) where
   trees_now : s.now.trees ≡ s.committed.trees
   trees_now = λ i. (opens.clean i).trees
 
-  blank : (image : Image) → length image.db ≡ 0 → FindsIn image s → IsBlank s
+  blank : (image : Image) → length image.db ≡ 0 → FindsLogIn image s → IsBlank s
   blank image none found =
       let empty = none_found image s.committed.trees none found.reads in
       tables_of _ (subst (IsSound _) (sym trees_now) (empty_is_sound s.committed.trees empty.1))
 
   -- the log that is made of it has what the files hold
-  pub content_so : (new : State) (image : Image) (c : Content) → FindsIn image s → Prepares s new (Ok tt) → IsHeldInFiles c image → content_in new ≡ Some c
+  pub content_so : (new : State) (image : Image) (c : Content) → FindsLogIn image s → Prepares s new (Ok tt) → IsHeldInFiles c image → content_in new ≡ Some c
   content_so new image c found taken (inl (none, is)) = ready_content nothing new (taken.made (blank image none found)) ∙ ap Some (sym is)
   content_so new image c found taken (inr (inl whole)) = found_whole c image s new opens live found whole taken
   content_so new image c found taken (inr (inr finds)) =

@@ -1,7 +1,6 @@
 -- Processes one after another, each of which opens the log at one path and serves a driver over it.
 use Rattle.std.specs.Prelude.{◌≡◌, ◌⊎◌, ◌<◌, ℕ, false, List, [], ◌∷◌, ◌++◌, length, map, Some}
 use Rattle.std.specs.List.{list_any}
-use Rattle.sqlite.specs.Files.{AreFoundIn}
 use Rattle.sqlite.specs.Recovery.{Image}
 use Rattle.sqlite.specs.Tree.{Trees}
 use Rattle.xa_base.specs.StateTable.{broken}
@@ -24,6 +23,7 @@ use Rattle.xa_server.specs.Serving.{AreTurns, EndsAtLastOr, Turn, replies_given,
 use Rattle.xa_server.specs.Telling.{HaveTold, is_log_fault}
 use Rattle.xa_server.specs.declared.server.Server.{Server}
 use Rattle.xa_sql_log.specs.ClosedFiles.{HoldsWhole}
+use Rattle.xa_sql_log.specs.FoundFiles.{IsFoundIn}
 use Rattle.xa_sql_log.specs.Rows.{content_of}
 use Rattle.xa_sql_log.specs.Sql.{AreLogTrees}
 use Rattle.xa_tm.specs.Calls.{log_in}
@@ -70,7 +70,7 @@ pub record IsSessionOver {L : Type 0} (moment : L → Moment) (name : List ℕ) 
 abbrev pub IsHeldInFiles : Content → Image → Type 0
 IsHeldInFiles c image =
     ((length image.db ≡ 0) × (c ≡ nothing))
-    ⊎ (HoldsWhole c image ⊎ ((db : Trees) → AreFoundIn image db → AreLogTrees db × (content_of db ≡ c)))
+    ⊎ (HoldsWhole c image ⊎ ((db : Trees) → IsFoundIn image db → AreLogTrees db × (content_of db ≡ c)))
 
 -- It opened the log in files with these contents, and served a driver that writes this text over
 -- it; this was written, and this log is left.

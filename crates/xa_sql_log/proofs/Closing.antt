@@ -4,12 +4,12 @@ use Rattle.std.proofs.Math.Logic.{∥∥₁_elim}
 use Rattle.sqlite.specs.Closing.{HoldsAlone}
 use Rattle.sqlite.specs.Effect.{Database}
 use Rattle.sqlite.specs.Recovery.{Image}
-use Rattle.sqlite.specs.Start.{FindsIn}
 use Rattle.sqlite.specs.State.{State, IsLive, Opens}
 use Rattle.sqlite_trees.specs.Props.{Trees-set}
 use Rattle.xa_log.specs.Content.{Content}
 use Rattle.xa_sql_log.proofs.Lasting.{as_log}
 use Rattle.xa_sql_log.specs.ClosedFiles.{HoldsWhole}
+use Rattle.xa_sql_log.specs.FoundFiles.{FindsLogIn}
 use Rattle.xa_sql_log.specs.OpenedDatabase.{HoldsLog}
 use Rattle.xa_sql_log.specs.PreparedDatabase.{Prepares}
 use Rattle.xa_sql_log.specs.Rows.{content_of}
@@ -37,7 +37,7 @@ whole_holds c image whole = inr (whole.db, whole.held.both, inr whole.log)
 pub ready_content : (c : Content) (s : State) → IsReadyWith c s → content_in s ≡ Some c
 ready_content c s ready = let is_on : s.is_open ≡ true = ready.is_open in rw is_on (ap Some ready.content)
 
-pub found_whole : (c : Content) (image : Image) (was new : State) → Opens was → IsLive was → FindsIn image was → HoldsWhole c image
+pub found_whole : (c : Content) (image : Image) (was new : State) → Opens was → IsLive was → FindsLogIn image was → HoldsWhole c image
     → Prepares was new (Ok tt) → content_in new ≡ Some c
 found_whole c image was new opens live found whole taken =
     let held : was.committed.trees ≡ whole.db = ∥∥₁_elim whole.held.both (Trees-set _ _) (found.holds whole.db) in

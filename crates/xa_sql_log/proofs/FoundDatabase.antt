@@ -1,9 +1,8 @@
 -- What an open finds in files that hold a log, or nothing, is a database that a log knows.
 use Rattle.std.proofs.Common.{◌≡◌, inl, inr, sym, subst, ◌∙◌, arith, length, refl}
 use Rattle.std.proofs.Math.Logic.{∥∥₁_elim}
-use Rattle.sqlite.specs.Files.{AreFoundIn, IsEmpty}
+use Rattle.sqlite.specs.Files.{IsEmpty}
 use Rattle.sqlite.specs.Recovery.{Image}
-use Rattle.sqlite.specs.Start.{FindsIn}
 use Rattle.sqlite.specs.State.{State, IsLive, Opens}
 use Rattle.sqlite.specs.Tree.{Trees}
 use Rattle.sqlite.proofs.ListingLemmas.{empty_is_sound}
@@ -12,6 +11,7 @@ use Rattle.sqlite_catalog.specs.Listing.{IsSound}
 use Rattle.sqlite_schema.specs.declared.schema.Schema.{Schema}
 use Rattle.sqlite_trees.specs.Objects.{catalog_tree}
 use Rattle.sqlite_trees.specs.Props.{Trees-set}
+use Rattle.xa_sql_log.specs.FoundFiles.{FindsLogIn, IsFoundIn}
 use Rattle.xa_sql_log.specs.OpenedDatabase.{AreAnyLogTrees, HoldsLog, HoldsLogOrNothing, IsKnownDatabase}
 use Rattle.xa_sql_log.specs.Rows.{IsOldLog}
 use Rattle.xa_sql_log.specs.Tables.{old_schema}
@@ -19,8 +19,9 @@ use Rattle.xa_sql_log.specs.Sql.{AreLogTrees}
 use Rattle.xa_sql_log.proofs.Lasting.{found_ready}
 
 -- an open of an empty file finds no table
-pub none_found : (image : Image) (db : Trees) → length image.db ≡ 0 → AreFoundIn image db → IsEmpty db
-none_found image db none (inl it) = absurd (let adopts = it.3 in omega (arith, none, adopts.found.present))
+pub none_found : (image : Image) (db : Trees) → length image.db ≡ 0 → IsFoundIn image db → IsEmpty db
+none_found image db none (inl (inl it)) = absurd (let adopts = it.3 in omega (arith, none, adopts.found.present))
+none_found image db none (inl (inr it)) = it.1
 none_found image db none (inr it) = it.1
 
 module _ (s : State) (opens : Opens s) (live : IsLive s) where
@@ -42,9 +43,9 @@ module _ (s : State) (opens : Opens s) (live : IsLive s) where
   known_empty : (db : Trees) → s.committed.trees ≡ db → IsEmpty db → IsKnownDatabase s
   known_empty db is empty = inl (tables_of _ (subst (IsSound _) (sym (trees_now db is)) (empty_is_sound db empty.1)))
 
-  pub known_found : (image : Image) → FindsIn image s → HoldsLogOrNothing image → IsKnownDatabase s
+  pub known_found : (image : Image) → FindsLogIn image s → HoldsLogOrNothing image → IsKnownDatabase s
   known_found image found log = elim (log s.committed.trees found.reads) [ inl empty ↦ known_empty _ refl empty | inr is ↦ known_log _ refl is ]
 
-  pub known_held : (image : Image) → FindsIn image s → HoldsLog image → IsKnownDatabase s
+  pub known_held : (image : Image) → FindsLogIn image s → HoldsLog image → IsKnownDatabase s
   known_held image found (inl none) = known_empty _ refl (none_found image s.committed.trees none found.reads)
   known_held image found (inr held) = known_log held.0 (∥∥₁_elim held.1 (Trees-set _ _) (found.holds held.0)) held.2

@@ -4,7 +4,6 @@ use Rattle.std.proofs.Math.Logic.{∥∥₁_elim}
 use Rattle.std.proofs.lemmas.Bool.{true≢false}
 use Rattle.sqlite.specs.Files.{HoldsDatabase}
 use Rattle.sqlite.specs.Recovery.{Image}
-use Rattle.sqlite.specs.Start.{FindsIn}
 use Rattle.sqlite.specs.State.{State, IsLive, Opens}
 use Rattle.sqlite.specs.Tree.{Trees}
 use Rattle.sqlite.proofs.ListingLemmas.{empty_is_sound}
@@ -19,6 +18,7 @@ use Rattle.xa_log.specs.Content.{Content, nothing}
 use Rattle.xa_sql_log.proofs.Closing.{ready_content}
 use Rattle.xa_sql_log.proofs.FoundDatabase.{none_found}
 use Rattle.xa_sql_log.proofs.Layouts.{meta_in_old, participant_in_log}
+use Rattle.xa_sql_log.specs.FoundFiles.{FindsLogIn}
 use Rattle.xa_sql_log.specs.HeldContents.{AreTreesOf, HoldsContent, MakesLabelled}
 use Rattle.xa_sql_log.specs.Labels.{MakesParticipants, labelled}
 use Rattle.xa_sql_log.specs.OpenedDatabase.{AreAnyLogTrees, AreOldLogTrees, HasTables, HoldsLog, IsBlank, IsFoundLog, IsKnownDatabase}
@@ -60,7 +60,7 @@ pub stays_nothing : (old new : State) → IsReadyWith nothing old → Prepares o
 stays_nothing old new ready taken =
     subst (λ c. IsReadyWith c new) ready.content (taken.kept ready.ready.now.schema (λ _. ready.ready))
 
-module _ (image : Image) (s : State) (opens : Opens s) (live : IsLive s) (found : FindsIn image s) where
+module _ (image : Image) (s : State) (opens : Opens s) (live : IsLive s) (found : FindsLogIn image s) where
   pub tables_of : (schema : Schema) → IsSound schema s.now.trees → s.now.schema ≡ schema
   tables_of schema sound = lists_once (s.now.trees catalog_tree) s.now.schema schema (live opens.is_open).0.lists sound.lists
 

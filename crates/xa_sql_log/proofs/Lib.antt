@@ -32,5 +32,6 @@ pub mod Plain
 pub mod States
 pub mod StatesAfter
 pub mod Texts
+pub mod UnmadeFiles
 pub mod Values
 pub mod Versions

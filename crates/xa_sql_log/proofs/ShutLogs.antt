@@ -8,7 +8,6 @@ use Rattle.sqlite.specs.Effect.{Database, IsDatabase}
 use Rattle.sqlite.specs.Listing.{understood}
 use Rattle.sqlite.specs.Order.{Row, column}
 use Rattle.sqlite.specs.Recovery.{Image}
-use Rattle.sqlite.specs.Start.{FindsIn}
 use Rattle.sqlite.specs.State.{State, CommitsBy, Executes, IsLive, IsUnchanged, Opens}
 use Rattle.sqlite.specs.Tree.{Trees}
 use Rattle.sqlite.specs.declared.types.Value.TheVariants.{Int}
@@ -24,6 +23,7 @@ use Rattle.xa_sql_log.proofs.Migrates.{set_version, set_version_is, set_version_
 use Rattle.xa_sql_log.proofs.NamedVersions.{names, naming}
 use Rattle.xa_sql_log.proofs.States.{commits_as}
 use Rattle.xa_sql_log.proofs.StatesAfter.{ready_after}
+use Rattle.xa_sql_log.specs.FoundFiles.{FindsLogIn}
 use Rattle.xa_sql_log.specs.OpenedDatabase.{HasMetaRow, HasTables, NamesKnown, NamesVersion, version_row}
 use Rattle.xa_sql_log.specs.PreparedDatabase.{Prepares}
 use Rattle.xa_sql_log.specs.Rows.{IsLog, content_of}
@@ -115,7 +115,7 @@ pub shut_is_unknown : (i : ℕ) (s : State) → HasMetaRow 102 i s → NamesKnow
 shut_is_unknown i s has (inl first) = let same = names_one 102 1 i s has first in omega (arith, same)
 shut_is_unknown i s has (inr second) = let same = names_one 102 2 i s has second in omega (arith, same)
 
-pub shut_unopened : (c : Content) (image : Image) (s new : State) → Opens s → IsLive s → FindsIn image s → HoldsShut c image
+pub shut_unopened : (c : Content) (image : Image) (s new : State) → Opens s → IsLive s → FindsLogIn image s → HoldsShut c image
     → (HasTables s → Prepares s new (Ok tt)) → ⊥
 shut_unopened c image s new opens live found shut takes =
     let trees : s.now.trees ≡ shut.db = trees_found image s opens live found shut.db shut.held.both in

@@ -1,5 +1,6 @@
 pub mod ClosedFiles
 pub mod Faults
+pub mod FoundFiles
 pub mod Halves
 pub mod HeldContents
 pub mod Labels

@@ -8,7 +8,8 @@ use Rattle.sqlite.specs.Tree.{Trees}
 use Rattle.sqlite.specs.State.{State, Executes, IsLive, Opens}
 use Rattle.sqlite.specs.Recovery.{Image}
 use Rattle.sqlite_catalog.specs.Listing.{IsSound}
-use Rattle.sqlite.specs.Files.{AreFoundIn, HoldsDatabase, IsEmpty}
+use Rattle.sqlite.specs.Files.{HoldsDatabase, IsEmpty}
+use Rattle.xa_sql_log.specs.FoundFiles.{IsFoundIn}
 use Rattle.xa_sql_log.specs.Tables.{no_tables, old_schema, log_schema}
 use Rattle.xa_sql_log.specs.Rows.{IsOldLog}
 use Rattle.xa_sql_log.specs.Sql.{AreLogTrees, IsOldReady, HasLogTables}
@@ -79,4 +80,4 @@ HoldsLog image = (length image.db ≡ 0) ⊎ ((db : Trees) × ∥ HoldsDatabase 
 
 -- whatever an open may find in the files is no table at all, or a log
 abbrev pub HoldsLogOrNothing : Image → Type 0
-HoldsLogOrNothing image = (db : Trees) → AreFoundIn image db → IsEmpty db ⊎ AreAnyLogTrees db
+HoldsLogOrNothing image = (db : Trees) → IsFoundIn image db → IsEmpty db ⊎ AreAnyLogTrees db

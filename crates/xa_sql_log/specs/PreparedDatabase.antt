@@ -6,12 +6,12 @@ use Rattle.sqlite.specs.Held.{Held}
 use Rattle.sqlite.specs.declared.FileStore.{FileStore}
 use Rattle.sqlite.specs.Recovery.{Image}
 use Rattle.sqlite.specs.Files.{file_state, over_files, IsBlankAs, IsOpened}
-use Rattle.sqlite.specs.Start.{FindsIn}
 use Rattle.sqlite_disk.specs.declared.Disk.{Ghosts}
 use Rattle.xa_log.specs.Content.{Content, nothing}
 use Rattle.xa_log.specs.Contract.{IsStoreFault}
 use Rattle.xa_log.specs.declared.log_fault.LogFault.{LogFault}
 use Rattle.xa_log.specs.declared.log_fault.LogFault.TheVariants.{Version}
+use Rattle.xa_sql_log.specs.FoundFiles.{FindsLogIn}
 use Rattle.xa_sql_log.specs.Tables.{log_schema}
 use Rattle.xa_sql_log.specs.Rows.{content_of, old_content_of}
 use Rattle.xa_sql_log.specs.Sql.{IsOrderly, IsOldReady, IsReadyWith, IsShutOrAsBefore, AreNewTrees}
@@ -83,7 +83,7 @@ pub record Prepares (old new : State) (result : Result (Unit {0}) LogFault) : Ty
 pub record IsOverFiles {D : Type 0} {g : Ghosts D} (image : Image) (log : Held (FileStore D g)) : Type 0 where
   pub was : Held (FileStore D g)
   pub opened : IsOpened was
-  pub found : FindsIn image (file_state was)
+  pub found : FindsLogIn image (file_state was)
   -- where there was no file, its pages end in no sums of their own, so that any program of SQLite may write them
   pub plain : IsBlankAs false image → (over_files.view was.store).has_sums ≡ false
   pub taken : Prepares (file_state was) (file_state log) (Ok tt)

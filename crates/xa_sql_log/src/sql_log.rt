@@ -13,6 +13,7 @@ mod halves;
 mod labels;
 mod looking;
 mod opening;
+mod pages;
 mod shutting;
 mod starts;
 

@@ -4,11 +4,11 @@ ghost use Rattle.std.specs.Prelude.{◌≡◌, ◌≢◌, ◌⊎◌, [], true, f
 ghost use Rattle.sqlite.specs.State.{HasCleanDisk};
 ghost use Rattle.sqlite.specs.Held.{state};
 ghost use Rattle.sqlite.specs.Files.{file_state, IsOpened};
-ghost use Rattle.sqlite.specs.Start.{FindsIn};
 ghost use Rattle.sqlite_std_file.specs.File.{file_is_usable, IsFresh};
 ghost use Rattle.sqlite_wal.specs.Files.{image_at};
 ghost use Rattle.xa_log.specs.Content.{Content, nothing};
 ghost use Rattle.xa_log.specs.Contract.{IsStoreFault};
+ghost use Rattle.xa_sql_log.specs.FoundFiles.{FindsLogIn};
 ghost use Rattle.xa_sql_log.specs.HeldContents.{HoldsContent, MakesLabelled};
 ghost use Rattle.xa_sql_log.specs.Labels.{MakesParticipants, labelled};
 ghost use Rattle.xa_sql_log.specs.OpenedDatabase.{HasTables, HoldsLog, IsBlank, IsKnownDatabase};
@@ -18,9 +18,9 @@ ghost use Rattle.xa_sql_log.specs.Sql.{IsLasting, IsReadyWith};
 
 use super::SqlLog;
 use super::files::{open_fault, options_by_chance};
+use super::pages::connect;
 use crate::label::labelled_text;
 use crate::layout::has_log;
-use crate::statements::store_fault;
 use crate::tables::make_tables;
 use sqlite::{Alter, Connection, FileFrom, FileStore, Files, Start};
 use sqlite_disk::Disk;
@@ -134,14 +134,11 @@ fn connection_over<S: Start>(
     requires fresh_db { IsFresh false files.db }
     ensures opened { IfOk result (λ conn. HasCleanDisk (file_state conn) → IsOpened conn) }
     ensures found { IfOk result (λ conn. HasCleanDisk (file_state conn) →
-        FindsIn (image_at S.Start) (file_state conn)) }
+        FindsLogIn (image_at S.Start) (file_state conn)) }
     ensures cause { IfErr result IsStoreFault }
 {
     let options = options_by_chance(rt)?;
-    match Connection::open_files(rt.alloc(), files, options) {
-        Ok(conn) => Ok(conn),
-        Err((error, _left)) => Err(store_fault(error)),
-    }
+    connect(rt.alloc(), files, options)
 }
 
 impl<S: Start> SqlLog<FileStore<FileFrom<S>>> {

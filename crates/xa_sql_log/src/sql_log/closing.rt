@@ -11,6 +11,7 @@ ghost use Rattle.xa_sql_log.specs.OpenedDatabase.{HoldsLog};
 ghost use Rattle.xa_sql_log.specs.PreparedDatabase.{IsOverFiles};
 
 use super::SqlLog;
+use super::pages::connect;
 use crate::statements::store_fault;
 use sqlite::{Alter, Connection, FileStore, Files, Options};
 use sqlite_disk::Disk;
@@ -71,10 +72,7 @@ impl<D: Disk + Drop> SqlLog<FileStore<D>> {
             (⟦<SqlLog<FileStore<D>> as DecisionLog>⟧.moment log).is_honest →
             (⟦<SqlLog<FileStore<D>> as DecisionLog>⟧.moment log).content ≡ Some c) }
     {
-        let conn = match Connection::open_files(alloc, files, options) {
-            Ok(conn) => conn,
-            Err((error, _files)) => return Err(store_fault(error)),
-        };
+        let conn = connect(alloc, files, options)?;
         SqlLog::adopt_files(conn)
     }
 }

@@ -5,16 +5,16 @@ ghost use Rattle.std.specs.List.{starts_with};
 ghost use Rattle.std.specs.String.{string_bytes};
 ghost use Rattle.sqlite.specs.State.{HasCleanDisk};
 ghost use Rattle.sqlite.specs.Files.{file_state, over_files, IsBlankAs, IsOpened};
-ghost use Rattle.sqlite.specs.Start.{FindsIn};
 ghost use Rattle.sqlite_disk.specs.Memory.{memory_bytes};
 ghost use Rattle.sqlite_std_file.specs.File.{file_is_usable, IsFresh};
 ghost use Rattle.sqlite_wal.specs.Files.{image_at};
 ghost use Rattle.xa_log.specs.Contract.{IsStoreFault};
+ghost use Rattle.xa_sql_log.specs.FoundFiles.{FindsLogIn};
 ghost use Rattle.xa_sql_log.specs.Halves.{is_rest};
 
 use super::SqlLog;
 use super::halves::is_rest;
-use crate::statements::store_fault;
+use super::pages::connect;
 use sqlite::{Connection, FileFrom, FileStore, Files, Options, Start, Unknown};
 use sqlite_disk::{Disk, Memory};
 use sqlite_std_file::OpenError;
@@ -107,16 +107,13 @@ pub(super) fn connection_to<S: Start>(
     ensures cause { IfErr result IsStoreFault }
     ensures opened { IfOk result (λ conn. HasCleanDisk (file_state conn) → IsOpened conn) }
     ensures found { IfOk result (λ conn. HasCleanDisk (file_state conn) →
-        FindsIn (image_at S.Start) (file_state conn)) }
+        FindsLogIn (image_at S.Start) (file_state conn)) }
     ensures plain { IfOk result (λ conn. HasCleanDisk (file_state conn) →
         IsBlankAs false (image_at S.Start) → (over_files.view conn.store).has_sums ≡ false) }
 {
     let files = files_at(rt, path, start)?;
     let options = options_by_chance(rt)?;
-    match Connection::open_files(rt.alloc(), files, options) {
-        Ok(conn) => Ok(conn),
-        Err((error, _left)) => Err(store_fault(error)),
-    }
+    connect(rt.alloc(), files, options)
 }
 
 /// What the regular file at a path holds. What isn't one is not read: a pipe would keep the reader waiting.

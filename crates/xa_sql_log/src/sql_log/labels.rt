@@ -5,9 +5,10 @@ ghost use Rattle.xa_sql_log.specs.Labels.{is_label};
 
 use super::SqlLog;
 use super::files::{connection_to, copies_of, options_of, read_fault};
+use super::pages::connect;
 use crate::label::{is_label, labelled_text};
 use crate::shutting::{LogHead, find_head};
-use crate::statements::{of_store, store_fault};
+use crate::statements::of_store;
 use crate::tables::make_tables;
 use sqlite::{Alter, Connection, FileFrom, FileStore, Files, Unknown};
 use sqlite_disk::Disk;
@@ -31,10 +32,7 @@ fn head_in_files<D: Disk + Drop>(
     requires log { IsTrue (D.Disk.is_usable files.log) }
     requires db { IsTrue (D.Disk.is_usable files.db) }
 {
-    match Connection::open_files(alloc, files, options_of(0)) {
-        Ok(conn) => head_over(alloc, conn),
-        Err((error, _files)) => Err(store_fault(error)),
-    }
+    head_over(alloc, connect(alloc, files, options_of(0))?)
 }
 
 /// The database with the tables of an empty log, of which this statement makes that of the participants, where no transaction is

@@ -11,8 +11,9 @@ ghost use Rattle.xa_sql_log.specs.PreparedDatabase.{IsOverFiles};
 
 use super::SqlLog;
 use super::files::{copies_of, options_of};
+use super::pages::connect;
 use crate::layout::has_log;
-use crate::statements::{of_store, store_fault};
+use crate::statements::of_store;
 use sqlite::{Alter, Connection, FileFrom, FileStore, Files, Unknown};
 use sqlite_disk::{Disk, Start};
 use std::alloc::Global;
@@ -36,10 +37,7 @@ fn try_files<D: Disk + Drop>(alloc: Global, files: Files<D>) -> Result<(), LogFa
     requires log { IsTrue (D.Disk.is_usable files.log) }
     requires db { IsTrue (D.Disk.is_usable files.db) }
 {
-    match Connection::open_files(alloc, files, options_of(0)) {
-        Ok(conn) => try_database(conn),
-        Err((error, _files)) => Err(store_fault(error)),
-    }
+    try_database(connect(alloc, files, options_of(0))?)
 }
 
 impl SqlLog<FileStore<FileFrom<Unknown>>> {
