@@ -73,7 +73,7 @@ on_disk() {
 # to its journal, in as many writes. The C compiler has to be there.
 disk_rate() {
     [ -x "$work/sync" ] || cc -O2 -o "$work/sync" bench/sync.c
-    "$work/sync" "$work/file" 5000 3 20609
+    "$work/sync" "$work/file" 5000 3 5249
 }
 
 # micros COMMAND..: the microseconds that a command takes. What it prints goes to $work/printed.

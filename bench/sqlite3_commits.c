@@ -32,7 +32,7 @@ static void step(sqlite3_stmt *statement, int count, const sqlite3_int64 *values
 
 static void measure(const char *path) {
     must(sqlite3_open(path, &db));
-    run("PRAGMA journal_mode = WAL; PRAGMA synchronous = FULL; PRAGMA foreign_keys = ON;"
+    run("PRAGMA page_size = 1024; PRAGMA journal_mode = WAL; PRAGMA synchronous = FULL; PRAGMA foreign_keys = ON;"
         "CREATE TABLE decision (inc INTEGER NOT NULL, seq INTEGER NOT NULL, PRIMARY KEY (inc, seq));"
         "CREATE TABLE participant (inc INTEGER NOT NULL, seq INTEGER NOT NULL, thread INTEGER NOT NULL,"
         " rm INTEGER NOT NULL, PRIMARY KEY (inc, seq, thread, rm),"
