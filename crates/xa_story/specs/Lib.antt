@@ -7,4 +7,5 @@ pub mod Replied
 pub mod Rows
 pub mod Standings
 pub mod Stories
+pub mod Waits
 pub mod Words

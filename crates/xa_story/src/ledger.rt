@@ -1,9 +1,11 @@
 //! What the manager knows of its transactions, and the rows of its log.
 
-ghost use Rattle.std.specs.Prelude.{◌≡◌, IfOk};
+ghost use Rattle.std.specs.Prelude.{◌≡◌, ◌++◌, [], ◌∷◌, IfOk, OnOk, filter, not};
+ghost use Rattle.std.specs.List.{list_any};
+ghost use Rattle.xa_base.specs.Branch.{gtrid_eq};
 ghost use Rattle.xa_story.specs.Rows.{counts_as_done, waited_for};
 
-use std::alloc::Global;
+use std::alloc::{AllocError, Global};
 use xa_base::{Answer, Branch, Call, Code, Gtrid, Memory, Part, Xid};
 
 /// How it was settled how a transaction ends.
@@ -83,6 +85,18 @@ pub fn gtrid_of(xid: &Xid) -> Option<Gtrid> {
     Some(xid.branch()?.gtrid)
 }
 
+/// All transactions but one.
+fn others(alloc: Global, gtrids: &[Gtrid], gtrid: Gtrid) -> Result<Vec<Gtrid>, AllocError>
+    ensures { IfOk result (λ others.
+        others.items ≡ filter (λ other. not (gtrid_eq other gtrid)) gtrids.now) }
+{
+    gtrids
+        .iter()
+        .copied()
+        .filter(|other| *other != gtrid)
+        .collect(alloc)
+}
+
 /// A transaction of which a resource manager listed a branch.
 #[derive(Clone, Copy)]
 struct Listed {
@@ -130,7 +144,9 @@ impl Ledger {
     }
 
     /// Whether the transaction has a row.
-    pub fn has_row(&self, gtrid: Gtrid) -> bool {
+    pub fn has_row(&self, gtrid: Gtrid) -> bool
+        ensures { result ≡ list_any (λ row. gtrid_eq row gtrid) self.now.rows.items }
+    {
         self.rows.contains(&gtrid)
     }
 
@@ -155,12 +171,16 @@ impl Ledger {
     }
 
     /// A transaction is begun.
-    pub fn begin(&mut self, gtrid: Gtrid) -> Result<(), Memory> {
+    pub fn begin(&mut self, gtrid: Gtrid) -> Result<(), Memory>
+        ensures { OnOk result (self.new.begun.items ≡ self.old.begun.items ++ gtrid ∷ []) }
+    {
         Ok(self.begun.push(gtrid)?)
     }
 
     /// A transaction is claimed.
-    pub fn claim(&mut self, gtrid: Gtrid) -> Result<(), Memory> {
+    pub fn claim(&mut self, gtrid: Gtrid) -> Result<(), Memory>
+        ensures { OnOk result (self.new.claimed.items ≡ self.old.claimed.items ++ gtrid ∷ []) }
+    {
         Ok(self.claimed.push(gtrid)?)
     }
 
@@ -258,14 +278,11 @@ impl Ledger {
     }
 
     /// The row of the transaction leaves the log.
-    pub fn forget(&mut self, alloc: Global, gtrid: Gtrid) -> Result<(), Memory> {
-        let mut rows = Vec::new(alloc);
-        for row in self.rows.iter() {
-            if *row != gtrid {
-                rows.push(*row)?;
-            }
-        }
-        self.rows = rows;
+    pub fn forget(&mut self, alloc: Global, gtrid: Gtrid) -> Result<(), Memory>
+        ensures { OnOk result (self.new.rows.items
+            ≡ filter (λ row. not (gtrid_eq row gtrid)) self.old.rows.items) }
+    {
+        self.rows = others(alloc, &self.rows, gtrid)?;
         Ok(())
     }
 
@@ -295,7 +312,9 @@ impl Ledger {
     }
 
     /// The transactions with a row.
-    pub fn rows(&self) -> &[Gtrid] {
+    pub fn rows(&self) -> &[Gtrid]
+        ensures { result.now ≡ self.now.rows.items }
+    {
         self.rows.as_slice()
     }
 }

@@ -1,6 +1,6 @@
 //! What is known while a story is told, and what each event does to it.
 
-ghost use Rattle.std.specs.Prelude.{◌≡◌, IfOk, OnOk, map};
+ghost use Rattle.std.specs.Prelude.{◌≡◌, [], IfOk, OnOk, map};
 ghost use Rattle.std.specs.String.{string_bytes};
 ghost use Rattle.xa_story.specs.Naming.{unbegun, with_step};
 ghost use Rattle.xa_story.specs.Stories.{IsToldOf};
@@ -31,7 +31,8 @@ impl<'a> Scene<'a> {
     /// Nothing has happened, and the log is empty. The names are those that the scenario file
     /// begins, in turn.
     pub fn new(alloc: Global, names: &'a [String]) -> Scene<'a>
-        ensures { result.names ≡ unbegun (map string_bytes names.now) }
+        ensures names { result.names ≡ unbegun (map string_bytes names.now) }
+        ensures waits { result.waits.items.items ≡ [] }
     {
         Scene {
             alloc,

@@ -1,6 +1,6 @@
 //! Where the branches stand.
 
-ghost use Rattle.std.specs.Prelude.{◌≡◌};
+ghost use Rattle.std.specs.Prelude.{◌≡◌, []};
 ghost use Rattle.xa_base.specs.StateTable.{Kind.Start, after_end, after_prepare, broken, moved};
 ghost use Rattle.xa_base.specs.declared.code.Code.{Code};
 ghost use Rattle.xa_story.specs.Standings.{committed_or, standing_after_answer};
@@ -105,7 +105,9 @@ pub struct Standings {
 
 impl Standings {
     /// No branch did anything.
-    pub fn new(alloc: Global) -> Standings {
+    pub fn new(alloc: Global) -> Standings
+        ensures { result.moves.items ≡ [] }
+    {
         Standings {
             moves: Vec::new(alloc),
         }

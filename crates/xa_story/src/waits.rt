@@ -1,9 +1,10 @@
 //! What waits on the lines.
 
-ghost use Rattle.std.specs.Prelude.{◌≡◌};
+ghost use Rattle.std.specs.Prelude.{◌≡◌, ◌++◌, [], ◌∷◌, IfOk, OnOk, filter, length, not};
+ghost use Rattle.xa_story.specs.Waits.{breaks_line, is_call_on, is_lost_with};
 
 use crate::party::Party;
-use std::alloc::Global;
+use std::alloc::{AllocError, Global};
 use xa_base::{Memory, Part};
 
 /// A call or an answer that waits on a line.
@@ -22,7 +23,9 @@ pub struct Waiting {
 }
 
 /// Whether a line is broken by the crash of a part.
-pub fn breaks(part: Part, thread: u32, rm: u32) -> bool {
+pub fn breaks(part: Part, thread: u32, rm: u32) -> bool
+    ensures { result ≡ breaks_line part thread rm }
+{
     match part {
         Part::Line {
             thread: own,
@@ -33,6 +36,29 @@ pub fn breaks(part: Part, thread: u32, rm: u32) -> bool {
     }
 }
 
+/// Those that the crash of a part loses.
+fn lost_with(alloc: Global, part: Part, items: &[Waiting]) -> Result<Vec<Waiting>, AllocError>
+    ensures { IfOk result (λ lost. lost.items ≡ filter (is_lost_with part) items.now) }
+{
+    items
+        .iter()
+        .copied()
+        .filter(|item| breaks(part, item.thread, item.rm))
+        .collect(alloc)
+}
+
+/// Those that it leaves.
+fn left_by(alloc: Global, part: Part, items: &[Waiting]) -> Result<Vec<Waiting>, AllocError>
+    ensures { IfOk result (λ left.
+        left.items ≡ filter (λ item. not (is_lost_with part item)) items.now) }
+{
+    items
+        .iter()
+        .copied()
+        .filter(|item| !breaks(part, item.thread, item.rm))
+        .collect(alloc)
+}
+
 /// What waits on all lines, the oldest first.
 #[derive(Drop)]
 pub struct Waits {
@@ -41,14 +67,18 @@ pub struct Waits {
 
 impl Waits {
     /// Nothing waits.
-    pub fn new(alloc: Global) -> Waits {
+    pub fn new(alloc: Global) -> Waits
+        ensures { result.items.items ≡ [] }
+    {
         Waits {
             items: Vec::new(alloc),
         }
     }
 
     /// One more waits.
-    pub fn add(&mut self, item: Waiting) -> Result<(), Memory> {
+    pub fn add(&mut self, item: Waiting) -> Result<(), Memory>
+        ensures { OnOk result (self.new.items.items ≡ self.old.items.items ++ item ∷ []) }
+    {
         Ok(self.items.push(item)?)
     }
 
@@ -73,7 +103,9 @@ impl Waits {
     }
 
     /// How many calls wait on a line.
-    pub fn call_count(&self, thread: u32, rm: u32) -> usize {
+    pub fn call_count(&self, thread: u32, rm: u32) -> usize
+        ensures { result ≡ length (filter (is_call_on thread rm) self.now.items.items) }
+    {
         self.items
             .iter()
             .filter(|item| item.thread == thread && item.rm == rm && !item.is_answer)
@@ -81,17 +113,14 @@ impl Waits {
     }
 
     /// Takes all that a crash of a part loses.
-    pub fn lose(&mut self, alloc: Global, part: Part) -> Result<Vec<Waiting>, Memory> {
-        let mut lost = Vec::new(alloc);
-        let mut left = Vec::new(alloc);
-        for item in self.items.iter() {
-            if breaks(part, item.thread, item.rm) {
-                lost.push(*item)?;
-            } else {
-                left.push(*item)?;
-            }
-        }
-        self.items = left;
+    pub fn lose(&mut self, alloc: Global, part: Part) -> Result<Vec<Waiting>, Memory>
+        ensures lost { IfOk result (λ lost.
+            lost.items ≡ filter (is_lost_with part) self.old.items.items) }
+        ensures left { OnOk result (self.new.items.items
+            ≡ filter (λ item. not (is_lost_with part item)) self.old.items.items) }
+    {
+        let lost = lost_with(alloc, part, &self.items)?;
+        self.items = left_by(alloc, part, &self.items)?;
         Ok(lost)
     }
 

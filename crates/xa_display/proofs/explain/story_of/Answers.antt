@@ -4,7 +4,7 @@ use Rattle.xa_display.proofs.explain.story_of.Goals as goal
 
 pub returns : goal.returns
 returns c =
-    let names = c.new-scene.ensures in
+    let names = c.new-scene.ensures.names in
     record {
       lines = c.in_ok-lines.lines.items;
       told = told_as c.in_ok-lines.lines.items names refl c.in_ok-lines.ensures.told;
