@@ -8,6 +8,7 @@ pub mod MoveLemmas
 pub mod NotStuckLemmas
 pub mod PlainLemmas
 pub mod ProgressLemmas
+pub mod RestLemmas
 pub mod SaidLemmas
 pub mod ToldLemmas
 pub mod TurnLemmas

@@ -8,7 +8,7 @@ use Rattle.std.specs.Prelude.{MatchBool, Option, Some, None, if◌then◌else◌
 use Rattle.xa_base.specs.declared.branch.Gtrid.{Gtrid}
 use Rattle.xa_requests.specs.declared.request.Request.{Request}
 use Rattle.xa_conduct.proofs.ToldLemmas.{joined_more}
-use Rattle.xa_conduct.specs.Moves.{AreMovedOnce, ArePairedInOrder, IsOfThread, IsReadOf, IsReplyOf, has_moved, is_reply_to, parts_of, thread_in, thread_of}
+use Rattle.xa_conduct.specs.Moves.{AreMovedOnce, ArePairedInOrder, IsOfThread, IsReadOf, IsReplyOf, is_reply_to, is_told_by, parts_of, thread_in, thread_of}
 use Rattle.xa_conduct.specs.Over.{is_all_answered}
 use Rattle.xa_conduct.specs.Progress.{AllStep, is_start}
 use Rattle.xa_conduct.specs.Told.{AddsText, AreReplies, AreRepliesTold, GivesWay, HasNext, IsReply, IsReplyTo, IsSameAt, IsToldBy, TellsSo, joined_replies}
@@ -99,36 +99,12 @@ once_push (x ∷ told) reply once apart = (
   once_push told reply once.1 (λ t is. (or_parts (is_reply_to t x) (list_any (is_reply_to t) told) (apart t is)).1),
 )
 
--- a reply of a thread that hasn't moved
-pub apart_from : (told : List Reply) (thread : Option ℕ) (reply : Reply) → IsOfThread thread reply → has_moved told thread ≡ false → (t : ℕ)
-    → is_reply_to t reply ≡ true → list_any (is_reply_to t) told ≡ false
-apart_from told thread (replies.Thread s) of none t is =
-    subst (λ (m : ℕ). list_any (is_reply_to m) told ≡ false) (sym (eqb-true t s is)) (subst (λ (o : Option ℕ). has_moved told o ≡ false) of none)
-apart_from told thread (replies.Started s g) of none t is =
-    subst (λ (m : ℕ). list_any (is_reply_to m) told ≡ false) (sym (eqb-true t s is)) (subst (λ (o : Option ℕ). has_moved told o ≡ false) of none)
-apart_from told thread replies.NoMove of none t is = absurd (false≢true is)
-apart_from told thread replies.NotNow of none t is = absurd (false≢true is)
-
 -- the reply to a move that was taken is of the thread that moved
 pub of_move : (moves : List (Option Move)) (k : ℕ) (item : Option Move) (m : Move) (taken reply : Reply) → item ≡ get_or moves k item → item ≡ Some m
     → reply ≡ taken → IsOfThread (thread_of m) taken → IsReplyOf (get_or moves k item) reply
 of_move moves k item m taken reply at is same of =
     subst (λ (o : Option Move). IsReplyOf o reply) at
     (subst (λ (o : Option Move). IsReplyOf o reply) (sym is) (subst (IsOfThread (thread_of m)) (sym same) of))
-
-some_same : (m n : Move) (item : Option Move) → item ≡ Some m → item ≡ Some n → m ≡ n
-some_same m n item one other = cc
-
--- which hadn't moved before
-pub apart_move : (told slice : List Reply) (item : Option Move) (m n : Move) (thread : Option ℕ) (moved : Bool) (taken reply : Reply) → item ≡ Some m
-    → item ≡ Some n → thread ≡ thread_of n → slice ≡ told → moved ≡ has_moved slice thread → moved ≡ false → reply ≡ taken
-    → IsOfThread (thread_of m) taken → (t : ℕ) → is_reply_to t reply ≡ true → list_any (is_reply_to t) told ≡ false
-apart_move told slice item m n thread moved taken reply one other thread_is slice_is moved_is none same of =
-    let hasnt : has_moved told (thread_of m) ≡ false =
-    subst (λ (x : Move). has_moved told (thread_of x) ≡ false) (some_same n m item other one)
-    (subst (λ (o : Option ℕ). has_moved told o ≡ false) thread_is
-    (subst (λ (rs : List Reply). has_moved rs thread ≡ false) slice_is (sym moved_is ∙ none))) in
-    apart_from told (thread_of m) reply (subst (IsOfThread (thread_of m)) (sym same) of) hasnt
 
 -- none before the one at this place is of its thread
 pub once_at : (told : List Reply) (k t : ℕ) (d : Reply) → AreMovedOnce told → k < length told → is_reply_to t (get_or told k d) ≡ true
@@ -143,15 +119,10 @@ once_at (x ∷ told) (suc k) t d once within is =
       | inr none ↦ none
     ]) (once_at told k t d once.1 inside is)
 
--- its transaction was told something
-abbrev pub is_thread : (thread : ℕ) → Reply → Bool
-is_thread i (replies.Thread t) = i == t
-is_thread i _ = false
-
-thread_is_of : (t : ℕ) (told : List Reply) → list_any (is_thread t) told ≡ true → list_any (is_reply_to t) told ≡ true
+thread_is_of : (t : ℕ) (told : List Reply) → list_any (is_told_by t) told ≡ true → list_any (is_reply_to t) told ≡ true
 thread_is_of t [] is = absurd (false≢true is)
 thread_is_of t (replies.Thread s ∷ told) is =
-    elim (or_cases (t == s) (list_any (is_thread t) told) is) [
+    elim (or_cases (t == s) (list_any (is_told_by t) told) is) [
       | inl here ↦ or_left (t == s) (list_any (is_reply_to t) told) here
       | inr later ↦ or_right (t == s) (list_any (is_reply_to t) told) (thread_is_of t told later)
     ]
@@ -168,10 +139,10 @@ none_starts t (replies.NoMove ∷ told) none = none_starts t told none
 none_starts t (replies.NotNow ∷ told) none = none_starts t told none
 
 -- so none of its transactions began by the same line
-pub thread_no_start : (t : ℕ) (told : List Reply) → AreMovedOnce told → list_any (is_thread t) told ≡ true → list_any (is_start t) told ≡ false
+pub thread_no_start : (t : ℕ) (told : List Reply) → AreMovedOnce told → list_any (is_told_by t) told ≡ true → list_any (is_start t) told ≡ false
 thread_no_start t [] once is = refl
 thread_no_start t (replies.Thread s ∷ told) once is =
-    elim (or_cases (t == s) (list_any (is_thread t) told) is) [
+    elim (or_cases (t == s) (list_any (is_told_by t) told) is) [
       | inl here ↦ none_starts t told (once.0 t here)
       | inr later ↦ thread_no_start t told once.1 later
     ]
@@ -191,7 +162,7 @@ abbrev pub HaveNames : (t : ℕ) → List Transaction → List Transaction → T
 HaveNames t noted now = (length now ≡ length noted) × ((d : Transaction) → t < length noted → (get_or now t d).gtrid ≡ (get_or noted t d).gtrid)
 
 -- what a line told of a thread it told of the transaction that was there before, as it stood once its move was taken
-pub names_kept : (told : List Reply) (ts us : List Transaction) → AreMovedOnce told → AllStep told ts us → (t : ℕ) → list_any (is_thread t) told ≡ true
+pub names_kept : (told : List Reply) (ts us : List Transaction) → AreMovedOnce told → AllStep told ts us → (t : ℕ) → list_any (is_told_by t) told ≡ true
     → HaveNames t ts us
 names_kept told ts us once steps t is = (steps.count, λ d inside. (steps.each t d inside (thread_no_start t told once is)).same)
 
@@ -210,7 +181,7 @@ tells_names asked noted now left t text names tells =
     }
 
 pub told_names : (asked : (Request → Bool) → Bool) (noted now left : List Transaction) (reply : Reply) (text : List ℕ)
-    → ((t : ℕ) → is_thread t reply ≡ true → HaveNames t noted now) → IsToldBy asked now left reply text → IsToldBy asked noted left reply text
+    → ((t : ℕ) → is_told_by t reply ≡ true → HaveNames t noted now) → IsToldBy asked now left reply text → IsToldBy asked noted left reply text
 told_names asked noted now left (replies.Thread t) text names told =
     elim told [
       | inl tells ↦ inl (tells_names asked noted now left t text (names t (eq-eqb t t refl)) tells)
@@ -241,13 +212,13 @@ of_part part asked replies.NotNow read of = tt
 -- each part of a line is replied
 pub all_replied : (asked : (Request → Bool) → Bool) (noted now left : List Transaction) (parts : List (List ℕ)) (moves : List (Option Move))
     (told : List Reply) (texts : List (List ℕ)) → ArePairedInOrder IsReadOf parts moves → ArePairedInOrder IsReplyOf moves told
-    → ((t : ℕ) → list_any (is_thread t) told ≡ true → HaveNames t noted now) → ArePairedInOrder (IsToldBy asked now left) told texts
+    → ((t : ℕ) → list_any (is_told_by t) told ≡ true → HaveNames t noted now) → ArePairedInOrder (IsToldBy asked now left) told texts
     → ArePairedInOrder (IsReplyTo asked noted left) parts texts
 all_replied asked noted now left [] [] [] [] read of names each = tt
 all_replied asked noted now left (part ∷ parts) (move ∷ moves) (reply ∷ told) (text ∷ texts) read of names each = (
   reply_to asked noted left (thread_in part) reply text (of_part part move reply read.0 of.0)
-      (told_names asked noted now left reply text (λ t is. names t (or_left (is_thread t reply) (list_any (is_thread t) told) is)) each.0),
-  all_replied asked noted now left parts moves told texts read.1 of.1 (λ t is. names t (or_right (is_thread t reply) (list_any (is_thread t) told) is)) each.1,
+      (told_names asked noted now left reply text (λ t is. names t (or_left (is_told_by t reply) (list_any (is_told_by t) told) is)) each.0),
+  all_replied asked noted now left parts moves told texts read.1 of.1 (λ t is. names t (or_right (is_told_by t reply) (list_any (is_told_by t) told) is)) each.1,
 )
 all_replied asked noted now left [] (move ∷ moves) told texts read of names each = absurd read
 all_replied asked noted now left (part ∷ parts) [] told texts read of names each = absurd read
@@ -324,7 +295,7 @@ told_as_was asked told k d was now left text once within count same is =
     let none = once_at told k t d once within (thread_of_one t (get_or told k d) of) in
     (count, λ e inside. ap (λ (x : Transaction). x.gtrid) (same t none e))) is
   where
-    thread_of_one : (t : ℕ) (r : Reply) → is_thread t r ≡ true → is_reply_to t r ≡ true
+    thread_of_one : (t : ℕ) (r : Reply) → is_told_by t r ≡ true → is_reply_to t r ≡ true
     thread_of_one t (replies.Thread s) of = of
     thread_of_one t (replies.Started s g) of = absurd (false≢true of)
     thread_of_one t replies.NoMove of = absurd (false≢true of)

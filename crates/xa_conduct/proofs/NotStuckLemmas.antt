@@ -11,6 +11,7 @@ use Rattle.xa_base.specs.declared.code.Code.{Code}
 use Rattle.xa_base.specs.declared.code.Code.TheVariants as codes
 use Rattle.xa_base.specs.declared.code.How.TheVariants as hows
 use Rattle.xa_conduct.proofs.ProgressLemmas.{one_at_most}
+use Rattle.xa_conduct.proofs.RestLemmas.{not_true}
 use Rattle.xa_conduct.proofs.TurnLemmas.{four_at_most, turns_step}
 use Rattle.xa_conduct.specs.Meaning.{takes}
 use Rattle.xa_conduct.specs.NotStuck.{IsToBeMoved, IsToBeTold, TransactionsAreNotStuck, all_lost, are_answers, calls_of, is_at_rest, is_in_table, is_ready, is_so_of, is_undecided, may_be_undone, may_roll_back, reply_if}
@@ -18,6 +19,7 @@ use Rattle.xa_conduct.specs.Over.{has_calls, is_decided, is_all_answered}
 use Rattle.xa_conduct.specs.OverInTime.{TransactionsAreOver}
 use Rattle.xa_conduct.specs.Places.{is_asked, steps_at}
 use Rattle.xa_conduct.specs.Progress.{branch_steps, steps_of, steps_to}
+use Rattle.xa_conduct.specs.Turns.{Turns, Turns.NoLine, Turns.OneMore}
 use Rattle.xa_conduct.specs.declared.notes.Reply.TheVariants as replies
 use Rattle.xa_conduct.specs.declared.part.Part.{Part}
 use Rattle.xa_conduct.specs.declared.place.Place.{Place}
@@ -30,132 +32,24 @@ use Rattle.xa_conduct.specs.declared.transaction.Transaction.{Transaction}
 
 -- ** the table
 
-prepare_taken : (code : Code) → takes Preparing (reports.Code code) ≡ is_in_table Preparing (reports.Code code)
-prepare_taken codes.Success = refl
-prepare_taken codes.ReadOnly = refl
-prepare_taken codes.Retry = refl
-prepare_taken codes.RmError = refl
-prepare_taken codes.NotAnXid = refl
-prepare_taken codes.Invalid = refl
-prepare_taken codes.Protocol = refl
-prepare_taken codes.RmFailed = refl
-prepare_taken codes.DuplicateXid = refl
-prepare_taken (codes.RolledBack why) = refl
-prepare_taken (codes.Heuristic hows.Com) = refl
-prepare_taken (codes.Heuristic hows.Rb) = refl
-prepare_taken (codes.Heuristic hows.Mix) = refl
-prepare_taken (codes.Heuristic hows.Haz) = refl
-
-at_once_taken : (code : Code) → takes AtOnce (reports.Code code) ≡ is_in_table AtOnce (reports.Code code)
-at_once_taken codes.Success = refl
-at_once_taken codes.ReadOnly = refl
-at_once_taken codes.Retry = refl
-at_once_taken codes.RmError = refl
-at_once_taken codes.NotAnXid = refl
-at_once_taken codes.Invalid = refl
-at_once_taken codes.Protocol = refl
-at_once_taken codes.RmFailed = refl
-at_once_taken codes.DuplicateXid = refl
-at_once_taken (codes.RolledBack why) = refl
-at_once_taken (codes.Heuristic hows.Com) = refl
-at_once_taken (codes.Heuristic hows.Rb) = refl
-at_once_taken (codes.Heuristic hows.Mix) = refl
-at_once_taken (codes.Heuristic hows.Haz) = refl
-
-commit_taken : (code : Code) → takes Committing (reports.Code code) ≡ is_in_table Committing (reports.Code code)
-commit_taken codes.Success = refl
-commit_taken codes.ReadOnly = refl
-commit_taken codes.Retry = refl
-commit_taken codes.RmError = refl
-commit_taken codes.NotAnXid = refl
-commit_taken codes.Invalid = refl
-commit_taken codes.Protocol = refl
-commit_taken codes.RmFailed = refl
-commit_taken codes.DuplicateXid = refl
-commit_taken (codes.RolledBack why) = refl
-commit_taken (codes.Heuristic hows.Com) = refl
-commit_taken (codes.Heuristic hows.Rb) = refl
-commit_taken (codes.Heuristic hows.Mix) = refl
-commit_taken (codes.Heuristic hows.Haz) = refl
-
-rollback_taken : (code : Code) → takes RollingBack (reports.Code code) ≡ is_in_table RollingBack (reports.Code code)
-rollback_taken codes.Success = refl
-rollback_taken codes.ReadOnly = refl
-rollback_taken codes.Retry = refl
-rollback_taken codes.RmError = refl
-rollback_taken codes.NotAnXid = refl
-rollback_taken codes.Invalid = refl
-rollback_taken codes.Protocol = refl
-rollback_taken codes.RmFailed = refl
-rollback_taken codes.DuplicateXid = refl
-rollback_taken (codes.RolledBack why) = refl
-rollback_taken (codes.Heuristic hows.Com) = refl
-rollback_taken (codes.Heuristic hows.Rb) = refl
-rollback_taken (codes.Heuristic hows.Mix) = refl
-rollback_taken (codes.Heuristic hows.Haz) = refl
-
-undo_taken : (code : Code) → takes Undoing (reports.Code code) ≡ is_in_table Undoing (reports.Code code)
-undo_taken codes.Success = refl
-undo_taken codes.ReadOnly = refl
-undo_taken codes.Retry = refl
-undo_taken codes.RmError = refl
-undo_taken codes.NotAnXid = refl
-undo_taken codes.Invalid = refl
-undo_taken codes.Protocol = refl
-undo_taken codes.RmFailed = refl
-undo_taken codes.DuplicateXid = refl
-undo_taken (codes.RolledBack why) = refl
-undo_taken (codes.Heuristic hows.Com) = refl
-undo_taken (codes.Heuristic hows.Rb) = refl
-undo_taken (codes.Heuristic hows.Mix) = refl
-undo_taken (codes.Heuristic hows.Haz) = refl
-
-refuse_taken : (code : Code) → takes Refusing (reports.Code code) ≡ is_in_table Refusing (reports.Code code)
-refuse_taken codes.Success = refl
-refuse_taken codes.ReadOnly = refl
-refuse_taken codes.Retry = refl
-refuse_taken codes.RmError = refl
-refuse_taken codes.NotAnXid = refl
-refuse_taken codes.Invalid = refl
-refuse_taken codes.Protocol = refl
-refuse_taken codes.RmFailed = refl
-refuse_taken codes.DuplicateXid = refl
-refuse_taken (codes.RolledBack why) = refl
-refuse_taken (codes.Heuristic hows.Com) = refl
-refuse_taken (codes.Heuristic hows.Rb) = refl
-refuse_taken (codes.Heuristic hows.Mix) = refl
-refuse_taken (codes.Heuristic hows.Haz) = refl
-
-forget_taken : (code : Code) → takes Forgetting (reports.Code code) ≡ is_in_table Forgetting (reports.Code code)
-forget_taken codes.Success = refl
-forget_taken codes.ReadOnly = refl
-forget_taken codes.Retry = refl
-forget_taken codes.RmError = refl
-forget_taken codes.NotAnXid = refl
-forget_taken codes.Invalid = refl
-forget_taken codes.Protocol = refl
-forget_taken codes.RmFailed = refl
-forget_taken codes.DuplicateXid = refl
-forget_taken (codes.RolledBack why) = refl
-forget_taken (codes.Heuristic hows.Com) = refl
-forget_taken (codes.Heuristic hows.Rb) = refl
-forget_taken (codes.Heuristic hows.Mix) = refl
-forget_taken (codes.Heuristic hows.Haz) = refl
-
 -- what is taken as an answer is what the table has
 pub table_taken : (place : Place) (report : Report) → takes place report ≡ is_in_table place report
 table_taken place reports.Lost = refl
-table_taken Preparing (reports.Code code) = prepare_taken code
-table_taken AtOnce (reports.Code code) = at_once_taken code
-table_taken Committing (reports.Code code) = commit_taken code
-table_taken RollingBack (reports.Code code) = rollback_taken code
-table_taken Undoing (reports.Code code) = undo_taken code
-table_taken Refusing (reports.Code code) = refuse_taken code
-table_taken Forgetting (reports.Code code) = forget_taken code
-table_taken Working (reports.Code code) = refl
-table_taken Prepared (reports.Code code) = refl
-table_taken Over (reports.Code code) = refl
-table_taken Owed (reports.Code code) = refl
+table_taken Preparing (reports.Code codes.Success) = refl
+table_taken Preparing (reports.Code _) = refl
+table_taken AtOnce (reports.Code codes.Success) = refl
+table_taken AtOnce (reports.Code _) = refl
+table_taken Committing (reports.Code codes.Success) = refl
+table_taken Committing (reports.Code _) = refl
+table_taken RollingBack (reports.Code codes.Success) = refl
+table_taken RollingBack (reports.Code _) = refl
+table_taken Undoing (reports.Code (codes.Heuristic hows.Rb)) = refl
+table_taken Undoing (reports.Code _) = refl
+table_taken Refusing (reports.Code (codes.Heuristic hows.Rb)) = refl
+table_taken Refusing (reports.Code _) = refl
+table_taken Forgetting (reports.Code codes.Success) = refl
+table_taken Forgetting (reports.Code _) = refl
+table_taken _ (reports.Code code) = refl
 
 -- ** answers in turn
 
@@ -325,9 +219,12 @@ not_stuck t rest begun =
 
 -- ** it is over in time
 
-not_true : (b : Bool) → not b ≡ true → b ≡ false
-not_true true is = absurd (false≢true is)
-not_true false is = refl
+-- and at rest, as it was
+turns_rest : (i : ℕ) (d : Transaction) (n : ℕ) (first last : List Transaction) → i < length first → Turns i d n first last
+    → is_at_rest (get_or first i d) ≡ true → is_at_rest (get_or last i d) ≡ true
+turns_rest i d _ _ _ within (NoLine ts) rest = rest
+turns_rest i d _ _ _ within (OneMore n first old new text before on start same) rest =
+    on.rests i d (turns_step i d n first old within before).0 (turns_rest i d n first old within before rest)
 
 standing_made : (s : Standing) → 1 ≤ steps_to s → is_ready s ≡ false → is_decided s ≡ true
 standing_made standings.Idle made apart = absurd (omega (arith, made))
@@ -370,8 +267,9 @@ pub over_in_time : TransactionsAreOver
 over_in_time i d n first last within new turns rest many =
     let goes = (turns_step i d n first last within turns).1 in
     let now = get_or last i d in
+    let rests : is_at_rest now ≡ true = turns_rest i d n first last within turns rest in
     let most = most_made now.parts.items in
     let one = one_at_most now.standing in
     let made = goes.made in
-    let ready : is_ready now.standing ≡ false = not_true (is_ready now.standing) (and_parts (not now.has_moved) (not (is_ready now.standing)) rest).1 in
+    let ready : is_ready now.standing ≡ false = not_true (is_ready now.standing) (and_parts (not now.has_moved) (not (is_ready now.standing)) rests).1 in
     decided_over now (standing_made now.standing (omega (arith, made, most, one, many)) ready) (all_made now.parts.items (omega (arith, made, most, one, many)))

@@ -1,6 +1,7 @@
 pub mod Acting
 pub mod AtRest
 pub mod Backing
+pub mod BetweenLines
 pub mod Conducted
 pub mod Conducting
 pub mod Debts

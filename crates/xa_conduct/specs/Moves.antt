@@ -73,9 +73,10 @@ is_reply_to i (replies.Thread t) = i == t
 is_reply_to i (replies.Started t g) = i == t
 is_reply_to i _ = false
 
-abbrev pub has_moved : List Reply → Option ℕ → Bool
-has_moved told None = false
-has_moved told (Some t) = list_any (is_reply_to t) told
+-- it tells of the thread's transaction
+abbrev pub is_told_by : (thread : ℕ) → Reply → Bool
+is_told_by i (replies.Thread t) = i == t
+is_told_by i _ = false
 
 -- of each thread one move at most was taken
 abbrev pub AreMovedOnce : List Reply → Type 0

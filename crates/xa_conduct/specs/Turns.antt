@@ -2,6 +2,7 @@
 use Rattle.std.specs.Prelude.{◌≡◌, ◌≤◌, ◌<◌, ◌+◌, ◌*◌, ◌⊎◌, ℕ, true, false, List, [], ◌∷◌, codes, length, get_or}
 use Rattle.std.specs.List.{list_any}
 use Rattle.xa_log.specs.Contract.{Moment}
+use Rattle.xa_conduct.specs.AtRest.{KeepAtRest}
 use Rattle.xa_conduct.specs.Conducting.{MovesNone}
 use Rattle.xa_conduct.specs.Over.{is_all_answered}
 use Rattle.xa_conduct.specs.Progress.{AllStep, is_start, moves_taken}
@@ -48,12 +49,14 @@ pub record AllPass (ts us : List Transaction) : Type 0 where
   pub each : (i : ℕ) (d : Transaction) → i < length ts → Passes (get_or ts i d) (get_or us i d)
 
 -- By a line the transaction of each thread makes a step for each of its moves that was taken, none is taken back, and only one that is over gives
--- way to the next. Each part of the reply is that of a move that was taken, or says that none was, or that the thread's first transaction began.
+-- way to the next; and one that was at rest is at rest. Each part of the reply is that of a move that was taken, or says that none was, or that the
+-- thread's first transaction began.
 pub record TurnsOn (old new : List Transaction) (text : List ℕ) : Type 0 where
   pub told : List Reply
   pub between : List Transaction
   pub steps : AllStep told old between
   pub passes : AllPass between new
+  pub rests : KeepAtRest old new
   pub said : SaysAll told text
 
 -- as a conductor goes on

@@ -2,6 +2,7 @@
 
 ghost use Rattle.std.specs.Prelude.{◌≡◌, ◌≤◌, ℕ, true, false, length, IfOk, List, string_bytes};
 ghost use Rattle.xa_conduct.specs.Acting.{Acts, GoesOn};
+ghost use Rattle.xa_conduct.specs.BetweenLines.{AreAtRest, KeepsAtRest};
 ghost use Rattle.xa_conduct.specs.Conducting.{Conducts, TurnsSo};
 ghost use Rattle.xa_conduct.specs.Moves.{ArePairedInOrder, IsReadOf, parts_of};
 ghost use Rattle.xa_conduct.specs.Turns.{StepsOn};
@@ -43,6 +44,7 @@ impl<L: DecisionLog + Drop> Conductor<L> {
         ensures acts { IfOk result (λ c. GoesOn L.moment server c.server) }
         ensures rests { IfOk result (λ c. (done : List Request) → (first : Server L) →
             Acts L.moment done first server → Conducts L.moment first c) }
+        ensures at_rest { IfOk result (AreAtRest L.moment) }
     {
         let (incarnation, rows) = start_of(&server.greeting());
         let mut notes = Notes::new(alloc, incarnation, threads, rms)?;
@@ -81,6 +83,7 @@ impl<L: DecisionLog + Drop> Conductor<L> {
             TurnsSo L.moment self.old self.new line.now (string_bytes text)) }
         ensures steps { IfOk result (λ text.
             StepsOn L.moment self.old self.new (string_bytes text)) }
+        ensures at_rest { IfOk result (λ _. KeepsAtRest L.moment self.old self.new) }
     {
         if self.notes.is_stopped {
             return self.text("stopped");

@@ -1,5 +1,6 @@
 //! Laws of conducted sessions. These functions do nothing: each contract is a theorem.
 
+ghost use Rattle.xa_conduct.specs.BetweenLines.{NoneIsStuck};
 ghost use Rattle.xa_conduct.specs.Conducted.{ConductedSessionsAreServed};
 ghost use Rattle.xa_conduct.specs.NotStuck.{TransactionsAreNotStuck};
 ghost use Rattle.xa_conduct.specs.Outcomes.{ToldDecisionsWereMade};
@@ -42,9 +43,10 @@ pub fn transactions_end()
 {}
 
 /// Nor does one come to a stop before: between two lines it is over, or calls wait of which any answers of the table are taken, or a move of its
-/// program is.
-pub fn transactions_are_not_stuck()
-    ensures { TransactionsAreNotStuck }
+/// program is. Each is at rest then (`at_rest` of [`Conductor::turn`](crate::Conductor::turn)).
+pub fn transactions_are_not_stuck<L: DecisionLog + Drop>()
+    ensures each { TransactionsAreNotStuck }
+    ensures conducted { NoneIsStuck L.moment }
 {}
 
 /// So if a driver goes on with moves that are taken, its transaction is over behind four for each of its branches and one.

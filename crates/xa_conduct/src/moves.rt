@@ -3,7 +3,7 @@
 ghost use Rattle.std.specs.Prelude.{◌≡◌, ◌==◌, ◌≤◌, None, length, map, IfOk};
 ghost use Rattle.std.specs.List.{slice_split};
 ghost use Rattle.xa_conduct.specs.Moves.{ArePairedInOrder, IsMoveBy, IsReadOf, parts_of, thread_behind};
-ghost use Rattle.xa_conduct.specs.Moves.{thread_moved, thread_of};
+ghost use Rattle.xa_conduct.specs.Moves.{thread_moved};
 ghost use Rattle.xa_requests.specs.Words.{words_of};
 
 use crate::report::{Report, report_in};
@@ -36,22 +36,6 @@ pub enum Move {
     Fate { gtrid: Gtrid },
     /// `quit`: the session ends.
     Quit,
-}
-
-impl Move {
-    /// The thread that moves; none, where it is no move of a thread.
-    pub fn thread(&self) -> Option<u32>
-        ensures { result ≡ thread_of self.now }
-    {
-        match self {
-            Move::Start { thread } => Some(*thread),
-            Move::Join { thread, .. } => Some(*thread),
-            Move::Commit { thread } => Some(*thread),
-            Move::Rollback { thread } => Some(*thread),
-            Move::Tell { thread, .. } => Some(*thread),
-            _ => None,
-        }
-    }
 }
 
 /// The numbers that these words spell, if each spells one and there is one.

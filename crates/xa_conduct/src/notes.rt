@@ -2,12 +2,12 @@
 //! goes into a plan. A file for what follows from a line of moves, and one for recoveries.
 
 ghost use Rattle.std.specs.Prelude.{◌≡◌, ◌≤◌, ◌∷◌, [], length, All, Bool, IfOk, Some};
-ghost use Rattle.std.specs.List.{list_any};
+ghost use Rattle.xa_conduct.specs.AtRest.{IsAtRest, IsFirstMove, MovesTheirs};
 ghost use Rattle.xa_conduct.specs.Backing.{KeepResting, TransactionRests};
 ghost use Rattle.xa_conduct.specs.Decided.{AsksNoLess};
-ghost use Rattle.xa_conduct.specs.Moves.{AreMovedOnce, ArePairedInOrder, IsOfThread, IsReplyOf, has_moved};
-ghost use Rattle.xa_conduct.specs.Moves.{is_reply_to, thread_of};
-ghost use Rattle.xa_conduct.specs.NotStuck.{IsTakenSo, may_commit, may_join, may_roll_back, may_tell, reply_if};
+ghost use Rattle.xa_conduct.specs.Moves.{AreMovedOnce, ArePairedInOrder, IsOfThread, IsReplyOf, thread_of};
+ghost use Rattle.xa_conduct.specs.NotStuck.{IsTakenSo, reply_if};
+ghost use Rattle.xa_conduct.specs.NotStuck.{may_commit, may_join, may_roll_back, may_tell};
 ghost use Rattle.xa_conduct.specs.Progress.{AllStep};
 ghost use Rattle.xa_requests.specs.declared.request.Request.{Request};
 
@@ -35,33 +35,6 @@ pub(crate) enum Reply {
     Started(u32, Gtrid),
     NoMove,
     NotNow,
-}
-
-/// Whether it is the reply to a move of the thread that was taken.
-fn is_of(reply: Reply, thread: u32) -> bool
-    ensures { result ≡ is_reply_to thread reply }
-{
-    match reply {
-        Reply::Thread(other) | Reply::Started(other, _) => thread == other,
-        Reply::NoMove | Reply::NotNow => false,
-    }
-}
-
-/// Whether one of these is.
-fn has_one_of(replies: &[Reply], thread: u32) -> bool
-    ensures { result ≡ list_any (is_reply_to thread) replies.now }
-{
-    replies.iter().any(|reply| is_of(*reply, thread))
-}
-
-/// Whether the thread, if there is one, moved by one of the moves that are replied so.
-fn has_moved(replies: &[Reply], thread: Option<u32>) -> bool
-    ensures { result ≡ has_moved replies.now thread }
-{
-    match thread {
-        Some(thread) => has_one_of(replies, thread),
-        None => false,
-    }
 }
 
 /// What is noted.
@@ -92,8 +65,9 @@ pub(crate) struct Notes {
 impl Notes {
     /// Nothing has happened in this incarnation, of so many threads and resource managers.
     pub fn new(alloc: Global, incarnation: u64, threads: u32, rms: u32) -> Result<Notes, Memory>
-        ensures { IfOk result (λ notes.
-            (asked : (Request → Bool) → Bool) → All (TransactionRests asked) notes.transactions.items) }
+        ensures rests { IfOk result (λ notes. (asked : (Request → Bool) → Bool) →
+            All (TransactionRests asked) notes.transactions.items) }
+        ensures at_rest { IfOk result (λ notes. All IsAtRest notes.transactions.items) }
     {
         let mut transactions = Vec::with_capacity(alloc, threads as usize)?;
         for thread in 0..threads {
@@ -147,6 +121,8 @@ impl Notes {
         ensures threads { IfOk result (λ replies.
             ArePairedInOrder IsReplyOf moves.now replies.items) }
         ensures once { IfOk result (λ replies. AreMovedOnce replies.items) }
+        ensures moves { IfOk result (λ replies. MovesTheirs replies.items
+            self.old.transactions.items self.new.transactions.items) }
         ensures steps { IfOk result (λ replies. AllStep replies.items
             self.old.transactions.items self.new.transactions.items) }
         ensures more { IfOk result (λ _.
@@ -157,7 +133,6 @@ impl Notes {
         let mut replies = Vec::with_capacity(self.alloc, moves.len())?;
         for asked in moves {
             let reply = match asked {
-                Some(asked) if has_moved(replies.as_slice(), asked.thread()) => Reply::NotNow,
                 Some(asked) => self.take(asked, plan)?,
                 None => Reply::NoMove,
             };
@@ -171,6 +146,9 @@ impl Notes {
         ensures thread { IfOk result (IsOfThread (thread_of asked.now)) }
         ensures taken { IfOk result (IsTakenSo (length self.old.recoveries.items)
             self.old.transactions.items asked.now) }
+        ensures first { IfOk result (IsFirstMove self.old.transactions.items) }
+        ensures moves { IfOk result (λ reply. MovesTheirs (reply ∷ [])
+            self.old.transactions.items self.new.transactions.items) }
         ensures steps { IfOk result (λ reply. AllStep (reply ∷ [])
             self.old.transactions.items self.new.transactions.items) }
         ensures more { IfOk result (λ _.
@@ -191,6 +169,9 @@ impl Notes {
     /// The first transaction of a thread begins. The first thread is the recovery's.
     fn start(&mut self, thread: u32, plan: &mut Plan) -> Result<Reply, Memory>
         ensures thread { IfOk result (IsOfThread (Some thread)) }
+        ensures first { IfOk result (IsFirstMove self.old.transactions.items) }
+        ensures moves { IfOk result (λ reply. MovesTheirs (reply ∷ [])
+            self.old.transactions.items self.new.transactions.items) }
         ensures steps { IfOk result (λ reply. AllStep (reply ∷ [])
             self.old.transactions.items self.new.transactions.items) }
         ensures more { IfOk result (λ _.
@@ -218,8 +199,11 @@ impl Notes {
     #[tactic(auto, using(crate::proofs::NotStuckLemmas::reply_none))]
     fn join(&mut self, thread: u32, rms: &[u32], plan: &mut Plan) -> Result<Reply, Memory>
         ensures thread { IfOk result (IsOfThread (Some thread)) }
-        ensures taken { IfOk result (λ reply.
-            reply ≡ reply_if self.old.transactions.items thread (may_join rms.now (length self.old.recoveries.items))) }
+        ensures taken { IfOk result (λ reply. reply ≡ reply_if self.old.transactions.items thread
+            (may_join rms.now (length self.old.recoveries.items))) }
+        ensures first { IfOk result (IsFirstMove self.old.transactions.items) }
+        ensures moves { IfOk result (λ reply. MovesTheirs (reply ∷ [])
+            self.old.transactions.items self.new.transactions.items) }
         ensures steps { IfOk result (λ reply. AllStep (reply ∷ [])
             self.old.transactions.items self.new.transactions.items) }
         ensures more { IfOk result (λ _.
@@ -241,6 +225,9 @@ impl Notes {
         ensures thread { IfOk result (IsOfThread (Some thread)) }
         ensures taken { IfOk result (λ reply.
             reply ≡ reply_if self.old.transactions.items thread may_commit) }
+        ensures first { IfOk result (IsFirstMove self.old.transactions.items) }
+        ensures moves { IfOk result (λ reply. MovesTheirs (reply ∷ [])
+            self.old.transactions.items self.new.transactions.items) }
         ensures steps { IfOk result (λ reply. AllStep (reply ∷ [])
             self.old.transactions.items self.new.transactions.items) }
         ensures more { IfOk result (λ _.
@@ -261,6 +248,9 @@ impl Notes {
         ensures thread { IfOk result (IsOfThread (Some thread)) }
         ensures taken { IfOk result (λ reply.
             reply ≡ reply_if self.old.transactions.items thread may_roll_back) }
+        ensures first { IfOk result (IsFirstMove self.old.transactions.items) }
+        ensures moves { IfOk result (λ reply. MovesTheirs (reply ∷ [])
+            self.old.transactions.items self.new.transactions.items) }
         ensures steps { IfOk result (λ reply. AllStep (reply ∷ [])
             self.old.transactions.items self.new.transactions.items) }
         ensures more { IfOk result (λ _.
@@ -281,6 +271,9 @@ impl Notes {
         ensures thread { IfOk result (IsOfThread (Some thread)) }
         ensures taken { IfOk result (λ reply.
             reply ≡ reply_if self.old.transactions.items thread (may_tell reports.now)) }
+        ensures first { IfOk result (IsFirstMove self.old.transactions.items) }
+        ensures moves { IfOk result (λ reply. MovesTheirs (reply ∷ [])
+            self.old.transactions.items self.new.transactions.items) }
         ensures steps { IfOk result (λ reply. AllStep (reply ∷ [])
             self.old.transactions.items self.new.transactions.items) }
         ensures more { IfOk result (λ _.

@@ -2,6 +2,7 @@
 
 ghost use Rattle.std.specs.Prelude.{IfOk, List};
 ghost use Rattle.xa_conduct.specs.Acting.{Acts, GoesOn};
+ghost use Rattle.xa_conduct.specs.BetweenLines.{KeepsAtRest, RestsBetween};
 ghost use Rattle.xa_conduct.specs.Conducting.{Conducts, KeepsConducting};
 ghost use Rattle.xa_requests.specs.declared.request.Request.{Request};
 ghost use Rattle.xa_server.specs.declared.server.Server.{Server};
@@ -57,6 +58,7 @@ fn serve_moves<L: DecisionLog + Drop, R: Read, W: Write>(
     ensures ready { IsReady conductor.new.server.session }
     ensures acts { GoesOn L.moment conductor.old.server conductor.new.server }
     ensures rests { IfOk result (λ _. KeepsConducting L.moment conductor.old conductor.new) }
+    ensures at_rest { IfOk result (λ _. KeepsAtRest L.moment conductor.old conductor.new) }
 {
     flush_before_waiting(input, output)?;
     let line = read_line(alloc, input)?;
@@ -94,6 +96,7 @@ pub fn serve<L: DecisionLog + Drop, R: Read, W: Write>(
     ensures acts { IfOk result (λ c. GoesOn L.moment server c.server) }
     ensures rests { IfOk result (λ c. (done : List Request) → (first : Server L) →
         Acts L.moment done first server → Conducts L.moment first c) }
+    ensures at_rest { IfOk result (RestsBetween L.moment) }
 {
     let Ok(greeting) = response_text(alloc, &server.greeting()) else {
         return Err(ServeFault::Memory);

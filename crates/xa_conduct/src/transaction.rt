@@ -4,10 +4,11 @@
 ghost use Rattle.std.specs.Prelude.{◌≡◌, ◌<◌, ◌≤◌, ◌-◌, Bool, true, false, IfOk};
 ghost use Rattle.std.specs.Prelude.{ℕ, length, nat_lt, if◌then◌else◌};
 ghost use Rattle.std.specs.List.{list_all, list_any};
+ghost use Rattle.xa_conduct.specs.AtRest.{IsAtRest};
 ghost use Rattle.xa_conduct.specs.Backing.{KeepAllBacked, KeepsResting, TransactionRests, branch_at_rm};
 ghost use Rattle.xa_conduct.specs.Backing.{standing_once_heard};
 ghost use Rattle.xa_conduct.specs.Decided.{AsksNoLess, CommitIsAsked, is_for, is_rollback_of};
-ghost use Rattle.xa_conduct.specs.NotStuck.{are_answers, are_undone, calls_of, is_undecided};
+ghost use Rattle.xa_conduct.specs.NotStuck.{are_answers, are_undone, calls_of, is_ready, is_undecided};
 ghost use Rattle.xa_conduct.specs.NotStuck.{may_commit, may_join, may_roll_back, may_tell};
 ghost use Rattle.xa_conduct.specs.Over.{has_calls, has_left, has_spare_row, is_decided, is_all_answered};
 ghost use Rattle.xa_conduct.specs.Places.{is_asked};
@@ -168,7 +169,9 @@ fn are_answers(parts: &[Part], reports: &[Report]) -> bool
 impl Transaction {
     /// None has begun.
     pub fn new(alloc: Global, thread: u32, rms: u32) -> Result<Transaction, AllocError>
-        ensures { IfOk result (λ t. (asked : (Request → Bool) → Bool) → TransactionRests asked t) }
+        ensures rests { IfOk result (λ t. (asked : (Request → Bool) → Bool) →
+            TransactionRests asked t) }
+        ensures at_rest { IfOk result IsAtRest }
     {
         Ok(Transaction {
             thread,
@@ -188,6 +191,7 @@ impl Transaction {
     pub fn begin(&mut self, gtrid: Gtrid)
         ensures rests { (asked : (Request → Bool) → Bool) → TransactionRests asked self.new }
         ensures begun { IsBegun gtrid self.new }
+        ensures moved { self.new.has_moved ≡ false }
     {
         self.gtrid = gtrid;
         self.standing = Standing::Open;
@@ -208,13 +212,16 @@ impl Transaction {
     }
 
     /// Whether its first transaction may begin.
-    pub fn may_begin(&self) -> bool {
+    pub fn may_begin(&self) -> bool
+        ensures { result ≡ true → self.now.has_moved ≡ false }
+    {
         self.standing == Standing::Idle && !self.has_moved
     }
 
     /// Whether all calls that were told are those of the first phase, which may yet not be made.
     pub fn may_roll_back(&self) -> bool
         ensures stands { result ≡ true → self.now.standing ≡ Standings.Open }
+        ensures first { result ≡ true → self.now.has_moved ≡ false }
         ensures exact { result ≡ may_roll_back self.now }
     {
         !self.has_moved && self.is_undecided() && self.may_be_undone()
@@ -237,10 +244,22 @@ impl Transaction {
         }
     }
 
+    /// Whether its votes are in, and the decision isn't made.
+    pub fn is_ready(&self) -> bool
+        ensures stands { result ≡ true → self.now.standing ≡ Standings.Ready }
+        ensures exact { result ≡ is_ready self.now.standing }
+    {
+        match self.standing {
+            Standing::Ready => true,
+            _ => false,
+        }
+    }
+
     /// Whether branches may begin at these resource managers, of which there are so many.
     pub fn may_join(&self, rms: &[u32], count: usize) -> bool
         ensures some { result ≡ true → 0 < length rms.now }
         ensures new { result ≡ true → list_all (is_new_at self.now.parts.items) rms.now ≡ true }
+        ensures first { result ≡ true → self.now.has_moved ≡ false }
         ensures exact { result ≡ may_join rms.now count self.now }
     {
         !rms.is_empty() && self.may_roll_back() && are_below(rms, count) && self.has_none(rms)
@@ -257,6 +276,7 @@ impl Transaction {
     pub fn may_commit(&self) -> bool
         ensures stands { result ≡ true → self.now.standing ≡ Standings.Open }
         ensures works { result ≡ true → are_working self.now.parts.items ≡ true }
+        ensures first { result ≡ true → self.now.has_moved ≡ false }
         ensures exact { result ≡ may_commit self.now }
     {
         self.may_roll_back() && self.parts.len() <= 1 && self.is_working()
@@ -333,6 +353,7 @@ impl Transaction {
 
     /// Branches began at these resource managers. Once there are two, the calls of the first phase wait.
     pub fn join(&mut self, rms: &[u32], plan: &mut Plan) -> Result<(), AllocError>
+        ensures moved { IfOk result (λ _. self.new.has_moved ≡ true) }
         ensures steps { 0 < length rms.now →
             list_all (is_new_at self.old.parts.items) rms.now ≡ true →
             IfOk result (λ _. Steps 1 self.old self.new) }
@@ -355,6 +376,7 @@ impl Transaction {
 
     /// A branch began at the resource manager.
     fn add(&mut self, rm: u32, plan: &mut Plan) -> Result<(), AllocError>
+        ensures moved { IfOk result (λ _. self.new.has_moved ≡ self.old.has_moved) }
         ensures steps { IfOk result (λ _. Steps 1 self.old self.new) }
         ensures more { IfOk result (λ _.
             AsksNoLess plan.old.requests.items plan.new.requests.items) }
@@ -369,6 +391,7 @@ impl Transaction {
 
     /// The thread's line to the resource manager is open.
     fn open(&mut self, rm: u32, plan: &mut Plan) -> Result<(), AllocError>
+        ensures moved { IfOk result (λ _. self.new.has_moved ≡ self.old.has_moved) }
         ensures more { IfOk result (λ _.
             AsksNoLess plan.old.requests.items plan.new.requests.items) }
         ensures gtrid { self.new.gtrid ≡ self.old.gtrid }
@@ -388,6 +411,7 @@ impl Transaction {
 
     /// The calls of the first phase wait, of each branch of which they don't yet.
     fn prepare(&mut self, plan: &mut Plan) -> Result<(), AllocError>
+        ensures moved { IfOk result (λ _. self.new.has_moved ≡ self.old.has_moved) }
         ensures steps { IfOk result (λ _. Steps 0 self.old self.new) }
         ensures more { IfOk result (λ _.
             AsksNoLess plan.old.requests.items plan.new.requests.items) }
@@ -402,6 +426,7 @@ impl Transaction {
 
     /// The work is over, and is to be committed: the one branch in one phase.
     pub fn finish(&mut self, plan: &mut Plan) -> Result<(), AllocError>
+        ensures moved { IfOk result (λ _. self.new.has_moved ≡ true) }
         ensures steps { self.old.standing ≡ Standings.Open →
             are_working self.old.parts.items ≡ true → IfOk result (λ _. Steps 1 self.old self.new) }
         ensures more { IfOk result (λ _.
@@ -427,6 +452,7 @@ impl Transaction {
         why: Option<(RbCode, u32)>,
         plan: &mut Plan,
     ) -> Result<(), AllocError>
+        ensures moved { IfOk result (λ _. self.new.has_moved ≡ true) }
         ensures stands { IfOk result (λ _. self.new.standing ≡ Standings.RolledBack why) }
         ensures steps { IfOk result (λ _.
             Steps (1 - steps_to self.old.standing) self.old self.new) }
@@ -448,6 +474,8 @@ impl Transaction {
     pub fn commit(&mut self, plan: &mut Plan) -> Result<(), AllocError>
         requires ready { self.old.standing ≡ Standings.Ready }
         requires decided { CommitIsAsked plan.old.requests.items self.old.gtrid }
+        ensures stands { IfOk result (λ _. self.new.standing ≡ Standings.Committed) }
+        ensures moved { IfOk result (λ _. self.new.has_moved ≡ self.old.has_moved) }
         ensures steps { IfOk result (λ _. Steps 0 self.old self.new) }
         ensures kept { IfOk result (λ _.
             AsksNoLess plan.old.requests.items plan.new.requests.items) }
@@ -467,6 +495,7 @@ impl Transaction {
     pub fn takes(&self, reports: &[Report]) -> bool
         ensures calls { result ≡ true → has_calls self.now ≡ true }
         ensures some { result ≡ true → 0 < length reports.now }
+        ensures first { result ≡ true → self.now.has_moved ≡ false }
         ensures exact { result ≡ may_tell reports.now self.now }
     {
         self.is_asked() && are_answers(self.parts.as_slice(), reports) && !self.has_moved
@@ -479,6 +508,7 @@ impl Transaction {
         plan: &mut Plan,
         debts: &mut Vec<Debt>,
     ) -> Result<(), AllocError>
+        ensures moved { IfOk result (λ _. self.new.has_moved ≡ true) }
         ensures votes { IfOk result (λ _. self.new.standing ≡ Standings.Ready →
             list_all is_for reports.now ≡ true) }
         ensures steps { has_calls self.old ≡ true → 0 < length reports.now →
@@ -511,6 +541,7 @@ impl Transaction {
         plan: &mut Plan,
         debts: &mut Vec<Debt>,
     ) -> Result<Option<(RbCode, u32)>, AllocError>
+        ensures moved { IfOk result (λ _. self.new.has_moved ≡ self.old.has_moved) }
         ensures steps { has_calls self.old ≡ true → 0 < length reports.now →
             IfOk result (λ _. Steps 1 self.old self.new) }
         ensures more { IfOk result (λ _.
@@ -553,6 +584,7 @@ impl Transaction {
         plan: &mut Plan,
         debts: &mut Vec<Debt>,
     ) -> Result<Option<(RbCode, u32)>, AllocError>
+        ensures moved { IfOk result (λ _. self.new.has_moved ≡ self.old.has_moved) }
         ensures steps { IfOk result (λ _. Steps (if is_asked_in self.old.parts.items at
             then 1 else 0) self.old self.new) }
         ensures more { IfOk result (λ _.
@@ -573,6 +605,7 @@ impl Transaction {
 
     /// A branch at a resource manager was heard.
     fn note(&mut self, heard: Heard, rm: u32)
+        ensures moved { self.new.has_moved ≡ self.old.has_moved }
         ensures gtrid { self.new.gtrid ≡ self.old.gtrid }
         ensures thread { self.new.thread ≡ self.old.thread }
         ensures parts { self.new.parts ≡ self.old.parts }

@@ -1,8 +1,9 @@
 //! What follows from a line of moves: decisions, rows that leave the log, transactions that begin, and the replies.
 
-ghost use Rattle.std.specs.Prelude.{◌≡◌, ◌==◌, ◌≤◌, ◌++◌, ◌∷◌, [], true, false, length};
+ghost use Rattle.std.specs.Prelude.{◌≡◌, ◌==◌, ◌≤◌, ◌++◌, ◌∷◌, ◌&&◌, [], true, false, length, not};
 ghost use Rattle.std.specs.Prelude.{ℕ, All, Bool, IfOk, None, get_or, is_some, string_bytes};
 ghost use Rattle.std.specs.List.{list_any};
+ghost use Rattle.xa_conduct.specs.AtRest.{AreAllDue, DecidesAll, is_moved_in};
 ghost use Rattle.xa_conduct.specs.Backing.{KeepResting, KeepsRest, TransactionRests};
 ghost use Rattle.xa_conduct.specs.Decided.{AsksNoLess, is_same};
 ghost use Rattle.xa_conduct.specs.Moves.{AreMovedOnce, ArePairedInOrder, is_reply_to};
@@ -17,7 +18,7 @@ ghost use Rattle.xa_requests.specs.declared.request.Request.{Request};
 
 use super::{Notes, Reply, add_over};
 use crate::plan::Plan;
-use crate::transaction::{Standing, Transaction};
+use crate::transaction::Transaction;
 use crate::writing::{add_next, add_told};
 use std::alloc::Global;
 use xa_base::{Gtrid, Memory, Outcome};
@@ -53,14 +54,19 @@ fn ready_of(
     transactions: &[Transaction],
     replies: &[Reply],
 ) -> Result<Vec<Gtrid>, Memory>
-    ensures { IfOk result (λ ready. length ready.items ≤ length replies.now) }
+    ensures few { IfOk result (λ ready. length ready.items ≤ length replies.now) }
+    ensures all { IfOk result (λ ready. AreAllDue ready.items transactions.now replies.now) }
 {
     let mut ready = Vec::new(alloc);
     for reply in replies {
-        if let Some(transaction) = transaction_of(transactions, *reply) {
-            if transaction.standing == Standing::Ready {
-                ready.push(transaction.gtrid)?;
-            }
+        let Reply::Thread(thread) = *reply else {
+            continue;
+        };
+        let Some(transaction) = transactions.get(thread as usize) else {
+            continue;
+        };
+        if transaction.is_ready() {
+            ready.push(transaction.gtrid)?;
         }
     }
     Ok(ready)
@@ -70,6 +76,8 @@ impl Notes {
     /// All transactions that have their votes are decided by one request, and their branches are to be committed.
     pub fn decide(&mut self, replies: &[Reply], plan: &mut Plan) -> Result<(), Memory>
         requires { length replies.now ≤ 1024 }
+        ensures decides { IfOk result (λ _. DecidesAll replies.now
+            self.old.transactions.items self.new.transactions.items) }
         ensures steps { IfOk result (λ _. AllStep [] self.old.transactions.items
             self.new.transactions.items) }
         ensures more { IfOk result (λ _.
@@ -84,9 +92,7 @@ impl Notes {
                 continue;
             };
             if let Some(transaction) = self.transactions.get_mut(thread as usize) {
-                if matches!(transaction.standing, Standing::Ready)
-                    && has(ready.as_slice(), transaction.gtrid)
-                {
+                if transaction.is_ready() && has(ready.as_slice(), transaction.gtrid) {
                     transaction.commit(plan)?;
                 }
             }
@@ -171,6 +177,9 @@ impl Notes {
         requires once { AreMovedOnce replies.now }
         requires names { ArePairedInOrder (HasNext self.old.transactions.items)
             replies.now nexts.now }
+        ensures moved { IfOk result (λ _. (i : ℕ) → is_moved_in self.new.transactions.items i ≡
+            (is_moved_in self.old.transactions.items i
+            && not (list_any (is_reply_to i) replies.now))) }
         ensures rests { IfOk result (λ _. KeepsRest self.old.transactions.items
             self.new.transactions.items) }
         ensures passes { IfOk result (λ _. AllPass self.old.transactions.items
@@ -200,6 +209,8 @@ impl Notes {
         next: Option<Gtrid>,
     ) -> Result<(), Memory>
         requires { HasNext self.old.transactions.items reply next }
+        ensures moved { IfOk result (λ _. (i : ℕ) → is_moved_in self.new.transactions.items i ≡
+            (is_moved_in self.old.transactions.items i && not (is_reply_to i reply))) }
         ensures rests { IfOk result (λ _. KeepsRest self.old.transactions.items
             self.new.transactions.items) }
         ensures passes { IfOk result (λ _. AllPass self.old.transactions.items
@@ -242,6 +253,8 @@ impl Notes {
         next: Option<Gtrid>,
     ) -> Result<(), Memory>
         requires { HasNext self.old.transactions.items (Replies.Thread thread) next }
+        ensures moved { IfOk result (λ _. (i : ℕ) → is_moved_in self.new.transactions.items i ≡
+            (is_moved_in self.old.transactions.items i && not (i == thread))) }
         ensures rests { IfOk result (λ _. KeepsRest self.old.transactions.items
             self.new.transactions.items) }
         ensures passes { IfOk result (λ _. AllPass self.old.transactions.items
@@ -302,6 +315,8 @@ fn add_begun(
     ensures rests { IfOk result (λ _. (asked : (Request → Bool) → Bool) →
         TransactionRests asked transaction.old → TransactionRests asked transaction.new) }
     ensures passes { IfOk result (λ _. Passes transaction.old transaction.new) }
+    ensures moved { IfOk result (λ _. transaction.old.has_moved ≡ false →
+        transaction.new.has_moved ≡ false) }
     ensures adds { IfOk result (λ _. string_bytes text.new
         ≡ string_bytes text.old ++ begun_text next) }
 {

@@ -7,7 +7,11 @@ loop-preserved g c =
       ready = served.ready;
       acts = λ done first acts. served.acts done first (c.loop.invariant.acts done first acts);
       rests = λ done first acts. served.rests first (c.loop.invariant.rests done first acts);
+      at_rest = served.at_rest c.loop.invariant.at_rest;
     }
 
 pub returns-then-not-branch-clause-rests : goal.returns-then-not-branch-clause-rests
 returns-then-not-branch-clause-rests g c = λ done first acts. c.in_ok-serve_moves.ensures.rests first (c.loop.invariant.rests done first acts)
+
+pub returns-then-not-branch-clause-at_rest : goal.returns-then-not-branch-clause-at_rest
+returns-then-not-branch-clause-at_rest g c = c.in_ok-serve_moves.ensures.at_rest c.loop.invariant.at_rest

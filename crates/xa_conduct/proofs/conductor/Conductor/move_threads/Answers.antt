@@ -1,12 +1,15 @@
-use Rattle.std.proofs.Common.{List, Option, ap, inl, inr, rules, subst, sym}
+use Rattle.std.proofs.Common.{◌≡◌, ◌∙◌, ◌&&◌, ℕ, List, Option, ap, inl, inr, length, not, rules, subst, sym}
+use Rattle.std.specs.List.{list_any}
 use Rattle.std.specs.Prelude.{All, string_bytes}
 use Rattle.xa_base.specs.declared.branch.Gtrid.{Gtrid}
 use Rattle.xa_requests.specs.declared.request.Request.{Request}
 use Rattle.xa_conduct.proofs.ConductLemmas.{moves_told, ok_all, rest_stays, stops_told}
 use Rattle.xa_conduct.proofs.MoveLemmas.{line_replied}
+use Rattle.xa_conduct.proofs.RestLemmas.{line_rests}
 use Rattle.xa_conduct.proofs.TurnLemmas.{line_steps}
+use Rattle.xa_conduct.specs.AtRest.{DecidesAll, is_moved_in}
 use Rattle.xa_conduct.specs.Backing.{TransactionRests, was_asked}
-use Rattle.xa_conduct.specs.Moves.{ArePairedInOrder}
+use Rattle.xa_conduct.specs.Moves.{ArePairedInOrder, is_reply_to}
 use Rattle.xa_conduct.specs.Told.{AreRepliesTold, HasNext}
 use Rattle.xa_conduct.specs.Turns.{SaysAll}
 use Rattle.xa_conduct.specs.declared.notes.Reply.{Reply}
@@ -50,7 +53,23 @@ returns-then-not-ask_all-clause-rests g c =
     (λ done first acts. c.stop.ensures.acts done first (c.ask_all.ensures.acts done first acts)))
 
 pub returns-clause-steps : goal.returns-clause-steps
-returns-clause-steps g c = inl (record {
+returns-clause-steps g c =
+    let s = c.args.self.now in
+    let told = c.in_ok-replies.replies.items in
+    let taken = c.take_all.new.self.transactions.items in
+    let decided = c.decide.new.self.transactions.items in
+    let begun = c.begin_next.new.self.transactions.items in
+    let same : begun ≡ decided = ap (λ v. v.items) c.begin_next.ensures.same ∙ ap (λ v. v.items) c.finish.ensures.same in
+    let decides : DecidesAll told taken begun =
+    subst (λ (rs : List Reply). DecidesAll rs taken begun) c.as_slice.ensures.value
+    (subst (λ (ts : List Transaction). DecidesAll c.as_slice.result.now taken ts) (sym same) c.in_ok-decide.ensures.decides) in
+    let unmoved =
+    λ (i : ℕ).
+    subst (λ (rs : List Reply). is_moved_in c.reply.new.self.transactions.items i ≡ (is_moved_in begun i && not (list_any (is_reply_to i) rs)))
+    c.as_slice-4.ensures.value (c.in_ok-text.ensures.moved i) in
+    let count : length begun ≡ length s.notes.transactions.items =
+    ap length same ∙ c.in_ok-decide.ensures.steps.count ∙ c.in_ok-replies.ensures.steps.count in
+    inl (record {
   told = c.in_ok-replies.replies.items;
   between = c.begin_next.new.self.transactions.items;
   steps =
@@ -59,6 +78,9 @@ returns-clause-steps g c = inl (record {
       c.in_ok-replies.ensures.steps c.in_ok-decide.ensures.steps (ap (λ v. v.items) c.finish.ensures.same)
       (ap (λ v. v.items) c.begin_next.ensures.same);
   passes = c.in_ok-text.ensures.passes;
+  rests =
+      line_rests told s.notes.transactions.items taken begun c.reply.new.self.transactions.items c.in_ok-replies.ensures.moves decides unmoved
+      c.in_ok-text.ensures.passes count;
   said = subst (λ (rs : List Reply). SaysAll rs (string_bytes c.in_ok-text.text)) c.as_slice-4.ensures.value c.in_ok-text.ensures.said;
 })
 

@@ -3,6 +3,7 @@ use Rattle.std.proofs.Math.ListN.{set}
 use Rattle.std.proofs.lemmas.List.{get_or-set_same, get_or_default}
 use Rattle.std.specs.Prelude.{string_bytes}
 use Rattle.xa_conduct.proofs.BackingLemmas.{rest_begun}
+use Rattle.xa_conduct.proofs.RestLemmas.{unmoved_set}
 use Rattle.xa_conduct.proofs.ToldLemmas.{told_thread}
 use Rattle.xa_conduct.proofs.TurnLemmas.{all_pass_set, passes_moved, said_thread}
 use Rattle.xa_conduct.specs.Backing.{TransactionRests}
@@ -46,3 +47,8 @@ pub add_begun-requires : goal.add_begun-requires
 add_begun-requires c =
     c.requires c.in-Some.transaction.now (omega (arith, c.in-Some.ensures.variant.0 refl))
     ∙ ap (λ (x : Transaction). is_all_answered x) (sym c.in-Some.ensures.value)
+
+pub returns-clause-moved : goal.returns-clause-moved
+returns-clause-moved c =
+    unmoved_set c.args.self.now.transactions.items c.args.thread c.add_begun.new.transaction (omega (arith, c.in-Some.ensures.variant.0 refl))
+    (c.in_ok-add_begun.ensures.moved refl)

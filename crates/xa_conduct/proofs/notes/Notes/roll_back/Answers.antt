@@ -2,6 +2,7 @@ use Rattle.std.proofs.Common.{◌∙◌, sym, ◌-◌, ℕ, ap, arith, refl, sub
 use Rattle.xa_conduct.proofs.BackingLemmas.{rest_moved}
 use Rattle.xa_conduct.proofs.NotStuckLemmas.{reply_refused, reply_taken}
 use Rattle.xa_conduct.proofs.ProgressLemmas.{all_step_one}
+use Rattle.xa_conduct.proofs.RestLemmas.{first_one, moves_one}
 use Rattle.xa_conduct.specs.Progress.{Steps, steps_to}
 use Rattle.xa_conduct.specs.declared.transaction.Standing.{Standing}
 use Rattle.xa_conduct.specs.NotStuck.{may_roll_back}
@@ -29,3 +30,13 @@ pub returns-in_default-clause-taken : goal.returns-in_default-clause-taken
 returns-in_default-clause-taken c =
     reply_refused c.args.self.now.transactions.items c.args.thread c.in-Some.transaction.now may_roll_back
     (omega (arith, c.in-Some.ensures.variant.0 refl)) c.in-Some.ensures.value (sym c.may_roll_back.ensures.exact ∙ c.if-may_roll_back.false)
+
+pub returns-clause-first : goal.returns-clause-first
+returns-clause-first c =
+    first_one c.args.self.now.transactions.items c.args.thread c.in-Some.transaction.now (omega (arith, c.in-Some.ensures.variant.0 refl))
+    c.in-Some.ensures.value (c.may_roll_back.ensures.first c.if-may_roll_back.true)
+
+pub returns-clause-moves : goal.returns-clause-moves
+returns-clause-moves c =
+    moves_one c.args.self.now.transactions.items c.args.thread c.roll_back.new.self (omega (arith, c.in-Some.ensures.variant.0 refl))
+    c.in_ok-roll_back-in-Some.ensures.moved

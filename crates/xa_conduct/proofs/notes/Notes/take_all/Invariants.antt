@@ -1,4 +1,5 @@
 use Rattle.std.proofs.Common.{◌≡◌, length, take}
+use Rattle.xa_conduct.specs.AtRest.{MovesTheirs}
 use Rattle.xa_conduct.specs.Backing.{KeepResting}
 use Rattle.xa_conduct.specs.Decided.{AsksNoLess}
 use Rattle.xa_conduct.specs.Moves.{AreMovedOnce, ArePairedInOrder, IsReplyOf}
@@ -11,6 +12,7 @@ invariant-loop-asked l = record {
   count : length l.replies.items ≡ l.asked-index;
   threads : ArePairedInOrder IsReplyOf (take l.asked-index l.moves) l.replies.items;
   once : AreMovedOnce l.replies.items;
+  moves : MovesTheirs l.replies.items l.fn.self.transactions.items l.self.transactions.items;
   steps : AllStep l.replies.items l.fn.self.transactions.items l.self.transactions.items;
   more : AsksNoLess l.fn.plan.requests.items l.plan.requests.items;
   rests : KeepResting l.fn.plan.requests.items l.plan.requests.items l.fn.self.transactions.items l.self.transactions.items;

@@ -2,6 +2,7 @@ use Rattle.std.proofs.Common.{◌∙◌, sym, arith, refl}
 use Rattle.xa_conduct.proofs.BackingLemmas.{rest_moved}
 use Rattle.xa_conduct.proofs.NotStuckLemmas.{reply_refused, reply_taken}
 use Rattle.xa_conduct.proofs.ProgressLemmas.{all_step_one}
+use Rattle.xa_conduct.proofs.RestLemmas.{first_one, moves_one}
 use Rattle.xa_conduct.specs.NotStuck.{may_tell}
 use Rattle.xa_conduct.proofs.notes.Notes.tell.Goals as goal
 
@@ -26,3 +27,13 @@ pub returns-then-not-takes-clause-taken : goal.returns-then-not-takes-clause-tak
 returns-then-not-takes-clause-taken c =
     reply_refused c.args.self.now.transactions.items c.args.thread c.in-Some.transaction.now (may_tell c.args.reports.now)
     (omega (arith, c.in-Some.ensures.variant.0 refl)) c.in-Some.ensures.value (sym c.takes.ensures.exact ∙ c.if-not-takes.true)
+
+pub returns-clause-first : goal.returns-clause-first
+returns-clause-first c =
+    first_one c.args.self.now.transactions.items c.args.thread c.in-Some.transaction.now (omega (arith, c.in-Some.ensures.variant.0 refl))
+    c.in-Some.ensures.value (c.takes.ensures.first c.if-not-takes.false)
+
+pub returns-clause-moves : goal.returns-clause-moves
+returns-clause-moves c =
+    moves_one c.args.self.now.transactions.items c.args.thread c.hear.new.self (omega (arith, c.in-Some.ensures.variant.0 refl))
+    c.in_ok-hear.ensures.moved

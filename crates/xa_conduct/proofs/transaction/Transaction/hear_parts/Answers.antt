@@ -3,10 +3,11 @@ use Rattle.xa_conduct.proofs.ProgressLemmas.{heard_all, heard_none, heard_one, h
 use Rattle.xa_conduct.proofs.transaction.Transaction.hear_parts.Goals as goal
 
 pub loop-at-init : goal.loop-at-init
-loop-at-init c = record { steps = inr (refl, refl, search rules); more = λ p among. among; rests = λ past rests. rests }
+loop-at-init c = record { moved = refl; steps = inr (refl, refl, search rules); more = λ p among. among; rests = λ past rests. rests }
 
 pub loop-at-preserved-then-not-is_asked_at : goal.loop-at-preserved-then-not-is_asked_at
 loop-at-preserved-then-not-is_asked_at c = record {
+  moved = c.loop-at.invariant.moved;
   steps =
       heard_none c.loop-at.at c.args.self.now c.loop-at.self c.args.reports.now c.loop-at.reports.rest.now c.loop-at.invariant.steps
       (sym c.is_asked_at.ensures ∙ c.if-not-is_asked_at.true);
@@ -16,6 +17,7 @@ loop-at-preserved-then-not-is_asked_at c = record {
 
 pub loop-at-preserved : goal.loop-at-preserved
 loop-at-preserved c = record {
+  moved = c.in_ok-objection.ensures.moved ∙ c.loop-at.invariant.moved;
   steps = inl (heard_one c.loop-at.at c.args.self.now c.loop-at.self c.hear_at.new.self c.args.reports.now c.loop-at.reports.rest.now c.loop-at.invariant.steps (sym c.is_asked_at.ensures ∙ c.if-not-is_asked_at.false) c.in_ok-objection.ensures.steps);
   more = λ p among. c.in_ok-objection.ensures.more p (c.loop-at.invariant.more p among);
   rests = λ past rests. c.in_ok-objection.ensures.rests past (c.loop-at.invariant.rests past rests);
