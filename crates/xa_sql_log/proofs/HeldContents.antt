@@ -1,5 +1,5 @@
 -- What an open finds in files that hold a log, or nothing, and what the log that takes it holds then.
-use Rattle.std.proofs.Common.{◌≡◌, ◌≢◌, ◌⊎◌, inl, inr, refl, true, false, is_some, codes, Ok, Some, ap, sym, subst, ◌∙◌, arith, length, ℕ, List, [], ◌∷◌}
+use Rattle.std.proofs.Common.{◌≡◌, ◌≢◌, ◌⊎◌, inl, inr, refl, false, is_some, codes, Ok, Some, ap, sym, subst, ◌∙◌, arith, length, ℕ, List, [], ◌∷◌}
 use Rattle.std.proofs.Math.Logic.{∥∥₁_elim}
 use Rattle.std.proofs.lemmas.Bool.{true≢false}
 use Rattle.sqlite.specs.Files.{HoldsDatabase}

@@ -1,38 +1,23 @@
 -- What the two statements that migrate a log of version 1 do.
-use Rattle.std.proofs.Common.{◌≡◌, ℕ, List, [], ◌∷◌, map, length, arith, Option, None, Ok, refl, codes, pos, true, false, sym, ap, subst, ◌∙◌}
-use Rattle.std.proofs.lemmas.Bool.{eqb-false}
+use Rattle.std.proofs.Common.{◌≡◌, ℕ, List, [], ◌∷◌, None, Ok, refl, codes, true, false, sym, ap, subst, ◌∙◌}
 use Rattle.std.specs.List.{AllByRecursion}
-use Rattle.std.specs.List.Sorted.{IsPermutation}
-use Rattle.sqlite.specs.Order.{Row}
-use Rattle.sqlite.specs.Tree.{Trees, IsTable}
+use Rattle.sqlite.specs.Tree.{IsTable}
 use Rattle.sqlite.specs.Schema.{Schema}
 use Rattle.sqlite.specs.Change.{created, next_tree, KeepsRows}
-use Rattle.sqlite.specs.Edit.{edit_of, edited, taken_by}
-use Rattle.sqlite.specs.Rowids.TheVariants.{Given}
 use Rattle.sqlite.specs.Effect.{Database}
-use Rattle.sqlite.specs.Rows.{Written}
-use Rattle.sqlite.specs.Does.{Tally, Does, lacks_sequence}
+use Rattle.sqlite.specs.Does.{Tally, lacks_sequence}
 use Rattle.sqlite.specs.State.{State, Writes, Executes}
-use Rattle.sqlite.proofs.Callers.{command_of, statement_of, IsPlain, runs_as, one_step, one_permutation}
+use Rattle.sqlite.proofs.Callers.{command_of, statement_of, IsPlain, runs_as}
 use Rattle.sqlite.specs.Listing.{understood}
-use Rattle.sqlite.specs.declared.types.Value.TheVariants.{Null, Int}
-use Rattle.sqlite.specs.Command.TheVariants.{CreateTable, Update}
-use Rattle.sqlite.specs.Term.{Term, lit, col}
-use Rattle.sqlite_schema.specs.declared.schema.Keys.TheVariants.{Enforced}
-use Rattle.sqlite_rules.specs.Calls.{ids_of}
-use Rattle.sqlite_rules.specs.Action.{works}
+use Rattle.sqlite.specs.Command.TheVariants.{CreateTable}
 use Rattle.sqlite_tied.specs.Compute.{everything}
-use Rattle.xa_sql_log.proofs.Texts.{over}
 use Rattle.xa_log.proofs.Parts.{went, same_value}
-use Rattle.xa_sql_log.proofs.Plain.{chosen, shown, plain_rows}
-use Rattle.xa_sql_log.proofs.Values.{cast_int, cast_null, same_id}
-use Rattle.xa_sql_log.proofs.Inserts.{at_once}
 use Rattle.xa_sql_log.proofs.Maps.{booked}
 use Rattle.xa_sql_log.proofs.NamedVersions.{Names, names, naming}
 use Rattle.sqlite_schema.specs.Rules.{is_key_of}
 use Rattle.xa_sql_log.specs.Labels.{MakesParticipants}
-use Rattle.xa_sql_log.specs.Tables.{old_schema, log_schema, participant_text, participant, meta, of_decision}
-use Rattle.xa_sql_log.specs.Rows.{IsOldLog, IsDecisionRow, AreHeuristicRows, IsParticipantRow, HasDecision, participants_of_rows, meta_row, old_meta_row, content_of, old_content_of}
+use Rattle.xa_sql_log.specs.Tables.{old_schema, log_schema, participant_text, participant, of_decision}
+use Rattle.xa_sql_log.specs.Rows.{IsOldLog, IsDecisionRow, AreHeuristicRows, IsParticipantRow, HasDecision, participants_of_rows, meta_row, content_of, old_content_of}
 use Rattle.xa_sql_log.specs.Sql.{IsNewLog}
 use Rattle.xa_log.proofs.Alike.{same_content}
 

@@ -1,5 +1,5 @@
 -- A log that is shut, what an open makes of it, and one that is opened again.
-use Rattle.std.proofs.Common.{◌≡◌, ◌⊎◌, inl, inr, ℕ, zero, suc, ◌<◌, pos, List, [], ◌∷◌, get_or, cond, Option, None, Some, Ok, IsTrue, refl, sym, ap, subst, ◌∙◌, codes, arith}
+use Rattle.std.proofs.Common.{◌≡◌, inl, inr, ℕ, zero, suc, ◌<◌, pos, List, [], ◌∷◌, get_or, cond, Option, None, Some, Ok, refl, sym, ap, subst, ◌∙◌, codes, arith}
 use Rattle.std.proofs.lemmas.Bool.{cases_Bool}
 use Rattle.std.specs.List.{Contains}
 use Rattle.sqlite.specs.Closing.{HoldsAlone}

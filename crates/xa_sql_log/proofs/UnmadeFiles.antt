@@ -1,6 +1,5 @@
 -- What an open finds where no log has been made yet, and in files that hold a database.
-use Rattle.std.proofs.Common.{◌≡◌, ◌≤◌, inl, inr, subst, sym, arith}
-use Rattle.sqlite.proofs.FileLemmas.{same_image}
+use Rattle.std.proofs.Common.{◌≡◌, ◌≤◌, inl, inr, subst, arith}
 use Rattle.sqlite.specs.Files.{Finds, HoldsDatabase, IsEmpty, file_state, image_of}
 use Rattle.sqlite.specs.Held.{Held}
 use Rattle.sqlite.specs.Recovery.{Image}

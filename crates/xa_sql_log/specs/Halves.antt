@@ -1,5 +1,5 @@
 -- The journal of a database whose file is lost.
-use Rattle.std.specs.Prelude.{ℕ, Bool, not, ◌&&◌, ◌||◌, ◌==◌, ◌+◌, nat_lt, nat_eq, List, [], ◌∷◌, length, slice_index, slice_range}
+use Rattle.std.specs.Prelude.{ℕ, Bool, not, ◌&&◌, ◌||◌, ◌==◌, ◌+◌, nat_lt, nat_eq, List, length, slice_index, slice_range}
 use Rattle.std.specs.Cmp.Lexicographic.{pointwise}
 use Rattle.xa_sql_log.specs.declared.sql_log.halves.TheConstants.{CHECKPOINTS, NEW_JOURNAL_LEN, NO_CHECKPOINTS}
 

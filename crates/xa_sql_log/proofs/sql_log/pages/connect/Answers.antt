@@ -1,6 +1,6 @@
 use Rattle.std.proofs.Common.{Ok, Err, Result, IfOk, false, subst, sym}
 use Rattle.sqlite.proofs.FileLemmas.{same_image}
-use Rattle.sqlite.specs.Files.{IsBlankAs, file_state, image_of}
+use Rattle.sqlite.specs.Files.{IsBlankAs, file_state}
 use Rattle.sqlite_wal.proofs.CleanLemmas.{both_clean}
 use Rattle.xa_log.proofs.Parts.{if_ok}
 use Rattle.xa_sql_log.proofs.UnmadeFiles.{finds_new, finds_old}

@@ -2,7 +2,7 @@ use Rattle.std.proofs.Common.{false, arith, sym, ap, subst, ◌∙◌}
 use Rattle.sqlite.specs.Files.{IsEmpty}
 use Rattle.sqlite_pool.specs.Stored.{is_summed}
 use Rattle.sqlite_store.specs.FileStore.{view as shown}
-use Rattle.sqlite_trees.proofs.Doubt.{clean_of as sure, no_doubt}
+use Rattle.sqlite_trees.proofs.Doubt.{clean_of as sure}
 use Rattle.sqlite_wal.specs.Reads.{are_clean}
 use Rattle.sqlite.proofs.FileLemmas.{summed_used}
 use Rattle.sqlite.proofs.OpenLemmas.{pool_files}
