@@ -70,19 +70,19 @@ returns-clause-steps g c =
     let count : length begun ≡ length s.notes.transactions.items =
     ap length same ∙ c.in_ok-decide.ensures.steps.count ∙ c.in_ok-replies.ensures.steps.count in
     inl (record {
-  told = c.in_ok-replies.replies.items;
-  between = c.begin_next.new.self.transactions.items;
-  steps =
-      line_steps c.in_ok-replies.replies.items c.args.self.now.notes.transactions.items c.take_all.new.self.transactions.items
-      c.decide.new.self.transactions.items c.finish.new.self.transactions.items c.begin_next.new.self.transactions.items
-      c.in_ok-replies.ensures.steps c.in_ok-decide.ensures.steps (ap (λ v. v.items) c.finish.ensures.same)
-      (ap (λ v. v.items) c.begin_next.ensures.same);
-  passes = c.in_ok-text.ensures.passes;
-  rests =
-      line_rests told s.notes.transactions.items taken begun c.reply.new.self.transactions.items c.in_ok-replies.ensures.moves decides unmoved
-      c.in_ok-text.ensures.passes count;
-  said = subst (λ (rs : List Reply). SaysAll rs (string_bytes c.in_ok-text.text)) c.as_slice-4.ensures.value c.in_ok-text.ensures.said;
-})
+      told = c.in_ok-replies.replies.items;
+      between = c.begin_next.new.self.transactions.items;
+      steps =
+          line_steps c.in_ok-replies.replies.items c.args.self.now.notes.transactions.items c.take_all.new.self.transactions.items
+          c.decide.new.self.transactions.items c.finish.new.self.transactions.items c.begin_next.new.self.transactions.items
+          c.in_ok-replies.ensures.steps c.in_ok-decide.ensures.steps (ap (λ v. v.items) c.finish.ensures.same)
+          (ap (λ v. v.items) c.begin_next.ensures.same);
+      passes = c.in_ok-text.ensures.passes;
+      rests =
+          line_rests told s.notes.transactions.items taken begun c.reply.new.self.transactions.items c.in_ok-replies.ensures.moves decides unmoved
+          c.in_ok-text.ensures.passes count;
+      said = subst (λ (rs : List Reply). SaysAll rs (string_bytes c.in_ok-text.text)) c.as_slice-4.ensures.value c.in_ok-text.ensures.said;
+    })
 
 pub returns-then-not-ask_all-clause-steps : goal.returns-then-not-ask_all-clause-steps
 returns-then-not-ask_all-clause-steps g c = ok_all c.stop.result _ (λ text. inr (inr c.stop.ensures.stopped))

@@ -48,70 +48,70 @@ loop-reply-preserved c =
     decides_thread told k _ i c.args.self.now.transactions.items ts us inside c.in-Thread.is ready.decides one in
     elim c.match-get_mut.branch [
       | in-Some+then-is_ready+then-has+in_ok-commit w ↦ rw (w.plan-is, w.self-is) (
-        let t = w.in-Some.transaction.now in
-        let within : i < length ts = omega (arith, w.in-Some.ensures.variant.0 refl) in
-        let commits = w.in_ok-commit.ensures in
-        record {
-          decides = goes _ (decides_set ts i t w.commit.new.self within w.in-Some.ensures.value commits.moved (ap is_ready commits.stands));
-          all = all_due_set c.in_ok-ready.ready.items ts told i w.commit.new.self within (ap is_ready commits.stands) ready.all;
-          decided = λ g is. commits.kept (is_commit_of g) (ready.decided g is);
-          steps =
-              all_step_both [] [] c.args.self.now.transactions.items ts _ ready.steps
-              (all_step_set ts i t w.commit.new.self within w.in-Some.ensures.value commits.steps);
-          more = λ p among. commits.kept p (ready.more p among);
-          rests =
-              λ past rest.
-              rest_moved past plan w.commit.new.plan.requests.items ts i t w.commit.new.self within w.in-Some.ensures.value commits.kept commits.rests
-              (ready.rests past rest);
-        })
+          let t = w.in-Some.transaction.now in
+          let within : i < length ts = omega (arith, w.in-Some.ensures.variant.0 refl) in
+          let commits = w.in_ok-commit.ensures in
+          record {
+            decides = goes _ (decides_set ts i t w.commit.new.self within w.in-Some.ensures.value commits.moved (ap is_ready commits.stands));
+            all = all_due_set c.in_ok-ready.ready.items ts told i w.commit.new.self within (ap is_ready commits.stands) ready.all;
+            decided = λ g is. commits.kept (is_commit_of g) (ready.decided g is);
+            steps =
+                all_step_both [] [] c.args.self.now.transactions.items ts _ ready.steps
+                (all_step_set ts i t w.commit.new.self within w.in-Some.ensures.value commits.steps);
+            more = λ p among. commits.kept p (ready.more p among);
+            rests =
+                λ past rest.
+                rest_moved past plan w.commit.new.plan.requests.items ts i t w.commit.new.self within w.in-Some.ensures.value commits.kept commits.rests
+                (ready.rests past rest);
+          })
       | in-Some+else-is_ready w ↦ rw (w.plan-is, w.self-is) (
-        let t = w.in-Some.transaction.now in
-        let within : i < length ts = omega (arith, w.in-Some.ensures.variant.0 refl) in
-        let itself : set ts i t ≡ ts = set_itself ts i t w.in-Some.ensures.value in
-        let P : Notes → Type 0 = λ n. DecidesAll (take (k + 1) told) c.args.self.now.transactions.items n.transactions.items in
-        let Q : Notes → Type 0 = λ n. AreAllDue c.in_ok-ready.ready.items n.transactions.items told in
-        let done =
-        λ (undue : is_due_in ts i ≡ false).
-        subst (λ (us : List Transaction). DecidesAll (take (k + 1) told) c.args.self.now.transactions.items us) (sym itself)
-        (goes ts (decides_same ts i undue)) in
-        let kept = subst (λ (us : List Transaction). AreAllDue c.in_ok-ready.ready.items us told) (sym itself) ready.all in
-        record {
-          decides =
-              elim w.else-is_ready.branch [
-                | else-is_ready-via-then-is_ready+else-has v ↦
-                    subst P (sym v.self-is)
-                    (done (due_unnamed c.in_ok-ready.ready.items ts told i t ready.all among within w.in-Some.ensures.value
-                    (subst (λ (gs : List Gtrid). list_any (is_same t.gtrid) gs ≡ false) v.as_slice-then-is_ready.ensures.value
-                    (sym v.has.ensures ∙ v.if-has.false))))
-                | else-is_ready-via-else-is_ready v ↦
-                    subst P (sym v.self-is)
-                    (done (due_not ts i t within w.in-Some.ensures.value (sym w.is_ready.ensures.exact ∙ v.if-is_ready.false)))
-              ];
-          all =
-              elim w.else-is_ready.branch [
-                | else-is_ready-via-then-is_ready+else-has v ↦ subst Q (sym v.self-is) kept
-                | else-is_ready-via-else-is_ready v ↦ subst Q (sym v.self-is) kept
-              ];
-          decided = ready.decided;
-          steps =
-              let R : Notes → Type 0 = λ n. AllStep [] c.args.self.now.transactions.items n.transactions.items in
-              let same =
-              all_step_both [] [] c.args.self.now.transactions.items ts _ ready.steps
-              (all_step_set ts i t t within w.in-Some.ensures.value (steps_none t)) in
-              elim w.else-is_ready.branch [
-                | else-is_ready-via-then-is_ready+else-has v ↦ subst R (sym v.self-is) same
-                | else-is_ready-via-else-is_ready v ↦ subst R (sym v.self-is) same
-              ];
-          more = ready.more;
-          rests =
-              λ past rest.
-              let R : Notes → Type 0 = λ n. All (TransactionRests (was_asked past plan)) n.transactions.items in
-              let same = rest_same (was_asked past plan) ts i t within w.in-Some.ensures.value (ready.rests past rest) in
-              elim w.else-is_ready.branch [
-                | else-is_ready-via-then-is_ready+else-has v ↦ subst R (sym v.self-is) same
-                | else-is_ready-via-else-is_ready v ↦ subst R (sym v.self-is) same
-              ];
-        })
+          let t = w.in-Some.transaction.now in
+          let within : i < length ts = omega (arith, w.in-Some.ensures.variant.0 refl) in
+          let itself : set ts i t ≡ ts = set_itself ts i t w.in-Some.ensures.value in
+          let P : Notes → Type 0 = λ n. DecidesAll (take (k + 1) told) c.args.self.now.transactions.items n.transactions.items in
+          let Q : Notes → Type 0 = λ n. AreAllDue c.in_ok-ready.ready.items n.transactions.items told in
+          let done =
+          λ (undue : is_due_in ts i ≡ false).
+          subst (λ (us : List Transaction). DecidesAll (take (k + 1) told) c.args.self.now.transactions.items us) (sym itself)
+          (goes ts (decides_same ts i undue)) in
+          let kept = subst (λ (us : List Transaction). AreAllDue c.in_ok-ready.ready.items us told) (sym itself) ready.all in
+          record {
+            decides =
+                elim w.else-is_ready.branch [
+                  | else-is_ready-via-then-is_ready+else-has v ↦
+                      subst P (sym v.self-is)
+                      (done (due_unnamed c.in_ok-ready.ready.items ts told i t ready.all among within w.in-Some.ensures.value
+                      (subst (λ (gs : List Gtrid). list_any (is_same t.gtrid) gs ≡ false) v.as_slice-then-is_ready.ensures.value
+                      (sym v.has.ensures ∙ v.if-has.false))))
+                  | else-is_ready-via-else-is_ready v ↦
+                      subst P (sym v.self-is)
+                      (done (due_not ts i t within w.in-Some.ensures.value (sym w.is_ready.ensures.exact ∙ v.if-is_ready.false)))
+                ];
+            all =
+                elim w.else-is_ready.branch [
+                  | else-is_ready-via-then-is_ready+else-has v ↦ subst Q (sym v.self-is) kept
+                  | else-is_ready-via-else-is_ready v ↦ subst Q (sym v.self-is) kept
+                ];
+            decided = ready.decided;
+            steps =
+                let R : Notes → Type 0 = λ n. AllStep [] c.args.self.now.transactions.items n.transactions.items in
+                let same =
+                all_step_both [] [] c.args.self.now.transactions.items ts _ ready.steps
+                (all_step_set ts i t t within w.in-Some.ensures.value (steps_none t)) in
+                elim w.else-is_ready.branch [
+                  | else-is_ready-via-then-is_ready+else-has v ↦ subst R (sym v.self-is) same
+                  | else-is_ready-via-else-is_ready v ↦ subst R (sym v.self-is) same
+                ];
+            more = ready.more;
+            rests =
+                λ past rest.
+                let R : Notes → Type 0 = λ n. All (TransactionRests (was_asked past plan)) n.transactions.items in
+                let same = rest_same (was_asked past plan) ts i t within w.in-Some.ensures.value (ready.rests past rest) in
+                elim w.else-is_ready.branch [
+                  | else-is_ready-via-then-is_ready+else-has v ↦ subst R (sym v.self-is) same
+                  | else-is_ready-via-else-is_ready v ↦ subst R (sym v.self-is) same
+                ];
+          })
       | in_default-get_mut w ↦ rw (w.plan-is, w.self-is) (record {
         decides =
             goes ts

@@ -23,29 +23,29 @@ loop-asked-preserved c =
     let pushed = sym c.in_ok-push.ensures.items in
     elim c.match-asked.branch [
       | in-Some+in_ok-reply-in-Some w ↦ rw (w.plan-is, w.self-is) (
-        let taken = w.in_ok-reply-in-Some.ensures in
-        let vs = w.take.new.self.transactions.items in
-        record {
-          count = count;
-          threads =
-              paired_more IsReplyOf c.args.moves.now told c.push.new.self.items c.loop-asked.asked-index c.asked-item.result reply (omega arith)
-              c.in_ok-push.ensures.items before.threads
-              (of_move c.args.moves.now c.loop-asked.asked-index c.asked-item.result w.in-Some.asked w.in_ok-reply-in-Some.reply reply c.asked-item.is
-              w.in-Some.is w.reply-is taken.thread);
-          once =
-              subst AreMovedOnce pushed
-              (once_first told reply ts us before.once before.moves (subst (IsFirstMove us) (sym w.reply-is) taken.first));
-          moves =
-              subst (λ (rs : List Reply). MovesTheirs rs ts vs) pushed
-              (moves_both told (reply ∷ []) ts us vs before.moves
-              (subst (λ (r : Reply). MovesTheirs (r ∷ []) us vs) (sym w.reply-is) taken.moves));
-          steps =
-              subst (λ (rs : List Reply). AllStep rs ts vs) pushed
-              (all_step_both told (reply ∷ []) ts us vs before.steps
-              (subst (λ (r : Reply). AllStep (r ∷ []) us vs) (sym w.reply-is) taken.steps));
-          more = λ p among. taken.more p (before.more p among);
-          rests = λ past rest. taken.rests past (before.rests past rest);
-        })
+          let taken = w.in_ok-reply-in-Some.ensures in
+          let vs = w.take.new.self.transactions.items in
+          record {
+            count = count;
+            threads =
+                paired_more IsReplyOf c.args.moves.now told c.push.new.self.items c.loop-asked.asked-index c.asked-item.result reply (omega arith)
+                c.in_ok-push.ensures.items before.threads
+                (of_move c.args.moves.now c.loop-asked.asked-index c.asked-item.result w.in-Some.asked w.in_ok-reply-in-Some.reply reply c.asked-item.is
+                w.in-Some.is w.reply-is taken.thread);
+            once =
+                subst AreMovedOnce pushed
+                (once_first told reply ts us before.once before.moves (subst (IsFirstMove us) (sym w.reply-is) taken.first));
+            moves =
+                subst (λ (rs : List Reply). MovesTheirs rs ts vs) pushed
+                (moves_both told (reply ∷ []) ts us vs before.moves
+                (subst (λ (r : Reply). MovesTheirs (r ∷ []) us vs) (sym w.reply-is) taken.moves));
+            steps =
+                subst (λ (rs : List Reply). AllStep rs ts vs) pushed
+                (all_step_both told (reply ∷ []) ts us vs before.steps
+                (subst (λ (r : Reply). AllStep (r ∷ []) us vs) (sym w.reply-is) taken.steps));
+            more = λ p among. taken.more p (before.more p among);
+            rests = λ past rest. taken.rests past (before.rests past rest);
+          })
       | in-None w ↦ rw (w.plan-is, w.self-is) (record {
         count = count;
         threads =
