@@ -14,7 +14,7 @@ from .codes import Code
 from .configuration import Configuration
 from .coordinator import Coordinator, serve_command
 from .doubt import (
-    IN_USE,
+    HELD,
     Listing,
     call_for,
     listings_of,
@@ -163,7 +163,7 @@ def _metrics(configuration: Configuration, logs: Mapping[str, Log], found: list[
         Metric("in_doubt_seconds", "Since when the oldest is.", "gauge", at_each(_oldest)),
         Metric("of_others", "Branches of other managers.", "gauge", at_each(lambda one: len(one.others))),
         Metric("reachable", "1 if the database can be asked.", "gauge", at_each(lambda one: int(one.fault is None))),
-        Metric("log_in_use", "1 while a program has the log.", "gauge", of_each(lambda log: int(log.fault == IN_USE))),
+        Metric("log_in_use", "1 while a program has the log.", "gauge", of_each(lambda log: int(log.fault == HELD))),
         Metric("log_decided", "Decisions in the log.", "gauge", of_each(lambda log: len(log.decisions))),
         Metric("log_heuristics", "Records of heuristic ends in the log.", "gauge", of_each(lambda log: len(log.heuristics))),
     ]
@@ -190,8 +190,8 @@ def _lines(configuration: Configuration, logs: Mapping[str, Log], found: list[Li
 
 def _lines_of_log(path: str, log: Log) -> Iterator[str]:
     whose = f"log {path}, of the manager {log.manager}" if log.manager else f"log {path}"
-    if log.fault == IN_USE:
-        yield f"{whose}: {IN_USE}: it ends its branches by itself, so stop it before anything is ended by hand"
+    if log.fault == HELD:
+        yield f"{whose}: {HELD}: it ends its branches by itself, so stop it before anything is ended by hand"
     else:
         yield f"{whose}: {log.fault or f'{len(log.decisions)} decided, {len(log.heuristics)} ended by a database itself'}"
     yield from (f"  {line}: compare it with the other databases (docs/LOG.md)" for line in log.heuristics)
@@ -217,7 +217,7 @@ def _time(seconds: float) -> str:
 def _lines_of(configuration: Configuration, log: Log, rm: int, xid: Xid, age: float | None) -> Iterator[str]:
     why_not = objection(log, xid)
     since = f"; prepared for {_time(age)}" if age is not None else ""
-    if log.fault == IN_USE:
+    if log.fault == HELD:
         yield f"  {xid}: the program that has the log is to end it{since}"
         return
     if why_not is not None:
@@ -268,12 +268,9 @@ def _end_at(configuration: Configuration, rm: int, call: Call, is_sure: bool) ->
         print("nothing was done")
         return 1
     place = place_of(configuration, call.xid.manager, rm)
-    connection = configuration.databases[rm].connect(place)
-    try:
-        with connection.timed(place.patience):
-            code = connection.do(call.name[3:], call.xid)
-    finally:
-        connection.close()
+    database = configuration.databases[rm]
+    with contextlib.closing(database.connect(place)) as connection, connection.timed(place.patience):
+        code = connection.do(call.name[3:], call.xid)
     print("it is ended" if code is Code.OK else f"it was over already: {code.name}")
     return 0
 

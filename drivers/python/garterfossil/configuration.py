@@ -4,6 +4,7 @@ from __future__ import annotations
 
 import importlib
 import os
+import sys
 from collections.abc import Mapping, Sequence
 from dataclasses import dataclass, field
 from typing import Any
@@ -78,6 +79,11 @@ class Configuration:
         """The program `xatm`."""
         return str(self.options.get("program", "xatm"))
 
+    @property
+    def patience(self) -> float:
+        """For how many seconds a database is waited for."""
+        return float(self.options.get("patience", 30.0))
+
     def label(self, rm: int) -> str:
         """What messages call a database."""
         return f"{self.names[rm]}, {self.databases[rm]!r}" if self.names else repr(self.databases[rm])
@@ -95,12 +101,9 @@ def manager_of(path: str) -> TransactionManager:
 
 def _toml(path: str) -> dict[str, Any]:
     try:
-        toml: Any = importlib.import_module("tomllib")
+        toml: Any = importlib.import_module("tomllib" if sys.version_info >= (3, 11) else "tomli")
     except ImportError:
-        try:
-            toml = importlib.import_module("tomli")
-        except ImportError:
-            raise SetupError("before Python 3.11 such a file needs the module tomli: pip install garterfossil[toml]") from None
+        raise SetupError("before Python 3.11 such a file needs the module tomli: pip install garterfossil[toml]") from None
     try:
         with open(path, "rb") as it:
             found: dict[str, Any] = toml.load(it)

@@ -17,14 +17,11 @@ from collections.abc import Iterable, Iterator, Sequence
 
 from .errors import CoordinatorGone, LogInUse, NotNow, SetupError
 from .logger import log
-from .logs import MOMENT, REFUSED, Names, is_disk_full
+from .logs import IN_USE, MOMENT, REFUSED, Names, is_disk_full
 
 #: It ends so where it doesn't know the words that it is started with.
 WRONG_WORDS = 3
 OLDER = "the coordinator {} is older than this driver: program= is to be the xatm that it came with"
-#: What it says if another one has the log. (Its status is told as 0 where the program takes those of
-#: all its children itself, as gunicorn does while `post_fork` runs.)
-IN_USE = "in use by another process"
 #: In seconds: the least for which a reply is waited for, the least for the greeting, and the longest for the end of the process.
 SHORTEST, LONGEST_GREETING, LONGEST_END = 2.0, 30.0, 10.0
 #: The first line of a session: the incarnation, and how many decisions and heuristic ends the log has.

@@ -5,6 +5,7 @@ from __future__ import annotations
 import os
 import time
 from collections.abc import Iterable, Mapping
+from contextlib import closing
 from dataclasses import dataclass, field, replace
 
 from .adapters.base import Database, Place
@@ -14,7 +15,7 @@ from .errors import XaError
 from .logs import Log, Names, logs_of_workers
 from .xid import FORMAT, Xid
 
-IN_USE = "a program has it"
+HELD = "a program has it"
 #: A branch of a program that is at work counts as in doubt after so many seconds; and how long one look at a database is after another.
 YOUNG, PAUSE = 10.0, 0.3
 
@@ -41,7 +42,7 @@ def _log_at(configuration: Configuration, path: str) -> Log:
         found = Log.at(configuration.program, path) if os.path.exists(path) else Log(fault="there is no such file")
     except XaError as error:
         found = Log(fault=str(error))
-    return replace(found, names=found.names or Names(configuration.name or ""), fault=IN_USE if found.is_in_use else found.fault)
+    return replace(found, names=found.names or Names(configuration.name or ""), fault=HELD if found.is_in_use else found.fault)
 
 
 @dataclass(frozen=True)
@@ -57,18 +58,11 @@ class Listing:
     @classmethod
     def at(cls, database: Database, places: list[Place]) -> Listing:
         """What a database lists that has these places at managers."""
-        place = places[0]
         try:
-            connection = database.connect(place)
-        except XaError as error:
-            return cls(fault=str(error))
-        try:
-            with connection.timed(place.patience):
+            with closing(database.connect(places[0])) as connection, connection.timed(places[0].patience):
                 found, ages = connection.all_listed(), connection.ages()
         except XaError as error:
             return cls(fault=str(error))
-        finally:
-            connection.close()
         # (A server may list the branches of other databases of the manager, too.)
         managers = {place.manager for place in places}
         others = [xid for xid in found if _is_a_managers(xid) and xid.manager not in managers]
@@ -82,7 +76,7 @@ def logs_of(configuration: Configuration) -> dict[str, Log]:
 
 def place_of(configuration: Configuration, manager: str, rm: int) -> Place:
     """The place of a database at the manager of this name."""
-    return Place(manager, rm, patience=float(configuration.options.get("patience", 30.0)))
+    return Place(manager, rm, patience=configuration.patience)
 
 
 def listings_of(configuration: Configuration, managers: Iterable[str]) -> list[Listing]:
@@ -98,7 +92,7 @@ def settled_listings_of(configuration: Configuration, logs: Mapping[str, Log], s
     branch is left out unless it has been prepared for so many seconds: where the database doesn't tell since when, it is looked at for
     as long as that."""
     managers = [log.manager for log in logs.values()]
-    busy = {log.manager for log in logs.values() if log.fault == IN_USE}
+    busy = {log.manager for log in logs.values() if log.fault == HELD}
     begun = time.monotonic()
     found = listings_of(configuration, managers)
     while True:

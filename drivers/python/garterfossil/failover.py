@@ -5,8 +5,8 @@ from __future__ import annotations
 import os
 import re
 from collections.abc import Iterator, Mapping
+from contextlib import closing
 
-from .adapters.base import Database
 from .configuration import Configuration
 from .errors import SetupError
 from .logs import WORKER, run_log
@@ -19,12 +19,12 @@ def fail_over(configuration: Configuration, only: str | None = None) -> Iterator
     mirror = configuration.mirror
     if mirror is None:
         raise SetupError("the file names no mirror: it needs a table [mirror]")
-    patience = float(configuration.options.get("patience", 30.0))
-    wanted = _wanted(configuration.log, managers_in(mirror, patience), only)
+    wanted = _wanted(configuration.log, managers_in(mirror, configuration.patience), only)
     if not wanted:
         raise SetupError(f"there is no log to be made at {configuration.log}: the mirror knows none of such a name that isn't here")
     for here, name in wanted.items():
-        found = _take_over(mirror, name, patience)
+        with closing(Tables(mirror, name, configuration.patience)) as tables:
+            found = tables.take_over()
         make_log(configuration.program, here, found)
         yield here, name, len(found.decisions)
 
@@ -50,14 +50,6 @@ def _path_here(pattern: str, path: str) -> str | None:
     parts = [re.escape(part) for part in name.split(WORKER)]
     there = os.path.basename(path)
     return os.path.join(folder, there) if re.fullmatch("[0-9]+".join(parts), there) else None
-
-
-def _take_over(mirror: Database, name: str, patience: float) -> Mirrored:
-    tables = Tables(mirror, name, patience)
-    try:
-        return tables.take_over()
-    finally:
-        tables.close()
 
 
 def make_log(program: str, path: str, found: Mirrored) -> None:

@@ -25,6 +25,9 @@ MOMENT, LONGEST_LOOK = 2.0, 60
 LEAST_ROOM = 65536
 #: How the lines begin that `xatm log` prints before what is decided.
 HEADS = ("name ", "rm ", "incarnation ")
+#: What it says if another process has the log. (Its status is told as 0 where the program takes those of
+#: all its children itself, as gunicorn does while `post_fork` runs.)
+IN_USE = "in use by another process"
 #: What it says beside the lines of a log that another program has, or that can't be written; and of one that is none, or another's: no
 #: later look goes better then.
 COPY, REFUSED = "another process runs over it", "xatm: log: "
@@ -92,7 +95,7 @@ class Log:
         if not heads["incarnation "]:
             if not said:
                 raise LookKilled(f"{program} was ended while it read the log {path}")
-            raise LogInUse(said) if "in use by another process" in said else SetupError(said)
+            raise LogInUse(said) if IN_USE in said else SetupError(said)
         names = Names("".join(heads["name "]), tuple(rm.split(" ")[1] for rm in heads["rm "]))
         is_in_use = COPY in said
         # What is decided over a log that is in use comes and goes.

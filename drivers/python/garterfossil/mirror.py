@@ -6,7 +6,7 @@ from __future__ import annotations
 import contextlib
 import os
 import threading
-from collections.abc import Iterator, Mapping, Sequence
+from collections.abc import Collection, Iterator, Mapping, Sequence
 from concurrent.futures import Future
 from dataclasses import dataclass
 
@@ -109,6 +109,11 @@ class Tables:
             f" JOIN ({values}) d ON 1 = 1 WHERE m.name = %s AND m.incarnation = %s {self._database.SHARED}"
         )
         return connection.run(statement, [*words, self._place.manager, incarnation]).rowcount
+
+    def remove(self, connection: Connection, gtrids: Collection[str]) -> None:
+        """Takes these decisions away, of which there is one at least."""
+        which = f"gtrid IN ({', '.join(['%s'] * len(gtrids))})"
+        connection.run(f"DELETE FROM garterfossil_decision WHERE name = %s AND {which}", [self._place.manager, *gtrids])
 
     def incarnation(self, connection: Connection) -> int | None:
         """The incarnation of the manager, which stays as it is until the transaction ends. None, if the mirror doesn't know it."""
@@ -227,9 +232,9 @@ class Mirror:
                 raise self._older(incarnation, before)
             self._note(connection, incarnation, before is None)
             held = set(self._adding.decisions(connection))
-            for gtrid in held & self._over - set(decisions):
-                words = [self._names.manager, gtrid]
-                connection.run("DELETE FROM garterfossil_decision WHERE name = %s AND gtrid = %s", words)
+            over = held & self._over - set(decisions)
+            if over:
+                self._adding.remove(connection, over)
             new = [decision for decision in decisions.items() if decision[0] not in held]
             if new:
                 self._adding.insert(connection, new, incarnation)
@@ -295,11 +300,10 @@ class Mirror:
             gtrids, self._left = self._left, []
         if not gtrids:
             return
-        statement = f"DELETE FROM garterfossil_decision WHERE name = %s AND gtrid IN ({', '.join(['%s'] * len(gtrids))})"
         with self._taking:
             try:
                 with self._removing.at_work() as connection:
-                    connection.run(statement, [self._names.manager, *gtrids])
+                    self._removing.remove(connection, gtrids)
             except Exception as error:
                 log.warning("rows stay in the mirror: %s", error)
 
@@ -313,12 +317,10 @@ class Mirror:
 
 def managers_in(database: Database, patience: float) -> dict[str, str]:
     """The managers that a mirror knows, each with the path of its log."""
-    tables = Tables(database, "", patience)
     try:
-        tables.make()
-        with tables.at_work() as connection:
-            return {name: path for name, path in connection.run("SELECT name, log FROM garterfossil_manager ORDER BY name")}
+        with contextlib.closing(Tables(database, "", patience)) as tables:
+            tables.make()
+            with tables.at_work() as connection:
+                return {name: path for name, path in connection.run("SELECT name, log FROM garterfossil_manager ORDER BY name")}
     except XaError as error:
         raise SetupError(f"the mirror can't be read: {error}") from error
-    finally:
-        tables.close()

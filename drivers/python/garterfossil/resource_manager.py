@@ -2,6 +2,7 @@
 
 from __future__ import annotations
 
+import contextlib
 import threading
 import time
 
@@ -186,15 +187,12 @@ class ResourceManager:
         lists of the manager's, which is then in `listed`. What is against it is in `objection`."""
         self.objection, self.listed = None, None
         try:
-            connection = self._database.connect(self.place)
-            try:
+            with contextlib.closing(self._database.connect(self.place)) as connection:
                 self._see_identity(connection, keep=False)
                 with connection.timed(self.place.patience):
                     if is_first:
                         self._see_durable(connection)
                     self.listed = connection.listed()
-            finally:
-                connection.close()
         except Exception as error:
             self.objection = error
             self._is_unseen = is_first

@@ -37,9 +37,7 @@ class Line:
 
     def lose(self) -> None:
         """Gives the connection up: nobody knows what became of what was under way on it."""
-        connection, self.connection = self.connection, None
-        if connection is not None:
-            self.rm.drop(connection)
+        self._leave(self.rm.drop)
 
     def see_there(self) -> None:
         """Gives the connection up if the database has ended it while nothing was done on it."""
@@ -56,14 +54,16 @@ class Line:
         elif self.connection is not None and self.connection.has_branch:
             self.lose()
         elif self.connection is not None and self.connection.is_changed:
-            connection, self.connection = self.connection, None
-            self.rm.release(connection)
+            self._leave(self.rm.release)
 
     def close(self) -> None:
         """Closes the connection, in a session that is over."""
+        self._leave(Connection.close)
+
+    def _leave(self, end: Callable[[Connection], None]) -> None:
         connection, self.connection = self.connection, None
         if connection is not None:
-            connection.close()
+            end(connection)
 
 
 class Thread:

@@ -18,8 +18,8 @@ class FakeMirror(Database):
     def __init__(self, folder=None):
         self.path = os.path.join(folder or tempfile.mkdtemp(), "mirror.db")
         self.is_up = True
-        #: How long a connection takes.
-        self.seconds = 0.0
+        #: How long a connection takes, and how often one was asked for.
+        self.seconds, self.asked = 0.0, 0
         #: The first word of a statement that is done, and whose answer is lost.
         self.loses = None
         #: What the next statement that begins so is refused with.
@@ -29,6 +29,7 @@ class FakeMirror(Database):
         self.statements = []
 
     def connect(self, place=Place()):
+        self.asked += 1
         time.sleep(self.seconds)
         if not self.is_up:
             raise ConnectionLost("the mirror is down")

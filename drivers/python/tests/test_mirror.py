@@ -103,12 +103,12 @@ class Mirrors(Case):
     def test_threads_do_not_wait_for_it_one_after_the_other(self):
         with self.manager() as xa:
             xa._session.coordinator.kill()
-            self.mirror.is_up, self.mirror.seconds = False, 1.0
-            begun = time.monotonic()
+            self.mirror.is_up, self.mirror.seconds, self.mirror.asked = False, 1.0, 0
             with ThreadPoolExecutor(8) as threads:
                 for done in [threads.submit(self.move, xa) for _ in range(8)]:
                     self.assertIsInstance(done.exception(), CoordinatorGone)
-            self.assertLess(time.monotonic() - begun, 4)
+            # One after the other would be eight times, a second each.
+            self.assertLess(self.mirror.asked, 5)
             self.mirror.is_up, self.mirror.seconds = True, 0
 
     def test_an_older_log_than_it_is_refused(self):

@@ -3,7 +3,6 @@
 from __future__ import annotations
 
 import abc
-import contextlib
 import enum
 import random
 import re
@@ -172,6 +171,22 @@ class Timed:
             raise ConnectionLost(f"no answer came in {self._seconds:.1f} seconds, and the connection was given up") from error
 
 
+class Asking:
+    """A block that asks a database: an error which says that the connection is lost is raised as ConnectionLost."""
+
+    __slots__ = ("_connection",)
+
+    def __init__(self, connection: Connection):
+        self._connection = connection
+
+    def __enter__(self) -> None:
+        """It begins."""
+
+    def __exit__(self, _: object, error: BaseException | None, __: object) -> None:
+        if isinstance(error, Exception) and not isinstance(error, XaError) and self._connection._is_lost(error):
+            raise ConnectionLost(str(error).strip()) from error
+
+
 class Connection(abc.ABC):
     """A connection to a database, as a resource manager of XA. It has one branch at a time, and one thread uses it.
 
@@ -231,7 +246,7 @@ class Connection(abc.ABC):
 
     def _worked(self, step: Callable[[], T]) -> T:
         try:
-            with self._asking():
+            with Asking(self):
                 done = step()
         except XaError:
             raise
@@ -427,24 +442,12 @@ class Connection(abc.ABC):
     def run(self, statement: str, parameters: Parameters = ()) -> Result:
         """Does a statement for the program's own ends, outside of any branch. Errors of the database are raised as they are, but
         ConnectionLost where the connection is lost."""
-        with self._asking(), self._plain_cursor() as cursor:
+        with Asking(self), self._plain_cursor() as cursor:
             cursor.execute(statement, parameters or None)
             columns = [column[0] for column in cursor.description or ()]
             rows = list(cursor.fetchall()) if columns else []
             number, tag = getattr(cursor, "lastrowid", None), getattr(cursor, "statusmessage", None)
             return Result(rows, cursor.rowcount, columns, number or None, tag or "")
-
-    @contextlib.contextmanager
-    def _asking(self) -> Iterator[None]:
-        """A block that asks the database: an error that says that the connection is lost is raised as ConnectionLost."""
-        try:
-            yield
-        except XaError:
-            raise
-        except Exception as error:
-            if self._is_lost(error):
-                raise ConnectionLost(str(error).strip()) from error
-            raise
 
     def _work(self, statement: str, parameters: Parameters) -> Result:
         """Does a statement in the branch."""

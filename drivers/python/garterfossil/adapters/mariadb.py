@@ -14,7 +14,7 @@ from ..errors import ConnectionLost, SetupError, Unanswered
 from ..logger import log
 from ..statements import MARIADB
 from ..xid import Call, Xid
-from .base import Connection, Database, Place, varied
+from .base import Asking, Connection, Database, Place, varied
 
 #: Errors of MariaDB by their number.
 NO_SUCH_BRANCH, IN_USE = 1397, 1440
@@ -374,7 +374,7 @@ class MariaDBConnection(Connection):
     def _xa(self, verb: str, xid: Xid, tail: str = "") -> None:
         statement = statement_of(verb, xid, tail)
         sent, self._sent = self._sent, None
-        with self._asking():
+        with Asking(self):
             if sent is None:
                 self.link.query(statement)
             elif sent == statement:
