@@ -23,7 +23,7 @@ final class ByHand implements AutoCloseable {
     }
 
     /** A branch of the manager of a log, which holds this. */
-    static ByHand of(Path log, KeptLog kept, Coordinator.Starter starter, String program, List<Listing> listings, String text,
+    static ByHand of(Path log, Log kept, Coordinator.Starter starter, String program, List<Listing> listings, String text,
         Duration patience) throws Fault {
         if (kept.isInUse) {
             throw new Fault.Unavailable("the log " + log + " can't be read, so nothing is ended: a program has it");

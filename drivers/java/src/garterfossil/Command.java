@@ -132,7 +132,7 @@ public final class Command {
         try (Reader reader = Files.newBufferedReader(file)) {
             found.load(reader);
         }
-        require(found.containsKey("log"), "there is no log");
+        Manager.require(found.containsKey("log"), "there is no log");
         Manager.Builder builder = Manager.over(Path.of(found.getProperty("log")));
         if (found.containsKey("program")) {
             builder.program(found.getProperty("program"));
@@ -144,16 +144,10 @@ public final class Command {
             .collect(Collectors.toMap(key -> key.substring(MIRROR.length()), found::getProperty));
         if (!mirror.isEmpty()) {
             Object source = made("mirror", mirror);
-            require(source instanceof DataSource, source.getClass().getName() + " is no DataSource");
+            Manager.require(source instanceof DataSource, source.getClass().getName() + " is no DataSource");
             builder.mirror((DataSource) source);
         }
         return builder;
-    }
-
-    private static void require(boolean isRight, String text) {
-        if (!isRight) {
-            throw new IllegalArgumentException(text);
-        }
     }
 
     /** What is set of each resource, by their names. */
@@ -162,7 +156,7 @@ public final class Command {
         for (String key : found.stringPropertyNames()) {
             if (key.startsWith(RESOURCE)) {
                 String[] parts = key.split("\\.", 3);
-                require(parts.length == 3 && !parts[1].isEmpty() && !parts[2].isEmpty(), "a resource's line has NAME.class after " + RESOURCE
+                Manager.require(parts.length == 3 && !parts[1].isEmpty() && !parts[2].isEmpty(), "a resource's line has NAME.class after " + RESOURCE
                     + ", or NAME and what is to be set, and not: " + key);
                 all.computeIfAbsent(parts[1], it -> new LinkedHashMap<>()).put(parts[2], found.getProperty(key));
             }
@@ -172,7 +166,7 @@ public final class Command {
 
     /** The object of a class, with what is to be set on it. */
     private static Object made(String what, Map<String, String> set) throws ReflectiveOperationException {
-        require(set.containsKey("class"), "there is no " + what + ".class");
+        Manager.require(set.containsKey("class"), "there is no " + what + ".class");
         Object source = Class.forName(set.remove("class")).getDeclaredConstructor().newInstance();
         for (Map.Entry<String, String> it : set.entrySet()) {
             set(source, it.getKey(), it.getValue());
@@ -187,7 +181,7 @@ public final class Command {
         }
         // JMS isn't everywhere.
         Class<?> factory = Class.forName("javax.jms.XAConnectionFactory");
-        require(factory.isInstance(source), source.getClass().getName() + " is no XADataSource, and no " + factory.getName());
+        Manager.require(factory.isInstance(source), source.getClass().getName() + " is no XADataSource, and no " + factory.getName());
         return (Resource) Class.forName("garterfossil.jms.JmsResource").getMethod("of", String.class, factory).invoke(null, name, source);
     }
 
@@ -209,7 +203,7 @@ public final class Command {
 
     private static Object value(Class<?> kind, String name, String text) {
         if (kind == boolean.class) {
-            require(text.equalsIgnoreCase("true") || text.equalsIgnoreCase("false"), name + " is to be true or false, and not: " + text);
+            Manager.require(text.equalsIgnoreCase("true") || text.equalsIgnoreCase("false"), name + " is to be true or false, and not: " + text);
             return Boolean.valueOf(text);
         }
         try {

@@ -23,7 +23,7 @@ public final class Doubt {
     private static final int MOST_TOLD = 20;
 
     private final Path log;
-    private final KeptLog kept;
+    private final Log kept;
     private final long young;
     private final List<String> lines = new ArrayList<>();
     private int branches, unreachable;
@@ -33,7 +33,7 @@ public final class Doubt {
      * That of a log which holds this, as the resources list it; of a program that has the log
      * without what is listed for less than so long.
      */
-    Doubt(Path log, KeptLog kept, Supplier<List<Listing>> look, long young) throws Fault {
+    Doubt(Path log, Log kept, Supplier<List<Listing>> look, long young) throws Fault {
         this.log = log;
         this.kept = kept;
         this.young = young;
@@ -60,7 +60,7 @@ public final class Doubt {
         Map<Integer, Listing> found = numbered(look.get());
         long begun = System.nanoTime();
         while (kept.isInUse && seconds < young && found.entrySet().stream().anyMatch(it -> !own(it.getKey(), it.getValue()).isEmpty())) {
-            Apart.pause(PAUSE_MILLIS);
+            Aside.pause(PAUSE_MILLIS);
             Map<Integer, Listing> again = numbered(look.get());
             // What has come since is younger.
             again.forEach((number, it) -> it.all().retainAll(found.get(number).all()));
@@ -115,7 +115,7 @@ public final class Doubt {
     }
 
     /** Why a log doesn't say how a branch of its manager ends; null if it does. */
-    static String objection(KeptLog kept, BranchXid xid) {
+    static String objection(Log kept, BranchXid xid) {
         return xid.incarnation() > kept.incarnation ? "the log is older than the branch, so it is another one, or a copy" : null;
     }
 
@@ -123,7 +123,7 @@ public final class Doubt {
      * The call that a branch of the manager waits for: the log decides. If its row has left the
      * log, and a resource was put back since, what was committed lately does.
      */
-    static String callFor(Path log, KeptLog kept, BranchXid xid) throws Fault.Unavailable {
+    static String callFor(Path log, Log kept, BranchXid xid) throws Fault.Unavailable {
         String gtrid = xid.transaction();
         return kept.decisions.containsKey(gtrid) || Committed.has(log, gtrid) ? "xa_commit" : "xa_rollback";
     }

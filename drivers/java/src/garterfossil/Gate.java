@@ -75,7 +75,7 @@ public final class Gate {
     /** An interrupt waits: it isn't work that goes on. */
     private boolean isLeft(long patience) {
         long until = System.nanoTime() + patience * 1_000_000;
-        boolean isFree = Apart.<Boolean, RuntimeException>uninterrupted(() -> lock.tryLock(until - System.nanoTime(), TimeUnit.NANOSECONDS));
+        boolean isFree = Aside.<Boolean, RuntimeException>uninterrupted(() -> lock.tryLock(until - System.nanoTime(), TimeUnit.NANOSECONDS));
         if (isFree) {
             lock.unlock();
         }

@@ -402,12 +402,12 @@ public final class GlobalTransaction {
      * branches, too.
      */
     private void seeFate(Hands hands, Fault.Gone gone) throws Fault {
-        if (hands.sure == null) {
+        if (hands.fate == null) {
             // Whoever begins the next session needn't wait for this thread, which waits for that.
             isGivenUp = true;
             branches.abandon("the coordinator ended");
         }
-        Outcome fate = hands.sure != null ? hands.sure : manager.fateOf(branches.gtrid());
+        Outcome fate = hands.fate != null ? hands.fate : manager.fateOf(branches.gtrid());
         outcome = fate;
         if (fate == Outcome.UNKNOWN) {
             throw new Fault.OutcomeUnknown(this + ": " + gone.getMessage() + ". The next session ends it everywhere alike", gone);
@@ -420,7 +420,7 @@ public final class GlobalTransaction {
     /** An error of the driver itself: the next session ends what is open. */
     private void giveUp(Throwable error) {
         if (branches.session != null) {
-            manager.fates.forget(branches.gtrid());
+            manager.outcomes.forget(branches.gtrid());
             branches.session.coordinator.failed(error);
         }
     }

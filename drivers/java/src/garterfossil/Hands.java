@@ -20,7 +20,7 @@ final class Hands {
     private final Session.Slot slot;
     private final Manager manager;
     // What becomes of the transaction if the coordinator ends now; null if the next session knows.
-    Outcome sure = Outcome.ROLLED_BACK;
+    Outcome fate = Outcome.ROLLED_BACK;
     // How many branches were to be committed, as the log has them.
     int rows;
 
@@ -58,8 +58,8 @@ final class Hands {
             String answers = called.stream().map(branch -> " " + branch.answer()).collect(Collectors.joining());
             if (ENDS.contains(told.verb) && called.stream().allMatch(it -> !it.isLost() && it.code() == Code.OK)) {
                 // These leave no other outcome, so nobody waits for it.
-                slot.tellLast(answers, sure);
-                return over(Told.of(sure == Outcome.COMMITTED ? "committed" : "rolled-back"));
+                slot.tellLast(answers, fate);
+                return over(Told.of(fate == Outcome.COMMITTED ? "committed" : "rolled-back"));
             }
             told = tell(answers, told.verb.equals("prepare"));
         }
@@ -112,13 +112,13 @@ final class Hands {
             transaction.become(told.stage);
         }
         if (told.verb.equals("commit")) {
-            sure = Outcome.COMMITTED;
+            fate = Outcome.COMMITTED;
             rows = called.size();
         } else if (told.verb.equals("forget")) {
             called.forEach(it -> session.counts.heuristicEnd(it.xid, it.rm, rows > 0 ? "xa_commit" : "xa_rollback", it.code()));
         }
         // An xa_commit in one phase may have been made whatever comes.
-        sure = told.verb.equals("commit-at-once") ? Outcome.UNKNOWN : sure;
+        fate = told.verb.equals("commit-at-once") ? Outcome.UNKNOWN : fate;
         manager.helpers.each(called, isApart, session.open(), branch -> branch.make(told.verb));
         note(told.verb, called);
     }
@@ -130,23 +130,23 @@ final class Hands {
     private void note(String verb, List<Branch> called) {
         boolean isYes = called.stream().allMatch(it -> !it.isLost() && (it.code() == Code.OK || it.code() == Code.RDONLY));
         if (verb.equals("prepare")) {
-            sure = isYes ? null : Outcome.ROLLED_BACK;
+            fate = isYes ? null : Outcome.ROLLED_BACK;
         } else if (verb.equals("commit-at-once") && !called.get(0).isLost()) {
-            sure = isYes ? Outcome.COMMITTED : Outcome.ROLLED_BACK;
+            fate = isYes ? Outcome.COMMITTED : Outcome.ROLLED_BACK;
         } else if (verb.equals("rollback")) {
             called.stream().filter(it -> !it.isLost()).forEach(it -> session.undone.add(it.xid));
         }
     }
 
     private Told tell(String answers, boolean isVote) throws Fault {
-        if (sure != null) {
+        if (fate != null) {
             return slot.tell(answers, isVote);
         }
-        manager.fates.expect(transaction.gtrid());
+        manager.outcomes.expect(transaction.gtrid());
         if (session.coordinator.isGone()) {
             // It wasn't told, so nothing was decided.
-            manager.fates.forget(transaction.gtrid());
-            sure = Outcome.ROLLED_BACK;
+            manager.outcomes.forget(transaction.gtrid());
+            fate = Outcome.ROLLED_BACK;
             throw session.coordinator.lost();
         }
         Told told = slot.tell(answers, isVote);
@@ -155,8 +155,8 @@ final class Hands {
         if (told.verb.equals("commit")) {
             session.noteDecision(transaction.gtrid(), xidsOf(seen(told).rms));
         }
-        manager.fates.forget(transaction.gtrid());
-        sure = told.verb.startsWith("commit") ? Outcome.COMMITTED : Outcome.ROLLED_BACK;
+        manager.outcomes.forget(transaction.gtrid());
+        fate = told.verb.startsWith("commit") ? Outcome.COMMITTED : Outcome.ROLLED_BACK;
         return told;
     }
 }

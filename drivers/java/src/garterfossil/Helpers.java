@@ -30,7 +30,7 @@ final class Helpers {
     private final AtomicInteger asking = new AtomicInteger();
 
     Helpers(int most) {
-        this(most, Apart.daemons("helper"));
+        this(most, Aside.daemons("helper"));
     }
 
     Helpers(int most, ThreadFactory made) {
@@ -65,7 +65,7 @@ final class Helpers {
             boolean isHelped = asking.incrementAndGet() <= most && !(open > PROCESSORS && isHigh);
             for (int at = 1; at < parts.size(); at++) {
                 if (isApart || isHelped && branches.get(at).link() != null) {
-                    give(isApart ? Apart::run : threads, parts.get(at));
+                    give(isApart ? Aside::run : threads, parts.get(at));
                 }
             }
             // One that was begun isn't made again.
@@ -90,13 +90,13 @@ final class Helpers {
         ExecutionException failed = null;
         for (FutureTask<Void> part : parts) {
             try {
-                Apart.<Void, ExecutionException>uninterrupted(part::get);
+                Aside.<Void, ExecutionException>uninterrupted(part::get);
             } catch (ExecutionException error) {
                 failed = failed == null ? error : failed;
             }
         }
         if (failed != null) {
-            throw (RuntimeException) Apart.causeOf(failed);
+            throw (RuntimeException) Aside.causeOf(failed);
         }
     }
 

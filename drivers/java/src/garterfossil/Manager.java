@@ -62,7 +62,7 @@ public final class Manager implements AutoCloseable {
          * -. Behind it stands what is drawn for each new log. It stays as long as the log does.
          */
         public Builder name(String given) {
-            require(given.matches("[A-Za-z0-9_-]{1," + KeptLog.LONGEST + "}"), "the name of a manager has letters, digits, _ and -, and so not: " + given);
+            require(given.matches("[A-Za-z0-9_-]{1," + Log.LONGEST + "}"), "the name of a manager has letters, digits, _ and -, and so not: " + given);
             name = given;
             return this;
         }
@@ -136,12 +136,6 @@ public final class Manager implements AutoCloseable {
             return this;
         }
 
-        private static void require(boolean isRight, String text) {
-            if (!isRight) {
-                throw new IllegalArgumentException(text);
-            }
-        }
-
         /**
          * A database that has each decision before any of the resources hears of it, so that a new
          * log can be made of it if this machine is lost: one that is replicated already. While it
@@ -168,23 +162,23 @@ public final class Manager implements AutoCloseable {
          * has the log.
          */
         public Doubt status() throws Fault {
-            KeptLog kept = kept();
+            Log kept = kept();
             looksAt(kept);
             return new Doubt(log, kept, this::listings, Doubt.YOUNG);
         }
 
-        private KeptLog kept() throws Fault {
-            if (!KeptLog.isThere(log)) {
+        private Log kept() throws Fault {
+            if (!Log.isThere(log)) {
                 throw new Fault.Unavailable("there is no log " + log);
             }
-            return KeptLog.of(log, starter, program, "", resources);
+            return Log.of(log, starter, program, "", resources);
         }
 
         /**
          * The resources are those of a log. A connection is none of its manager's, which the next
          * session ends.
          */
-        private void looksAt(KeptLog kept) throws Fault.Unavailable {
+        private void looksAt(Log kept) throws Fault.Unavailable {
             Identities identities = new Identities(log, kept.manager, false);
             for (Resource resource : resources) {
                 resource.belongTo(kept.manager + "-status");
@@ -198,7 +192,7 @@ public final class Manager implements AutoCloseable {
 
         /** A branch that is to be ended by hand, as the log says. It has the log meanwhile. */
         ByHand byHand(String branch) throws Fault {
-            KeptLog kept = kept();
+            Log kept = kept();
             looksAt(kept);
             return ByHand.of(log, kept, starter, program, listings(), branch, patience);
         }
@@ -208,7 +202,7 @@ public final class Manager implements AutoCloseable {
          * with it.
          */
         ByHand byHandLeftBy(String manager, String outcome, String branch) throws Fault {
-            KeptLog kept = KeptLog.isThere(log) ? kept() : null;
+            Log kept = Log.isThere(log) ? kept() : null;
             if (kept == null) {
                 resources.forEach(resource -> resource.belongTo("status"));
             } else {
@@ -225,7 +219,7 @@ public final class Manager implements AutoCloseable {
             try (Manager manager = start()) {
                 long until = System.nanoTime() + longest.toNanos();
                 while (manager.owing() > 0 && System.nanoTime() < until) {
-                    Apart.pause(100);
+                    Aside.pause(100);
                 }
                 return manager.owing();
             }
@@ -242,7 +236,7 @@ public final class Manager implements AutoCloseable {
         }
     }
 
-    final Fates fates = new Fates();
+    final Outcomes outcomes = new Outcomes();
     final Counts counts = new Counts();
     private final ManagerBean bean = new ManagerBean(this);
     final Helpers helpers;
@@ -250,12 +244,12 @@ public final class Manager implements AutoCloseable {
     private final List<ResourceManager> rms = new ArrayList<>();
     // Time-outs, and what is done each second. That may wait for the coordinator, until its watch
     // ends it.
-    private final ScheduledThreadPoolExecutor clock = new ScheduledThreadPoolExecutor(1, Apart.daemons("alarm"));
-    private final ScheduledThreadPoolExecutor seconds = new ScheduledThreadPoolExecutor(2, Apart.daemons("seconds"));
+    private final ScheduledThreadPoolExecutor clock = new ScheduledThreadPoolExecutor(1, Aside.daemons("alarm"));
+    private final ScheduledThreadPoolExecutor seconds = new ScheduledThreadPoolExecutor(2, Aside.daemons("seconds"));
     private final ThreadLocal<GlobalTransaction> current = new ThreadLocal<>();
     private final Object starting = new Object();
     // As the log keeps them, and as the file beside it does.
-    private KeptLog names;
+    private Log names;
     private Identities identities;
     private Committed committed;
     private volatile Session session;
@@ -276,17 +270,24 @@ public final class Manager implements AutoCloseable {
         return new Builder(log);
     }
 
+    /** Sees that what a program gives is right. */
+    static void require(boolean isRight, String text) {
+        if (!isRight) {
+            throw new IllegalArgumentException(text);
+        }
+    }
+
     private void begin() throws Fault {
         try {
             synchronized (starting) {
-                KeptLog.seePlace(made.log);
+                Log.seePlace(made.log);
                 seconds.scheduleWithFixedDelay(this::watch, 1, 1, TimeUnit.SECONDS);
-                boolean isNew = !KeptLog.isThere(made.log);
+                boolean isNew = !Log.isThere(made.log);
                 try {
                     startFirst(isNew);
                 } catch (Fault.Unavailable error) {
-                    if (!isNew || names == null || !KeptLog.isThere(made.log)
-                        || KeptLog.read(made.log, made.starter, made.program).manager.equals(names.manager)) {
+                    if (!isNew || names == null || !Log.isThere(made.log)
+                        || Log.read(made.log, made.starter, made.program).manager.equals(names.manager)) {
                         throw error;
                     }
                     // Another program has made the log since its names were looked for.
@@ -303,7 +304,7 @@ public final class Manager implements AutoCloseable {
     }
 
     private void startFirst(boolean isNew) throws Fault {
-        names = untilFree(() -> KeptLog.of(made.log, made.starter, made.program, made.name, made.resources));
+        names = untilFree(() -> Log.of(made.log, made.starter, made.program, made.name, made.resources));
         identities = new Identities(made.log, names.manager, isNew);
         identities.seeOpen();
         closeCommitted();
@@ -337,7 +338,7 @@ public final class Manager implements AutoCloseable {
                     LOG.log(Level.WARNING, () -> old.coordinator.lost().getMessage() + ". It is started again");
                     old.abandon();
                 }
-                KeptLog.seeThere(made.log);
+                Log.seeThere(made.log);
                 start();
             }
             return session;
@@ -362,14 +363,14 @@ public final class Manager implements AutoCloseable {
         if (made.mirror == null) {
             return null;
         }
-        Mirror found = new Mirror(made.mirror, made.log, KeptLog.isThere(made.log) ? untilFree(this::keptLog) : names, names.resources, made.patience);
+        Mirror found = new Mirror(made.mirror, made.log, Log.isThere(made.log) ? untilFree(this::keptLog) : names, names.resources, made.patience);
         found.look(made.name, number -> rms.stream().filter(rm -> rm.number == number).map(rm -> Listing.of(rm.resource))
             .filter(it -> it.fault() == null).map(Listing::all).findFirst().orElse(null));
         return found;
     }
 
-    private KeptLog keptLog() throws Fault {
-        KeptLog found = KeptLog.readWithBranches(made.log, made.starter, made.program);
+    private Log keptLog() throws Fault {
+        Log found = Log.readWithBranches(made.log, made.starter, made.program);
         if (found.isInUse) {
             throw new Fault.Gone("the log is in use by another process");
         }
@@ -381,11 +382,11 @@ public final class Manager implements AutoCloseable {
         begun = next;
         try {
             identities.begin(next.incarnation);
-            fates.find(coordinator).forEach(committed::add);
+            outcomes.find(coordinator).forEach(committed::add);
             if (mirror != null) {
                 mirror.begin(next.incarnation);
             }
-            fates.tell();
+            outcomes.tell();
             Duration longest = session == null || made.patience.compareTo(AGAIN) < 0 ? made.patience : AGAIN;
             session = next;
             next.recover(longest);
@@ -420,7 +421,7 @@ public final class Manager implements AutoCloseable {
             } catch (Fault.Gone gone) {
                 seeWorthwhile(gone, until);
             }
-            Apart.pause(100);
+            Aside.pause(100);
         }
     }
 
@@ -483,7 +484,7 @@ public final class Manager implements AutoCloseable {
         } catch (Fault error) {
             LOG.log(Level.WARNING, () -> "no coordinator: " + error.getMessage());
         }
-        return fates.await(gtrid, made.patience);
+        return outcomes.await(gtrid, made.patience);
     }
 
     /**
@@ -495,14 +496,14 @@ public final class Manager implements AutoCloseable {
         try {
             return clock.schedule(task, delay.toMillis(), TimeUnit.MILLISECONDS);
         } catch (RejectedExecutionException closed) {
-            Apart.run(work);
+            Aside.run(work);
             return task;
         }
     }
 
     private void begin(Runnable work) {
         try {
-            Apart.run(work);
+            Aside.run(work);
         } catch (Error error) {
             // There is no thread to be had now.
             later(work, Duration.ofSeconds(1));

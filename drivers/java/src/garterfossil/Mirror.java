@@ -35,7 +35,7 @@ final class Mirror {
     }
 
     private final Path log;
-    private final KeptLog kept;
+    private final Log kept;
     private final List<String> resources;
     // Decisions come by one connection, and leave by another, for which nobody waits.
     private final MirrorTables adding, removing;
@@ -53,7 +53,7 @@ final class Mirror {
      * That of the next session over a log that holds this, with the branches of its decisions, and
      * that is to keep these names of resources.
      */
-    Mirror(DataSource source, Path log, KeptLog kept, List<String> resources, Duration patience) throws Fault.Unavailable {
+    Mirror(DataSource source, Path log, Log kept, List<String> resources, Duration patience) throws Fault.Unavailable {
         if (kept.manager.isEmpty()) {
             throw new Fault.Unavailable("a mirror is for a manager with a name, and this log keeps none: give a new log a name, once nothing is in doubt");
         }
@@ -104,7 +104,7 @@ final class Mirror {
     /** Sees that a new log isn't at the place of one that a lost machine had. */
     private void seeNoOther(Map<String, String> managers, String given) throws Fault.Unavailable {
         for (Map.Entry<String, String> it : managers.entrySet()) {
-            if (it.getValue().equals(log.toString()) && KeptLog.isNamed(it.getKey(), given)) {
+            if (it.getValue().equals(log.toString()) && Log.isNamed(it.getKey(), given)) {
                 throw new Fault.Unavailable("there is no log at " + log + ", and the mirror knows the manager " + it.getKey() + ", whose log was there:"
                     + " make it anew by `garterfossil.Command failover`; or give this manager a name of its own (name), if it is another one");
             }
@@ -276,7 +276,7 @@ final class Mirror {
             any.make();
             Map<String, String> known = any.once(any::managers);
             known.values().removeIf(path -> !Path.of(path).getFileName().equals(here.getFileName()));
-            known.keySet().stream().filter(name -> KeptLog.isNamed(name, given)).forEach(names::add);
+            known.keySet().stream().filter(name -> Log.isNamed(name, given)).forEach(names::add);
         } catch (Fault.Lost error) {
             throw new Fault.Unavailable("the mirror can't be read", error);
         } finally {
@@ -296,7 +296,7 @@ final class Mirror {
         try {
             List<String> lines = tables.takeOver();
             String text = String.join("\n", lines) + "\n";
-            KeptLog.printed(starter, List.of(program, "log", "--make", log.toString()), text, TO_MAKE, new StringBuilder());
+            Log.printed(starter, List.of(program, "log", "--make", log.toString()), text, TO_MAKE, new StringBuilder());
             long count = lines.stream().filter(line -> line.contains(":")).count();
             return "log " + log + ", of the manager " + tables.manager + ": made, with " + count + " decisions to commit";
         } catch (Fault.Gone | Fault.Lost error) {

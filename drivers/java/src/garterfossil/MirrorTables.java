@@ -118,7 +118,7 @@ final class MirrorTables {
     /** A new connection, made by a thread of its own: the database may be silent. */
     private Connection made() throws Fault.Lost {
         try {
-            return Apart.within(patience, source::getConnection, MirrorTables::close);
+            return Aside.within(patience, source::getConnection, MirrorTables::close);
         } catch (TimeoutException error) {
             throw new Fault.Lost("no connection, and nothing was said for " + patience.toMillis() + " ms", null);
         } catch (Exception error) {

@@ -25,9 +25,7 @@ public abstract class PooledResource<R extends PooledResource<R>> implements Res
      * given, of a broker 16. Don't make that less later.
      */
     public R maxConnections(int count) {
-        if (count < 1) {
-            throw new IllegalArgumentException("maxConnections: 1 or more, and not " + count);
-        }
+        Manager.require(count >= 1, "maxConnections: 1 or more, and not " + count);
         maxConnections = count;
         return self();
     }

@@ -51,7 +51,7 @@ final class Recovery {
         this.session = session;
         this.rm = rm;
         coordinator = session.coordinator;
-        thread = Apart.daemons("recovery of " + rm).newThread(this::keep);
+        thread = Aside.daemons("recovery of " + rm).newThread(this::keep);
     }
 
     void start() {
@@ -237,8 +237,7 @@ final class Recovery {
 
     /** How many branches can't be ended yet. */
     private int left(String[] words) throws Fault.Gone {
-        boolean isRight = words.length == 1 || words.length == 3 && words[2].matches("[0-9]{1,9}");
-        if (!isRight) {
+        if (words.length > 1 && !(words.length == 3 && words[2].matches("[0-9]{1,9}"))) {
             throw refused(words);
         }
         return words.length == 1 ? 0 : Integer.parseInt(words[2]);

@@ -70,7 +70,7 @@ final class ResourceManager {
 
     /** A connection, of the pool or a new one. Waits for a place. */
     Lease borrow(Duration patience) throws Fault {
-        Apart.take(places, patience, "a connection to " + this, () -> "all " + resource.maxConnections() + " connections to " + this + " are in use for "
+        Aside.take(places, patience, "a connection to " + this, () -> "all " + resource.maxConnections() + " connections to " + this + " are in use for "
             + patience.toSeconds() + " s, by " + holders + ". Let the pool have more, or end transactions sooner");
         try {
             int lentIn;
@@ -233,7 +233,7 @@ final class ResourceManager {
             throw new Fault.Lost("no connection to " + this + ", which has said nothing for " + longest.toMillis() + " ms", null);
         } catch (ExecutionException error) {
             pending = null;
-            Exception cause = Apart.causeOf(error);
+            Exception cause = Aside.causeOf(error);
             if (cause instanceof Fault.Lost lost) {
                 throw lost;
             }
@@ -250,7 +250,7 @@ final class ResourceManager {
 
     private CompletableFuture<Link> begun() {
         CompletableFuture<Link> made = new CompletableFuture<>();
-        Apart.run(() -> {
+        Aside.run(() -> {
             try {
                 if (hasStrays) {
                     hasStrays = false;

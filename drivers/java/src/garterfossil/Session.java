@@ -181,7 +181,7 @@ final class Session {
     /** A thread of the coordinator, for one transaction. */
     Slot take(Duration patience) throws Fault {
         seeWhole();
-        Apart.take(places, patience, "a thread of the coordinator", () -> "all " + threads + " transactions that may run at once do so, for "
+        Aside.take(places, patience, "a thread of the coordinator", () -> "all " + threads + " transactions that may run at once do so, for "
             + patience.toSeconds() + " s. Give the manager more threads; a REQUIRES_NEW in a transaction needs a second one while the first waits");
         return free.remove();
     }
@@ -347,7 +347,7 @@ final class Session {
     /** Waits so long for what is under way, and rolls back what is open then. */
     void drain(Duration grace) {
         if (!until(grace, live::isEmpty)) {
-            live.forEach(transaction -> Apart.run(() -> {
+            live.forEach(transaction -> Aside.run(() -> {
                 // What is being committed goes on.
                 while (live.contains(transaction) && transaction.outcome().isOpen() && !transaction.rollBackSince("the manager is closed")) {
                     LockSupport.parkNanos(50_000_000);
@@ -396,7 +396,7 @@ final class Session {
                 }
             };
             try {
-                Apart.run(work);
+                Aside.run(work);
             } catch (Error error) {
                 // There is no thread to be had.
                 work.run();

@@ -406,9 +406,9 @@ public class RecoveryTest {
 
     @Test
     public void placesOfALog() {
-        assertEquals("nothing sees there whether a program of another machine has it too", KeptLog.dangerOf("nfs4"));
-        assertEquals("it is lost with the container or the machine, and what is prepared then waits for somebody", KeptLog.dangerOf("overlay"));
-        assertEquals("", KeptLog.dangerOf("ext4"));
+        assertEquals("nothing sees there whether a program of another machine has it too", Log.dangerOf("nfs4"));
+        assertEquals("it is lost with the container or the machine, and what is prepared then waits for somebody", Log.dangerOf("overlay"));
+        assertEquals("", Log.dangerOf("ext4"));
     }
 
     @Test
@@ -940,7 +940,7 @@ public class RecoveryTest {
         world.a.branches.put(stays, StandInResource.State.PREPARED);
         world.a.branches.put(world.own(1, 8), StandInResource.State.PREPARED);
         world.put("in-use", "");
-        KeptLog kept = KeptLog.read(world.folder.resolve("log"), words -> StandInCoordinator.of(world.folder, words), "xatm");
+        Log kept = Log.read(world.folder.resolve("log"), words -> StandInCoordinator.of(world.folder, words), "xatm");
         // What is there at the second look alone is younger.
         world.a.beforeConnect = () -> {
             if (world.a.calls.contains("recover")) {

@@ -1,6 +1,6 @@
 package garterfossil.jdbc;
 
-import garterfossil.Apart;
+import garterfossil.Aside;
 import garterfossil.BranchXid;
 import garterfossil.Fault;
 import garterfossil.Resource;
@@ -273,7 +273,7 @@ enum Dialect {
             for (long number : numbers) {
                 end(connection, number);
             }
-            Apart.pause(20);
+            Aside.pause(20);
         }
     }
 

@@ -1,6 +1,6 @@
 package garterfossil.jms;
 
-import garterfossil.Apart;
+import garterfossil.Aside;
 import garterfossil.Front;
 import garterfossil.Gate;
 import garterfossil.Link;
@@ -49,7 +49,7 @@ final class JmsLink implements Link {
      */
     private Object bounded(Object front, Method method, Object[] words) throws Throwable {
         try {
-            return Apart.within(longest, () -> method.invoke(session.getXAResource(), words), late -> { });
+            return Aside.within(longest, () -> method.invoke(session.getXAResource(), words), late -> { });
         } catch (InvocationTargetException error) {
             throw error.getCause();
         } catch (TimeoutException error) {
@@ -111,7 +111,7 @@ final class JmsLink implements Link {
         isFailed = true;
         try {
             if (isSilent) {
-                Apart.run(this::closeNow);
+                Aside.run(this::closeNow);
             } else {
                 closeNow();
             }

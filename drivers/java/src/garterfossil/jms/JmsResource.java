@@ -1,6 +1,6 @@
 package garterfossil.jms;
 
-import garterfossil.Apart;
+import garterfossil.Aside;
 import garterfossil.Fault;
 import garterfossil.Known;
 import garterfossil.Link;
@@ -139,7 +139,7 @@ public final class JmsResource extends PooledResource<JmsResource> {
                 connection.close();
                 throw error;
             }
-            Apart.pause(50);
+            Aside.pause(50);
         }
     }
 

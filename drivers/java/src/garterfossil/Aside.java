@@ -18,7 +18,7 @@ import java.util.function.Supplier;
  * Threads for what may wait for a resource that is silent: each such thing has one of its own, and
  * keeps nothing else waiting. And how the driver waits.
  */
-public final class Apart {
+public final class Aside {
     private static final ExecutorService THREADS = new ThreadPoolExecutor(0, Integer.MAX_VALUE, 10, TimeUnit.SECONDS, new SynchronousQueue<>(),
         daemons("clock"));
 
@@ -27,7 +27,7 @@ public final class Apart {
         T made() throws InterruptedException, E;
     }
 
-    private Apart() {
+    private Aside() {
     }
 
     /** Threads of the manager's own, which keep no program up. */
@@ -60,7 +60,7 @@ public final class Apart {
         });
         long until = System.nanoTime() + longest.toNanos();
         try {
-            return Apart.<T, Exception>uninterrupted(() -> made.get(Math.max(1, until - System.nanoTime()), TimeUnit.NANOSECONDS));
+            return Aside.<T, Exception>uninterrupted(() -> made.get(Math.max(1, until - System.nanoTime()), TimeUnit.NANOSECONDS));
         } catch (TimeoutException error) {
             made.thenAccept(late);
             throw error;

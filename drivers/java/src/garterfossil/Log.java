@@ -26,7 +26,7 @@ import java.util.stream.Collectors;
  * <p>A new log gets a name that no other log ever had: so what an earlier log left at the resources
  * is another manager's, and stays.
  */
-final class KeptLog {
+final class Log {
     private static final String LETTERS = "abcdefghijklmnopqrstuvwxyz0123456789";
     /** The name of a manager has so many letters at most, and of these so many are drawn. */
     static final int LONGEST = 16, DRAWN = 6;
@@ -49,7 +49,7 @@ final class KeptLog {
     /** Whether a program has it. */
     final boolean isInUse;
 
-    private KeptLog(String manager, List<String> resources, long incarnation, boolean isInUse) {
+    private Log(String manager, List<String> resources, long incarnation, boolean isInUse) {
         this.manager = manager;
         this.resources = new ArrayList<>(resources);
         this.incarnation = incarnation;
@@ -57,8 +57,8 @@ final class KeptLog {
     }
 
     /** The log in the file, or what a new one gets. */
-    static KeptLog of(Path log, Coordinator.Starter starter, String program, String given, List<Resource> resources) throws Fault {
-        KeptLog kept = isThere(log) ? read(log, starter, program) : drawn(log, given, resources);
+    static Log of(Path log, Coordinator.Starter starter, String program, String given, List<Resource> resources) throws Fault {
+        Log kept = isThere(log) ? read(log, starter, program) : drawn(log, given, resources);
         kept.seeManager(log, given);
         kept.add(resources.stream().map(Resource::name).toList(), log);
         return kept;
@@ -121,20 +121,20 @@ final class KeptLog {
         };
     }
 
-    private static KeptLog drawn(Path log, String given, List<Resource> resources) throws Fault.Unavailable {
+    private static Log drawn(Path log, String given, List<Resource> resources) throws Fault.Unavailable {
         if (given.length() + 1 + DRAWN > LONGEST) {
             throw new Fault.Unavailable("the log " + log + " is new, and the name " + given + " too long: it has at most "
                 + (LONGEST - 1 - DRAWN) + " letters, since " + DRAWN + " are drawn after it");
         }
         String drawn = new SecureRandom().ints(given.isEmpty() ? LONGEST - 4 : DRAWN, 0, LETTERS.length()).mapToObj(LETTERS::charAt)
             .map(String::valueOf).collect(Collectors.joining());
-        return new KeptLog(given.isEmpty() ? drawn : given + "-" + drawn, resources.stream().map(Resource::name).toList(), 0, false);
+        return new Log(given.isEmpty() ? drawn : given + "-" + drawn, resources.stream().map(Resource::name).toList(), 0, false);
     }
 
     // ** what the program prints
 
     /** The log in the file. */
-    static KeptLog read(Path log, Coordinator.Starter starter, String program) throws Fault {
+    static Log read(Path log, Coordinator.Starter starter, String program) throws Fault {
         StringBuilder said = new StringBuilder();
         String[] lines = printed(starter, List.of(program, "log", log.toString()), "", LONGEST_LOOK, said).split("\n");
         String manager = "";
@@ -153,7 +153,7 @@ final class KeptLog {
                 throw new Fault.Unavailable("what " + program + " prints of the log " + log + " isn't what xatm log prints: " + line);
             }
         }
-        KeptLog found = new KeptLog(manager, withAdded(log, resources), incarnation, said.indexOf("another process runs over it") >= 0);
+        Log found = new Log(manager, withAdded(log, resources), incarnation, said.indexOf("another process runs over it") >= 0);
         rows.forEach(found::take);
         return found;
     }
@@ -168,8 +168,8 @@ final class KeptLog {
     }
 
     /** The same, with the branches that its rows wait for. */
-    static KeptLog readWithBranches(Path log, Coordinator.Starter starter, String program) throws Fault {
-        KeptLog found = read(log, starter, program);
+    static Log readWithBranches(Path log, Coordinator.Starter starter, String program) throws Fault {
+        Log found = read(log, starter, program);
         if (!found.decisions.isEmpty()) {
             String explained = printed(starter, List.of(program, "log", "--explain", log.toString()), "", LONGEST_LOOK, new StringBuilder());
             for (String line : explained.split("\n")) {

@@ -12,7 +12,7 @@ import java.util.stream.Collectors;
  * Transactions whose votes were told, and to which the coordinator didn't reply before it ended:
  * the very next session knows what became of them.
  */
-final class Fates {
+final class Outcomes {
     private final Map<String, CompletableFuture<Outcome>> expected = new ConcurrentHashMap<>();
     // What was found, and isn't told yet.
     private final Map<String, Outcome> found = new ConcurrentHashMap<>();
