@@ -56,9 +56,12 @@ final class Log {
         this.isInUse = isInUse;
     }
 
-    /** The log in the file, or what a new one gets. */
-    static Log of(Path log, Coordinator.Starter starter, String program, String given, List<Resource> resources) throws Fault {
-        Log kept = isThere(log) ? read(log, starter, program) : drawn(log, given, resources);
+    /**
+     * The log in the file, with the branches that its rows wait for if it is to be explained; or
+     * what a new one gets.
+     */
+    static Log of(Path log, Coordinator.Starter starter, String program, String given, List<Resource> resources, boolean isExplained) throws Fault {
+        Log kept = isThere(log) ? read(log, starter, program, isExplained) : drawn(log, given, resources);
         kept.seeManager(log, given);
         kept.add(resources.stream().map(Resource::name).toList(), log);
         return kept;
@@ -133,14 +136,14 @@ final class Log {
 
     // ** what the program prints
 
-    /** The log in the file. */
-    static Log read(Path log, Coordinator.Starter starter, String program) throws Fault {
+    /** The log in the file; explained, with the branches that its rows wait for. */
+    static Log read(Path log, Coordinator.Starter starter, String program, boolean isExplained) throws Fault {
         StringBuilder said = new StringBuilder();
-        String[] lines = printed(starter, List.of(program, "log", log.toString()), "", LONGEST_LOOK, said).split("\n");
+        List<String> asked = isExplained ? List.of(program, "log", "--explain", log.toString()) : List.of(program, "log", log.toString());
         String manager = "";
-        long incarnation = 0;
+        long incarnation = -1;
         List<String> resources = new ArrayList<>(), rows = new ArrayList<>();
-        for (String line : lines) {
+        for (String line : printed(starter, asked, "", LONGEST_LOOK, said).split("\n")) {
             String[] words = line.split(" ", -1);
             try {
                 switch (words[0]) {
@@ -153,6 +156,9 @@ final class Log {
                 throw new Fault.Unavailable("what " + program + " prints of the log " + log + " isn't what xatm log prints: " + line);
             }
         }
+        if (incarnation < 0) {
+            throw new Fault.Unavailable("what " + program + " prints of the log " + log + " has no incarnation: is it the xatm of this driver's version?");
+        }
         Log found = new Log(manager, withAdded(log, resources), incarnation, said.indexOf("another process runs over it") >= 0);
         rows.forEach(found::take);
         return found;
@@ -160,27 +166,15 @@ final class Log {
 
     private void take(String row) {
         String first = row.split(" ", -1)[0];
-        if (first.matches("[0-9a-f]{32}")) {
+        Matcher branch = EXPLAINED.matcher(row);
+        if (branch.matches()) {
+            BranchXid xid = BranchXid.parse(branch.group(1));
+            decisions.computeIfAbsent(xid.transaction(), none -> new ArrayList<>()).add(xid);
+        } else if (first.matches("[0-9a-f]{32}")) {
             decisions.put(first, new ArrayList<>());
         } else if (first.contains(":")) {
             heuristics.add(row);
         }
-    }
-
-    /** The same, with the branches that its rows wait for. */
-    static Log readWithBranches(Path log, Coordinator.Starter starter, String program) throws Fault {
-        Log found = read(log, starter, program);
-        if (!found.decisions.isEmpty()) {
-            String explained = printed(starter, List.of(program, "log", "--explain", log.toString()), "", LONGEST_LOOK, new StringBuilder());
-            for (String line : explained.split("\n")) {
-                Matcher it = EXPLAINED.matcher(line);
-                if (it.matches()) {
-                    BranchXid xid = BranchXid.parse(it.group(1));
-                    found.decisions.computeIfAbsent(xid.transaction(), none -> new ArrayList<>()).add(xid);
-                }
-            }
-        }
-        return found;
     }
 
     /**

@@ -171,7 +171,7 @@ public final class Manager implements AutoCloseable {
             if (!Log.isThere(log)) {
                 throw new Fault.Unavailable("there is no log " + log);
             }
-            return Log.of(log, starter, program, "", resources);
+            return Log.of(log, starter, program, "", resources, false);
         }
 
         /**
@@ -287,7 +287,7 @@ public final class Manager implements AutoCloseable {
                     startFirst(isNew);
                 } catch (Fault.Unavailable error) {
                     if (!isNew || names == null || !Log.isThere(made.log)
-                        || Log.read(made.log, made.starter, made.program).manager.equals(names.manager)) {
+                        || Log.read(made.log, made.starter, made.program, false).manager.equals(names.manager)) {
                         throw error;
                     }
                     // Another program has made the log since its names were looked for.
@@ -304,7 +304,7 @@ public final class Manager implements AutoCloseable {
     }
 
     private void startFirst(boolean isNew) throws Fault {
-        names = untilFree(() -> Log.of(made.log, made.starter, made.program, made.name, made.resources));
+        names = untilFree(this::kept);
         identities = new Identities(made.log, names.manager, isNew);
         identities.seeOpen();
         closeCommitted();
@@ -316,7 +316,19 @@ public final class Manager implements AutoCloseable {
             resource.knownBy(identities.of(number, resource.name()));
             rms.add(new ResourceManager(number, resource));
         }
-        start();
+        start(names);
+    }
+
+    /**
+     * The log as it stands; for a mirror once nobody else has it, and with the branches of its
+     * rows.
+     */
+    private Log kept() throws Fault {
+        Log found = Log.of(made.log, made.starter, made.program, made.name, made.resources, made.mirror != null);
+        if (made.mirror != null && found.isInUse) {
+            throw new Fault.Gone("the log is in use by another process");
+        }
+        return found;
     }
 
     // ** sessions
@@ -339,14 +351,14 @@ public final class Manager implements AutoCloseable {
                     old.abandon();
                 }
                 Log.seeThere(made.log);
-                start();
+                start(made.mirror == null ? names : untilFree(this::kept));
             }
             return session;
         }
     }
 
-    private void start() throws Fault {
-        Mirror mirror = mirror();
+    private void start(Log kept) throws Fault {
+        Mirror mirror = made.mirror == null ? null : mirror(kept);
         boolean isUp = false;
         try {
             start(coordinator(), mirror);
@@ -358,22 +370,11 @@ public final class Manager implements AutoCloseable {
         }
     }
 
-    /** The mirror, which is looked at before the coordinator starts; null without one. */
-    private Mirror mirror() throws Fault {
-        if (made.mirror == null) {
-            return null;
-        }
-        Mirror found = new Mirror(made.mirror, made.log, Log.isThere(made.log) ? untilFree(this::keptLog) : names, names.resources, made.patience);
+    /** The mirror, which is looked at before the coordinator starts. */
+    private Mirror mirror(Log kept) throws Fault {
+        Mirror found = new Mirror(made.mirror, made.log, kept, names.resources, made.patience);
         found.look(made.name, number -> rms.stream().filter(rm -> rm.number == number).map(rm -> Listing.of(rm.resource))
             .filter(it -> it.fault() == null).map(Listing::all).findFirst().orElse(null));
-        return found;
-    }
-
-    private Log keptLog() throws Fault {
-        Log found = Log.readWithBranches(made.log, made.starter, made.program);
-        if (found.isInUse) {
-            throw new Fault.Gone("the log is in use by another process");
-        }
         return found;
     }
 

@@ -92,6 +92,19 @@ public class MirrorTest {
     }
 
     @Test
+    public void aStartRunsTwoPrograms() throws Exception {
+        leftAtB();
+        world.b.isDown = false;
+        List<String> run = Collections.synchronizedList(new ArrayList<>());
+        manager = builder().starter(words -> {
+            run.add(String.join(" ", words.subList(1, 3)));
+            return StandInCoordinator.of(world.folder, words);
+        }).start();
+        assertEquals(List.of("log --explain", "serve --moves"), run);
+        nothingIsLeft();
+    }
+
+    @Test
     public void aSessionTellsItWhatTheLogHasAndNoMore() throws Exception {
         String gtrid = leftAtB();
         String other = "0".repeat(15) + "1" + "0".repeat(15) + "9";

@@ -940,7 +940,7 @@ public class RecoveryTest {
         world.a.branches.put(stays, StandInResource.State.PREPARED);
         world.a.branches.put(world.own(1, 8), StandInResource.State.PREPARED);
         world.put("in-use", "");
-        Log kept = Log.read(world.folder.resolve("log"), words -> StandInCoordinator.of(world.folder, words), "xatm");
+        Log kept = Log.read(world.folder.resolve("log"), words -> StandInCoordinator.of(world.folder, words), "xatm", false);
         // What is there at the second look alone is younger.
         world.a.beforeConnect = () -> {
             if (world.a.calls.contains("recover")) {
