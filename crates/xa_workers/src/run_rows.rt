@@ -168,8 +168,8 @@ impl<L: DecisionLog> RunRows<L> {
     }
 }
 
-/// Tells a thread that the row of its job is written, and wakes it. It isn't told before the log has
-/// the row.
+/// Tells a thread that the row of its job is written, and wakes it. It isn't told before the log
+/// has the row.
 fn reply<J: Run, G: Gate, L: DecisionLog>(
     crew: &Crew<'_, J, G>,
     run_rows: &RunRows<L>,
