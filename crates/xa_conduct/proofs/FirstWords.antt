@@ -8,7 +8,7 @@ use Rattle.xa_base.specs.declared.code.RbCode.{RbCode}
 use Rattle.xa_conduct.proofs.ToldLemmas.{told_calls, told_outcome, told_standing}
 use Rattle.xa_conduct.specs.Over.{has_calls, has_left, is_decided}
 use Rattle.xa_conduct.specs.Places.{is_asked, is_left}
-use Rattle.xa_conduct.specs.Texts.{asked_at, begun_text, calls_text, first_verb, is_mixed, is_told, mixed_at, mixed_text, next_text, outcome_text, owed_at, owed_text, reply_text, spaced, standing_text, standing_word, started_text, told_text, verb_at, verb_of, why_text}
+use Rattle.xa_conduct.specs.Texts.{asked_number, next_name_text, calls_text, first_verb, is_mixed, is_told, mixed_at, mixed_text, next_text, outcome_text, owed_at, owed_branches_text, move_reply_text, spaced_number, standing_with_reason, standing_word, started_text, told_text, verb_at, verb_of, why_text}
 use Rattle.xa_conduct.specs.Told.{HasFirst, IsBehindWord, IsError, IsStart}
 use Rattle.xa_conduct.specs.declared.part.Part.{Part}
 use Rattle.xa_conduct.specs.declared.transaction.Standing.{Standing}
@@ -85,9 +85,9 @@ calls_first parts any =
       among = call.among;
       asked = call.asked;
       first = record {
-        rest = flat_map asked_at parts;
-        is = ap (λ z. z ++ flat_map asked_at parts) call.verb;
-        parted = behind_each asked_at (λ part. behind_if (is_asked part.place) (spaced part.rm) refl) parts;
+        rest = flat_map asked_number parts;
+        is = ap (λ z. z ++ flat_map asked_number parts) call.verb;
+        parted = behind_each asked_number (λ part. behind_if (is_asked part.place) (spaced_number part.rm) refl) parts;
       };
     }
 
@@ -97,7 +97,7 @@ behind_why : (why : Option (RbCode × ℕ)) → IsBehindWord (why_text why)
 behind_why None = tt
 behind_why (Some (code, rm)) = refl
 
-standing_first : (standing : Standing) → HasFirst (standing_word standing) (standing_text standing)
+standing_first : (standing : Standing) → HasFirst (standing_word standing) (standing_with_reason standing)
 standing_first standings.Idle = record { rest = []; is = refl; parted = tt }
 standing_first standings.Open = record { rest = []; is = refl; parted = tt }
 standing_first standings.Ready = record { rest = []; is = refl; parted = tt }
@@ -107,13 +107,13 @@ standing_first standings.Unknown = record { rest = []; is = refl; parted = tt }
 
 outcome_first : (t : Transaction) → HasFirst (standing_word t.standing) (outcome_text t)
 outcome_first t =
-    first_behind (standing_word t.standing) (standing_text t.standing ++ owed_text t) (mixed_text t)
-    (first_behind (standing_word t.standing) (standing_text t.standing) (owed_text t) (standing_first t.standing) (behind_if (has_left t) _ refl))
+    first_behind (standing_word t.standing) (standing_with_reason t.standing ++ owed_branches_text t) (mixed_text t)
+    (first_behind (standing_word t.standing) (standing_with_reason t.standing) (owed_branches_text t) (standing_first t.standing) (behind_if (has_left t) _ refl))
     (behind_if (list_any (is_mixed t.standing) t.parts.items) _ refl)
 
 -- ** the whole
 
-behind_begun : (next : Option Gtrid) → IsBehindWord (begun_text next)
+behind_begun : (next : Option Gtrid) → IsBehindWord (next_name_text next)
 behind_begun None = tt
 behind_begun (Some g) = refl
 
@@ -139,10 +139,10 @@ tells_or true branches word xs ys tells behind = record {
 tells_or false branches word xs ys tells behind = first_behind word xs ys tells behind
 
 -- a reply begins by a call, or by how the transaction stands
-pub reply_first : (t : Transaction) (next : Option Gtrid) (text : List ℕ) → text ≡ reply_text t next → TellsOf t text
+pub reply_first : (t : Transaction) (next : Option Gtrid) (text : List ℕ) → text ≡ move_reply_text t next → TellsOf t text
 reply_first t next text is =
     subst (TellsOf t) (sym is)
-    (tells_or (has_calls t) t.parts.items (standing_word t.standing) (told_text t) (begun_text next) (told_first t) (behind_begun next))
+    (tells_or (has_calls t) t.parts.items (standing_word t.standing) (told_text t) (next_name_text next) (told_first t) (behind_begun next))
 
 pub start_first : (text : List ℕ) → IsStart text → HasFirst (codes "started") text
 start_first text start = record { rest = next_text start.0; is = start.1; parted = refl }

@@ -7,7 +7,7 @@ use Rattle.xa_base.specs.declared.branch.Gtrid.{Gtrid}
 use Rattle.xa_requests.specs.declared.request.Request.{Request}
 use Rattle.xa_conduct.specs.Backing.{TransactionRests}
 use Rattle.xa_conduct.specs.Over.{has_calls, is_decided}
-use Rattle.xa_conduct.specs.Texts.{begun_text, calls_text, outcome_text, standing_text, told_text}
+use Rattle.xa_conduct.specs.Texts.{next_name_text, calls_text, outcome_text, standing_with_reason, told_text}
 use Rattle.xa_conduct.specs.Told.{AddsText, GivesWay, IsToldBy, joined_replies}
 use Rattle.xa_conduct.specs.declared.notes.Reply.TheVariants as replies
 use Rattle.xa_conduct.specs.declared.part.Part.{Part}
@@ -35,7 +35,7 @@ adds_both a b c xs ys one other = other ∙ ap (λ z. z ++ ys) one ∙ append_as
 
 -- what is told: calls; or if there are none, the outcome; or if there is none, that branches began
 abbrev chosen : Transaction → (has_calls is_decided : Bool) → List ℕ
-chosen t has_calls is_decided = if has_calls then calls_text t.parts.items else if is_decided then outcome_text t else standing_text t.standing
+chosen t has_calls is_decided = if has_calls then calls_text t.parts.items else if is_decided then outcome_text t else standing_with_reason t.standing
 
 told_chosen : (t : Transaction) → told_text t ≡ chosen t (has_calls t) (is_decided t.standing)
 unfolding told_text
@@ -47,16 +47,16 @@ told_calls t calls = told_chosen t ∙ ap (λ (b : Bool). chosen t b (is_decided
 pub told_outcome : (t : Transaction) → has_calls t ≡ false → is_decided t.standing ≡ true → told_text t ≡ outcome_text t
 told_outcome t none decided = told_chosen t ∙ ap₂ (chosen t) none decided
 
-pub told_standing : (t : Transaction) → has_calls t ≡ false → is_decided t.standing ≡ false → told_text t ≡ standing_text t.standing
+pub told_standing : (t : Transaction) → has_calls t ≡ false → is_decided t.standing ≡ false → told_text t ≡ standing_with_reason t.standing
 told_standing t none undecided = told_chosen t ∙ ap₂ (chosen t) none undecided
 
 -- what is told of the transaction that is noted of a thread, and the name of the next one behind it
 pub told_thread : (asked : (Request → Bool) → Bool) (noted now : List Transaction) (thread : ℕ) (t : Transaction) (next : Option Gtrid) (a b c : List ℕ)
-    → thread < length noted → t.gtrid ≡ (get_or noted thread t).gtrid → TransactionRests asked t → b ≡ a ++ told_text t → c ≡ b ++ begun_text next → GivesWay t next (get_or now thread t)
+    → thread < length noted → t.gtrid ≡ (get_or noted thread t).gtrid → TransactionRests asked t → b ≡ a ++ told_text t → c ≡ b ++ next_name_text next → GivesWay t next (get_or now thread t)
     → AddsText (IsToldBy asked noted now (replies.Thread thread)) a c
 told_thread asked noted now thread t next a b c among name rests told begun gives = (
-  told_text t ++ begun_text next,
-  adds_both a b c (told_text t) (begun_text next) told begun,
+  told_text t ++ next_name_text next,
+  adds_both a b c (told_text t) (next_name_text next) told begun,
   inl (record { transaction = t; next = next; among = among; name = name; rests = rests; is = refl; gives = gives }),
 )
 

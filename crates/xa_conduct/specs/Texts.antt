@@ -18,8 +18,8 @@ use Rattle.xa_conduct.specs.declared.transaction.Standing.TheVariants.{Committed
 use Rattle.xa_conduct.specs.declared.transaction.Transaction.{Transaction}
 
 -- a number, behind a space
-abbrev pub spaced : ℕ → List ℕ
-spaced n = codes " " ++ decimal n
+abbrev pub spaced_number : ℕ → List ℕ
+spaced_number n = codes " " ++ decimal n
 
 -- ** the calls
 
@@ -46,11 +46,11 @@ abbrev pub first_verb : List Part → List ℕ
 first_verb parts = verb_of (find is_told parts)
 
 -- where each of them waits
-abbrev pub asked_at : Part → List ℕ
-asked_at part = if is_asked part.place then spaced part.rm else []
+abbrev pub asked_number : Part → List ℕ
+asked_number part = if is_asked part.place then spaced_number part.rm else []
 
 abbrev pub calls_text : List Part → List ℕ
-calls_text parts = first_verb parts ++ flat_map asked_at parts
+calls_text parts = first_verb parts ++ flat_map asked_number parts
 
 -- ** how it stands
 
@@ -64,19 +64,19 @@ standing_word standing = codes "joined"
 -- why it was rolled back and where, if a branch is the reason
 abbrev pub why_text : Option (RbCode × ℕ) → List ℕ
 why_text None = []
-why_text (Some (code, rm)) = codes " " ++ signed_decimal (rb_number code) ++ spaced rm
+why_text (Some (code, rm)) = codes " " ++ signed_decimal (rb_number code) ++ spaced_number rm
 
-abbrev pub standing_text : Standing → List ℕ
-standing_text (RolledBack why) = codes "rolled-back" ++ why_text why
-standing_text standing = standing_word standing
+abbrev pub standing_with_reason : Standing → List ℕ
+standing_with_reason (RolledBack why) = codes "rolled-back" ++ why_text why
+standing_with_reason standing = standing_word standing
 
 -- ** branches that are left to the recovery
 
 abbrev pub owed_at : Part → List ℕ
-owed_at part = if is_left part.place then spaced part.rm else []
+owed_at part = if is_left part.place then spaced_number part.rm else []
 
-abbrev pub owed_text : Transaction → List ℕ
-owed_text t = if has_left t then codes " owed" ++ flat_map owed_at t.parts.items else []
+abbrev pub owed_branches_text : Transaction → List ℕ
+owed_branches_text t = if has_left t then codes " owed" ++ flat_map owed_at t.parts.items else []
 
 -- ** branches that ended otherwise
 
@@ -94,12 +94,12 @@ abbrev pub is_mixed : Standing → Part → Bool
 is_mixed standing part = ended_against standing part.alone
 
 -- where, and how
-abbrev pub end_text : (rm : ℕ) → Option How → List ℕ
-end_text rm None = []
-end_text rm (Some how) = spaced rm ++ codes " " ++ signed_decimal (how_number how)
+abbrev pub ended_alone_text : (rm : ℕ) → Option How → List ℕ
+ended_alone_text rm None = []
+ended_alone_text rm (Some how) = spaced_number rm ++ codes " " ++ signed_decimal (how_number how)
 
 abbrev pub mixed_at : Standing → Part → List ℕ
-mixed_at standing part = if is_mixed standing part then end_text part.rm part.alone else []
+mixed_at standing part = if is_mixed standing part then ended_alone_text part.rm part.alone else []
 
 abbrev pub mixed_text : Transaction → List ℕ
 mixed_text t = if list_any (is_mixed t.standing) t.parts.items then codes " mixed" ++ flat_map (mixed_at t.standing) t.parts.items else []
@@ -107,22 +107,22 @@ mixed_text t = if list_any (is_mixed t.standing) t.parts.items then codes " mixe
 -- ** the whole
 
 abbrev pub outcome_text : Transaction → List ℕ
-outcome_text t = standing_text t.standing ++ owed_text t ++ mixed_text t
+outcome_text t = standing_with_reason t.standing ++ owed_branches_text t ++ mixed_text t
 
 -- Each call that waits is told; where none does, how it stands.
 unfoldable pub told_text : Transaction → List ℕ
-told_text t = if has_calls t then calls_text t.parts.items else if is_decided t.standing then outcome_text t else standing_text t.standing
+told_text t = if has_calls t then calls_text t.parts.items else if is_decided t.standing then outcome_text t else standing_with_reason t.standing
 
 -- the name of the transaction that begins behind it
 abbrev pub next_text : Gtrid → List ℕ
 next_text g = codes " next " ++ gtrid_text g
 
-abbrev pub begun_text : Option Gtrid → List ℕ
-begun_text None = []
-begun_text (Some g) = next_text g
+abbrev pub next_name_text : Option Gtrid → List ℕ
+next_name_text None = []
+next_name_text (Some g) = next_text g
 
-abbrev pub reply_text : Transaction → Option Gtrid → List ℕ
-reply_text t next = told_text t ++ begun_text next
+abbrev pub move_reply_text : Transaction → Option Gtrid → List ℕ
+move_reply_text t next = told_text t ++ next_name_text next
 
 -- the reply to the move by which a thread's first transaction begins
 abbrev pub started_text : Gtrid → List ℕ

@@ -6,7 +6,7 @@ use Rattle.xa_conduct.specs.Backing.{TransactionRests}
 use Rattle.xa_conduct.specs.Moves.{ArePairedInOrder, parts_of, thread_in}
 use Rattle.xa_conduct.specs.Over.{is_all_answered}
 use Rattle.xa_conduct.specs.Progress.{IsBegun}
-use Rattle.xa_conduct.specs.Texts.{reply_text, started_text}
+use Rattle.xa_conduct.specs.Texts.{move_reply_text, started_text}
 use Rattle.xa_conduct.specs.declared.notes.Reply.{Reply}
 use Rattle.xa_conduct.specs.declared.notes.Reply.TheVariants as replies
 use Rattle.xa_conduct.specs.declared.transaction.Transaction.{Transaction}
@@ -49,7 +49,7 @@ pub record TellsSo (asked : (Request → Bool) → Bool) (noted now : List Trans
   pub among : thread < length noted
   pub name : transaction.gtrid ≡ (get_or noted thread transaction).gtrid
   pub rests : TransactionRests asked transaction
-  pub is : text ≡ reply_text transaction next
+  pub is : text ≡ move_reply_text transaction next
   pub gives : GivesWay transaction next (get_or now thread transaction)
 
 -- it says that the thread's first transaction began, by its name; or that nothing was done

@@ -2,8 +2,8 @@
 
 ghost use Rattle.std.specs.List.{flat_map, list_any};
 ghost use Rattle.std.specs.Prelude.{◌≡◌, ◌++◌, codes, OnOk, string_bytes};
-ghost use Rattle.xa_conduct.specs.Texts.{asked_at, calls_text, end_text, is_against, is_mixed};
-ghost use Rattle.xa_conduct.specs.Texts.{mixed_text, next_text, owed_text, spaced, standing_text};
+ghost use Rattle.xa_conduct.specs.Texts.{asked_number, calls_text, ended_alone_text, is_against, is_mixed};
+ghost use Rattle.xa_conduct.specs.Texts.{mixed_text, next_text, owed_branches_text, spaced_number, standing_with_reason};
 ghost use Rattle.xa_conduct.specs.Texts.{told_text, why_text};
 
 use crate::part::Part;
@@ -14,7 +14,7 @@ use xa_base::{Gtrid, How, Memory, RbCode};
 /// Adds a number.
 #[tactic(auto, using(xa_files::proofs::Pieces::four_pieces))]
 fn add_number(text: &mut String, alloc: Global, number: u32) -> Result<(), Memory>
-    ensures { OnOk result (string_bytes text.new ≡ string_bytes text.old ++ spaced number) }
+    ensures { OnOk result (string_bytes text.new ≡ string_bytes text.old ++ spaced_number number) }
 {
     let word = format!(in alloc; " {number}")?;
     text.push_str(word.as_str())?;
@@ -34,7 +34,7 @@ fn add_calls(text: &mut String, alloc: Global, transaction: &Transaction) -> Res
 /// Adds the resource managers of the branches that were told a call.
 fn add_asked(text: &mut String, alloc: Global, transaction: &Transaction) -> Result<(), Memory>
     ensures { OnOk result (string_bytes text.new
-        ≡ string_bytes text.old ++ flat_map asked_at transaction.now.parts.items) }
+        ≡ string_bytes text.old ++ flat_map asked_number transaction.now.parts.items) }
 {
     for part in transaction.parts.as_slice() {
         if part.place.is_asked() {
@@ -47,7 +47,7 @@ fn add_asked(text: &mut String, alloc: Global, transaction: &Transaction) -> Res
 /// Adds how it stands.
 fn add_standing(text: &mut String, alloc: Global, standing: Standing) -> Result<(), Memory>
     ensures { OnOk result
-        (string_bytes text.new ≡ string_bytes text.old ++ standing_text standing) }
+        (string_bytes text.new ≡ string_bytes text.old ++ standing_with_reason standing) }
 {
     match standing {
         Standing::Idle | Standing::Open | Standing::Ready => {
@@ -117,7 +117,7 @@ fn has_mixed(transaction: &Transaction) -> bool
 /// Adds the branches whose end is left to the recovery.
 fn add_owed(text: &mut String, alloc: Global, transaction: &Transaction) -> Result<(), Memory>
     ensures { OnOk result
-        (string_bytes text.new ≡ string_bytes text.old ++ owed_text transaction.now) }
+        (string_bytes text.new ≡ string_bytes text.old ++ owed_branches_text transaction.now) }
 {
     if !transaction.has_left() {
         return Ok(());
@@ -152,7 +152,7 @@ fn add_mixed(text: &mut String, alloc: Global, transaction: &Transaction) -> Res
 #[tactic(auto, using(xa_files::proofs::Pieces::four_pieces))]
 fn add_end(text: &mut String, alloc: Global, part: &Part) -> Result<(), Memory>
     ensures { OnOk result
-        (string_bytes text.new ≡ string_bytes text.old ++ end_text part.now.rm part.now.alone) }
+        (string_bytes text.new ≡ string_bytes text.old ++ ended_alone_text part.now.rm part.now.alone) }
 {
     let Some(how) = part.alone else {
         return Ok(());

@@ -9,7 +9,7 @@ ghost use Rattle.xa_conduct.specs.Decided.{AsksNoLess, is_same};
 ghost use Rattle.xa_conduct.specs.Moves.{AreMovedOnce, ArePairedInOrder, is_reply_to};
 ghost use Rattle.xa_conduct.specs.Over.{is_all_answered};
 ghost use Rattle.xa_conduct.specs.Progress.{AllStep};
-ghost use Rattle.xa_conduct.specs.Texts.{begun_text};
+ghost use Rattle.xa_conduct.specs.Texts.{next_name_text};
 ghost use Rattle.xa_conduct.specs.Told.{AddsText, AreRepliesTold, GivesWay, HasNext, IsSameAt, IsToldBy};
 ghost use Rattle.xa_conduct.specs.Turns.{AllPass, IsSaid, Passes, SaysAll};
 ghost use Rattle.xa_conduct.specs.declared.notes.Reply.{Reply};
@@ -318,7 +318,7 @@ fn add_begun(
     ensures moved { IfOk result (λ _. transaction.old.has_moved ≡ false →
         transaction.new.has_moved ≡ false) }
     ensures adds { IfOk result (λ _. string_bytes text.new
-        ≡ string_bytes text.old ++ begun_text next) }
+        ≡ string_bytes text.old ++ next_name_text next) }
 {
     let Some(gtrid) = next else {
         return Ok(());
