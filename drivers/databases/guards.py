@@ -13,7 +13,7 @@ import textwrap
 import threading
 import time
 
-from moments import before_a_move, behind_the_decision
+from moments import before_a_move, behind_the_decision, beside, lines
 from servers import MariaDBServer, PostgreSQLServer
 from world import HERE, TOP
 
@@ -126,9 +126,8 @@ class Guards:
         def gone():
             # All is gone but what is on disk.
             xa._session.coordinator.kill()
-            for lines in xa._session._lines:
-                for line in lines:
-                    line.close()
+            for line in lines(xa):
+                line.close()
 
         behind_the_decision(xa, gone)
         with contextlib.suppress(XaError), xa.transaction() as t:
@@ -347,11 +346,8 @@ class Guards:
             self.write(long, "long")
             with contextlib.suppress(Exception), xa.transaction(independent=True) as t:
                 self.write(t, "lost")
-                self.world.servers[0].database().end_connections(
-                    [line.connection.number for line in xa._session.lines_to(xa._session._rms[0])
-                     if line.connection is not None and line is not t._hands.parts[0].line],
-                    xa._session._rms[0].place,
-                )  # fmt: skip
+                line = t._hands.parts[0].line
+                self.world.servers[0].database().end_connections(beside(xa, line), line.rm.place)
                 self.write(t, "lost 2")
             begun = time.monotonic()
             for number in range(20):

@@ -1,5 +1,5 @@
-"""Stories over two databases by what Python's programs use: SQLAlchemy, asyncio, and the command `python -m garterfossil` after a
-driver was killed. Each is looked at in the databases."""
+"""Stories over two databases by what Python's programs use: SQLAlchemy, asyncio, the command `python -m garterfossil` after a
+driver was killed, and the examples of the driver's page. Each is looked at in the databases."""
 
 import asyncio
 import json
@@ -9,6 +9,7 @@ import subprocess
 import sys
 import textwrap
 
+import readme
 from world import ACCOUNTS, TOP
 
 from garterfossil import RolledBack
@@ -220,4 +221,4 @@ def run(world):
     libraries.command()
     found = world.look_at_doubt()
     print(f"libraries: {libraries.stories} stories, {libraries.wrong} wrong, {found} in doubt at the end")
-    return libraries.wrong + found
+    return libraries.wrong + found + readme.run(world)

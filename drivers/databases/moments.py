@@ -12,9 +12,23 @@ def before_a_move(xa, verb, do):
 def before_a_call(xa, name, do):
     """Before the next call of this name is made at a database, on a connection that is there."""
     left = [do]
-    for lines in xa._session._lines:
-        for connection in (line.connection for line in lines if line.connection is not None):
-            connection.do, connection.send = before(connection.do, name, left), before(connection.send, name, left)
+    for connection in connections(lines(xa)):
+        connection.do, connection.send = before(connection.do, name, left), before(connection.send, name, left)
+
+
+def lines(xa):
+    """The lines of the session's threads."""
+    return [line for thread in xa._session.threads.all_of_them for line in thread.lines]
+
+
+def connections(some):
+    """The connections that these lines have."""
+    return [line.connection for line in some if line.connection is not None]
+
+
+def beside(xa, line):
+    """The numbers of the other lines' connections to the same database."""
+    return [one.number for one in connections(other for other in lines(xa) if other.rm is line.rm and other is not line)]
 
 
 def behind_the_decision(xa, do):

@@ -10,7 +10,7 @@ import time
 from garterfossil import Code, HeuristicEnd, Outcome, OutcomeUnknown, RolledBack, SetupError, XaError, Xid
 from garterfossil.adapters.base import Place
 from garterfossil.adapters.postgresql import PostgreSQL
-from moments import before_a_call, before_a_move, behind_the_decision
+from moments import before_a_call, before_a_move, behind_the_decision, beside
 from proxy import Proxy
 from world import ACCOUNTS
 
@@ -45,6 +45,10 @@ class Tour:
         return found
 
     def told(self, name, t, wanted):
+        # On a busy machine what is owed comes later than the half second for which a block waits.
+        until = time.monotonic() + 10
+        while self.xa.counts()["owed"] and time.monotonic() < until:
+            time.sleep(0.05)
         found = self.holds(t.gtrid)
         self.stories += 1
         self.wrong += found != wanted
@@ -72,9 +76,7 @@ class Tour:
     def lose(self, t, rm):
         """The connection of a branch is ended at the database, and what it had under way with it."""
         line = t._hands.parts[rm].line
-        others = [other.connection.number for other in self.xa._session.lines_to(line.rm)
-                  if other.connection not in (None, line.connection)]
-        self.world.servers[rm].database().end_connections(others, line.rm.place)
+        self.world.servers[rm].database().end_connections(beside(self.xa, line), line.rm.place)
 
     # ** stories
 
@@ -184,7 +186,7 @@ class Tour:
 
     def freeze(self, t, xa):
         """A driver stops, and keeps its connections."""
-        for line in xa._session._lines[t._thread]:
+        for line in t._thread.lines:
             self.frozen.append(line.connection)
             line.connection = None
         xa._session.coordinator.kill()
