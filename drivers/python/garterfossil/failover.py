@@ -9,8 +9,8 @@ from contextlib import closing
 
 from .configuration import Configuration
 from .errors import SetupError
-from .logs import WORKER, run_log
-from .mirror import Mirrored, Tables, managers_in
+from .logs import WORKER, Log, run_log
+from .mirror import Tables, managers_in
 
 
 def fail_over(configuration: Configuration, only: str | None = None) -> Iterator[tuple[str, str, int]]:
@@ -52,7 +52,7 @@ def _path_here(pattern: str, path: str) -> str | None:
     return os.path.join(folder, there) if re.fullmatch("[0-9]+".join(parts), there) else None
 
 
-def make_log(program: str, path: str, found: Mirrored) -> None:
+def make_log(program: str, path: str, found: Log) -> None:
     """Makes a log of what a mirror holds."""
     done = run_log(program, path, "--make", text="".join(f"{line}\n" for line in found.lines()), seconds=None)
     if done.returncode != 0:

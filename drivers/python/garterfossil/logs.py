@@ -86,6 +86,15 @@ class Log:
         """The name of its manager, if it has one."""
         return "" if self.names is None else self.names.manager
 
+    def lines(self) -> list[str]:
+        """The lines of which `xatm log --make` makes such a log."""
+        names = self.names or Names()
+        lines = [f"name {names.manager}"] if names.manager else []
+        lines += [f"rm {number} {rm}" for number, rm in enumerate(names.rms)]
+        lines.append(f"incarnation {self.incarnation}")
+        lines += [" ".join([gtrid, str(len(xids)), *map(str, xids)]) for gtrid, xids in sorted(self.decisions.items())]
+        return [*lines, "end"]
+
     @classmethod
     def at(cls, program: str, path: str, is_explained: bool = False) -> Log:
         """What is in the log at a path: the heuristic ends, or if it is explained, the branches that decisions wait for. A look changes

@@ -8,7 +8,6 @@ import os
 import threading
 from collections.abc import Collection, Iterator, Mapping, Sequence
 from concurrent.futures import Future
-from dataclasses import dataclass
 
 from .adapters.base import Connection, Database, Place
 from .databases import MOST
@@ -26,26 +25,6 @@ AT_ONCE = 8
 #: By how much a failover raises the incarnation: more than the starts that the mirror may not have been told of, one for each process that
 #: waits for the log.
 MARGIN = 100
-
-
-@dataclass(frozen=True)
-class Mirrored:
-    """What the mirror holds of a manager."""
-
-    names: Names
-    #: The path of its log, where that was.
-    log: str
-    incarnation: int
-    #: The transactions that are decided to commit, in their order, each with its participants.
-    decisions: Mapping[str, Sequence[str]]
-
-    def lines(self) -> list[str]:
-        """The lines of which `xatm log --make` makes the log."""
-        lines = [f"name {self.names.manager}"] if self.names.manager else []
-        lines += [f"rm {number} {rm}" for number, rm in enumerate(self.names.rms)]
-        lines.append(f"incarnation {self.incarnation}")
-        lines += [" ".join([gtrid, str(len(xids)), *xids]) for gtrid, xids in sorted(self.decisions.items())]
-        return [*lines, "end"]
 
 
 class Tables:
@@ -124,22 +103,21 @@ class Tables:
         """Sets the incarnation of the manager."""
         connection.run("UPDATE garterfossil_manager SET incarnation = %s WHERE name = %s", [incarnation, self._place.manager])
 
-    def decisions(self, connection: Connection) -> dict[str, list[str]]:
+    def decisions(self, connection: Connection) -> dict[str, list[Xid]]:
         """The manager's transactions that are decided to commit, each with its branches."""
         rows = connection.run("SELECT gtrid, branches FROM garterfossil_decision WHERE name = %s", [self._place.manager]).rows
-        return {gtrid: branches.split() for gtrid, branches in rows}
+        return {gtrid: [Xid.parse(branch) for branch in branches.split()] for gtrid, branches in rows}
 
-    def take_over(self) -> Mirrored:
-        """What the mirror holds of the manager. From now on the session that had it can't decide any more: its incarnation is over."""
+    def take_over(self) -> Log:
+        """The log of the manager, as the mirror holds it. From now on the session that had it can't decide any more: its incarnation is over."""
         with self.at_once() as connection:
             before = self.incarnation(connection)
             if before is None:
                 raise SetupError(f"the mirror knows no manager {self._place.manager}")
             self.set_incarnation(connection, before + MARGIN)
-            statement = "SELECT log, rms FROM garterfossil_manager WHERE name = %s"
-            path, rms = connection.run(statement, [self._place.manager]).rows[0]
-            decisions = self.decisions(connection)
-        return Mirrored(Names(self._place.manager, tuple(rms.split())), path, before + MARGIN, decisions)
+            rows = connection.run("SELECT rms FROM garterfossil_manager WHERE name = %s", [self._place.manager]).rows
+            names = Names(self._place.manager, tuple(rows[0][0].split()))
+            return Log(before + MARGIN, self.decisions(connection), names=names)
 
 
 @contextlib.contextmanager
@@ -201,12 +179,12 @@ class Mirror:
             )
 
     def _see_decisions(
-        self, mirrored: Mapping[str, Sequence[str]], kept: Log, listings: Sequence[Sequence[Xid] | None]
+        self, mirrored: Mapping[str, Sequence[Xid]], kept: Log, listings: Sequence[Sequence[Xid] | None]
     ) -> set[str]:
         """Of what the mirror holds and the log doesn't, the transactions that are surely over: their rows left the log as they left it, and
         only the mirror wasn't told. Raises SetupError if a database still lists a branch of one: then the log is the older one."""
         over = set()
-        listed = {str(xid) for listing in listings for xid in listing or ()}
+        listed = {xid for listing in listings for xid in listing or ()}
         for gtrid, xids in mirrored.items():
             if gtrid in kept.decisions:
                 continue
@@ -215,8 +193,7 @@ class Mirror:
                     f"the log {self._path} is older than its mirror, which has decided to commit {gtrid}, of which the log knows nothing:"
                     " put the right one back, or make it of the mirror (python -m garterfossil failover)"
                 )
-            places = [int(xid[-8:], 16) for xid in xids]
-            if all(place < len(listings) and listings[place] is not None for place in places):
+            if all(xid.rm < len(listings) and listings[xid.rm] is not None for xid in xids):
                 over.add(gtrid)
         return over
 

@@ -238,7 +238,7 @@ class Runs(Case):
     def test_a_transaction_that_waits_for_something_else_keeps_no_locks_after_its_timeout(self):
         with self.manager() as xa:
             with self.assertRaises(RolledBack) as raised:
-                with xa.transaction(timeout=0.2) as t:
+                with xa.transaction(timeout=1.0) as t:
                     t[0].execute("take")
                     t[1].execute("give")
                     for database in (self.left, self.right):
