@@ -12,6 +12,7 @@ import java.util.concurrent.ExecutionException;
 import java.util.concurrent.Semaphore;
 import java.util.concurrent.TimeUnit;
 import java.util.concurrent.TimeoutException;
+import java.util.concurrent.atomic.AtomicInteger;
 import java.util.concurrent.locks.ReentrantLock;
 import javax.transaction.xa.XAException;
 import javax.transaction.xa.XAResource;
@@ -41,12 +42,14 @@ final class ResourceManager {
     private final ReentrantLock connecting = new ReentrantLock();
     private CompletableFuture<Link> pending;
     private long pendingSince;
+    private int pendingStrays;
     private final Set<Long> kept = ConcurrentHashMap.newKeySet();
     // Those of them that are lent for work outside of transactions.
     private final Set<Long> outside = ConcurrentHashMap.newKeySet();
-    // Connections that are no one's any more may be there: those of earlier managers, and later
-    // those that were lost.
-    private volatile boolean hasStrays;
+    // How often connections came to be no one's any more: those of earlier managers, and later those
+    // that were lost; and how many of these times all of them are known to be gone.
+    private final AtomicInteger strays;
+    private volatile int ended;
 
     ResourceManager(int number, Resource resource) {
         this(number, resource, true);
@@ -54,7 +57,7 @@ final class ResourceManager {
 
     /** Of one that only looks no connections are to be ended. */
     ResourceManager(int number, Resource resource, boolean hasStrays) {
-        this.hasStrays = hasStrays;
+        strays = new AtomicInteger(hasStrays ? 1 : 0);
         this.number = number;
         this.resource = resource;
         pooling = resource.pooling();
@@ -218,7 +221,7 @@ final class ResourceManager {
                 throw new TimeoutException();
             }
             // One that was begun before another connection was lost hasn't seen that this is gone.
-            if (hasStrays || System.nanoTime() - pendingSince > LONGEST) {
+            if (pendingStrays != strays.get() || System.nanoTime() - pendingSince > LONGEST) {
                 giveUpPending();
             }
             if (pending == null) {
@@ -250,11 +253,13 @@ final class ResourceManager {
 
     private CompletableFuture<Link> begun() {
         CompletableFuture<Link> made = new CompletableFuture<>();
+        int seen = strays.get();
+        pendingStrays = seen;
         Aside.run(() -> {
             try {
-                if (hasStrays) {
-                    hasStrays = false;
-                    endStrays();
+                if (ended != seen) {
+                    resource.endOthers(Collections.unmodifiableSet(kept));
+                    ended = seen;
                 }
                 made.complete(resource.connect());
             } catch (Fault.Lost | RuntimeException | Error error) {
@@ -274,23 +279,12 @@ final class ResourceManager {
 
     /** A connection of another pool is no one's any more. */
     void noteStray() {
-        hasStrays = true;
+        strays.incrementAndGet();
     }
 
+    /** Whether one may be there still: also while it is being ended. */
     boolean hasStrays() {
-        return hasStrays;
-    }
-
-    private void endStrays() throws Fault.Lost {
-        boolean isDone = false;
-        try {
-            resource.endOthers(Collections.unmodifiableSet(kept));
-            isDone = true;
-        } finally {
-            if (!isDone) {
-                hasStrays = true;
-            }
-        }
+        return ended != strays.get();
     }
 
     /** The connection is closed, and before the next one is made it is seen that it is gone. */
@@ -299,7 +293,7 @@ final class ResourceManager {
             link.close();
         } finally {
             kept.remove(link.number());
-            hasStrays = true;
+            noteStray();
         }
     }
 
@@ -317,7 +311,7 @@ final class ResourceManager {
         old.forEach(it -> it.link.close());
         kept.retainAll(outside);
         resource.startAnew();
-        hasStrays = true;
+        noteStray();
         if (connecting.tryLock()) {
             // It would be taken for one of the last session's.
             giveUpPending();

@@ -1,7 +1,9 @@
 package garterfossil;
 
 import static org.junit.Assert.assertEquals;
+import static org.junit.Assert.assertFalse;
 import static org.junit.Assert.assertThrows;
+import static org.junit.Assert.assertTrue;
 
 import java.time.Duration;
 import java.util.concurrent.CountDownLatch;
@@ -23,6 +25,20 @@ public class ResourceManagerTest {
         rm.startAnew();
         mayGoOn.countDown();
         rm.connect(Duration.ofSeconds(5));
+        assertEquals(2, resource.calls.stream().filter("endOthers"::equals).count());
+    }
+
+    @Test
+    public void oneThatIsBeingEndedIsThere() throws Exception {
+        rm.discard(rm.connect(Duration.ofSeconds(5)));
+        CountDownLatch mayGoOn = new CountDownLatch(1);
+        resource.beforeEnd = () -> World.await(mayGoOn);
+        assertThrows(Fault.Lost.class, () -> rm.connect(Duration.ofMillis(200)));
+        // Else a recovery would go on, and what runs on the one that was lost be done after it.
+        assertTrue(rm.hasStrays());
+        mayGoOn.countDown();
+        rm.connect(Duration.ofSeconds(5));
+        assertFalse(rm.hasStrays());
         assertEquals(2, resource.calls.stream().filter("endOthers"::equals).count());
     }
 }

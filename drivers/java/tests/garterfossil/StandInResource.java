@@ -32,8 +32,11 @@ final class StandInResource implements Resource {
     volatile boolean isDown;
     /** Whether connections that are made from now on take xa_end and xa_prepare by one request. */
     volatile boolean isPreparedAtEnd;
-    /** Before each call; before a connection is made; and before one is made as new. */
-    volatile Runnable before = () -> { }, beforeConnect = () -> { }, beforeReset = () -> { };
+    /**
+     * Before each call; before a connection is made, and before others are ended for that; and
+     * before one is made as new.
+     */
+    volatile Runnable before = () -> { }, beforeConnect = () -> { }, beforeEnd = () -> { }, beforeReset = () -> { };
     volatile Duration patience = Duration.ofSeconds(10);
     /** What it calls itself; null if it has nothing of the kind. */
     volatile String identity;
@@ -97,6 +100,7 @@ final class StandInResource implements Resource {
 
     @Override
     public void endOthers(Set<Long> kept) throws Fault.Lost {
+        beforeEnd.run();
         if (isDown) {
             throw new Fault.Lost("down", null);
         }
