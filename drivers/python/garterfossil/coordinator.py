@@ -195,10 +195,23 @@ class Coordinator:
             self._write()
 
     def _write(self) -> None:
-        """Writes what is unwritten, by as few lines as may be: a thread moves once on a line. A line is written whole, or the session is
-        over. Called with the lock `_posting`."""
-        self._is_due = False
-        replies, self._unwritten = self._unwritten, []
+        """Writes what is unwritten. All of it is written, or the session is over. Called with the lock `_posting`."""
+        with self._whole():
+            self._is_due = False
+            replies, self._unwritten = self._unwritten, []
+            lines = self._lines_of(replies)
+            texts = [AND.join(reply.move for reply in line) for line in lines]
+            self._under_way.extend(lines)
+            self._asked += sum(any(reply.is_asked for reply in line) for line in lines)
+            if log.isEnabledFor(logging.DEBUG):
+                for text in texts:
+                    log.debug("> %s", text)
+            # While it is stopped it reads nothing, and what is full of moves takes none.
+            self._socket.sendall("".join(f"{text}\n" for text in texts).encode("ascii"))
+
+    @staticmethod
+    def _lines_of(replies: Iterable[Reply]) -> list[list[Reply]]:
+        """Moves by as few lines as may be: a thread moves once on a line."""
         lines: list[list[Reply]] = []
         length = 0
         for reply in replies:
@@ -209,21 +222,16 @@ class Coordinator:
             else:
                 lines.append([reply])
                 length = len(reply.move)
-        texts = [AND.join(reply.move for reply in line) for line in lines]
-        self._under_way.extend(lines)
-        self._asked += sum(any(reply.is_asked for reply in line) for line in lines)
-        if log.isEnabledFor(logging.DEBUG):
-            for text in texts:
-                log.debug("> %s", text)
-        with self._whole():
-            # While it is stopped it reads nothing, and what is full of moves takes none.
-            self._socket.sendall("".join(f"{text}\n" for text in texts).encode("ascii"))
+        return lines
 
     @contextlib.contextmanager
     def _whole(self) -> Iterator[None]:
-        """A block that writes or reads: if it fails, or is interrupted, the session is over."""
+        """A block that writes, or reads and gives out what it read: if it fails, or is interrupted, the session is over. Else the next
+        reply would pass for that to an earlier move."""
         try:
             yield
+        except CoordinatorGone:
+            raise
         except BlockingIOError:
             raise self._silent() from None
         except (OSError, ValueError) as error:
@@ -269,8 +277,9 @@ class Coordinator:
         self._is_read = True
         self._reading.release()
         try:
-            for line in self._read_lines():
-                self._take(line)
+            with self._whole():
+                for line in self._read_lines():
+                    self._take(line)
             with self._posting:
                 if self._is_due and not self._asked:
                     self._write()

@@ -13,6 +13,7 @@ from unittest import mock
 
 from garterfossil.coordinator import Coordinator
 from garterfossil.errors import CoordinatorGone, LogInUse, NotNow, SetupError
+from garterfossil.logger import log
 from garterfossil.xid import Xid
 
 ECHO = """
@@ -91,6 +92,20 @@ class Coordinators(unittest.TestCase):
             coordinator.wait(second)
         self.assertEqual(coordinator.wait(first), "one")
         self.assertTrue(coordinator.is_gone)
+
+    def test_a_reader_or_a_writer_that_is_broken_off_ends_the_session(self):
+        # Else the next reply would pass for that to an earlier move.
+        for sign in "><":
+            coordinator = process(ECHO)
+
+            def fails(text, *_, sign=sign):
+                if text.startswith(sign):
+                    raise RecursionError
+
+            with mock.patch.object(log, "isEnabledFor", lambda _: True), mock.patch.object(log, "debug", fails):
+                with self.assertRaises(RecursionError):
+                    coordinator.ask("one", 1)
+            self.assertTrue(coordinator.is_gone, sign)
 
     def test_a_line_that_nobody_asked_for_ends_the_session(self):
         coordinator = process(ECHO.replace("print(says", "print(2 * (says + chr(10))"))
