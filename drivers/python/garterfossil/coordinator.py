@@ -82,9 +82,11 @@ class Coordinator:
         self._asked = 0
         # Whether one of the first is to be written as soon as no reply is waited for.
         self._is_due = False
-        # Whether a thread reads; and what wakes those that wait meanwhile, by what they wait for. Both under the lock `_reading`.
+        # Whether a thread reads, how often one has read, and what wakes those that wait meanwhile, by what they wait for. All under the
+        # lock `_reading`.
         self._reading = threading.RLock()
         self._is_read = False
+        self._readings = 0
         self._asleep: dict[Reply, threading.Condition] = {}
         # The beginning of a line whose end has yet to come.
         self._begun = b""
@@ -259,9 +261,10 @@ class Coordinator:
     def _sleep(self, reply: Reply) -> None:
         """Sleeps until it is woken. Called with the lock `_reading`, which is free meanwhile."""
         woken = self._asleep.setdefault(reply, threading.Condition(self._reading))
+        readings = self._readings
         try:
-            # Who reads ends with a reply, or with the session.
-            if not woken.wait(2 * self._patience + LONGEST_END):
+            # Who reads ends with a reply, or with the session. Many replies may come before this one.
+            if not woken.wait(2 * self._patience + LONGEST_END) and readings == self._readings:
                 self._silent()
         finally:
             self._asleep.pop(reply, None)
@@ -286,6 +289,7 @@ class Coordinator:
         finally:
             self._reading.acquire()
             self._is_read = False
+            self._readings += 1
             self._wake([reply for reply in self._asleep if reply.words is not None])
 
     def _take(self, line: str) -> None:

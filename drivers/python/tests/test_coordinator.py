@@ -181,6 +181,17 @@ class Coordinators(unittest.TestCase):
         # Seven wait while one reads. Each is woken for its reply, or before that to read in place of one whose reply came.
         self.assertLessEqual(len(woken), 14)
 
+    def test_one_that_is_slow_and_replies_is_waited_for(self):
+        slow = ECHO.replace("import sys", "import sys, time").replace("print(says", "time.sleep(0.5); print(says")
+        with mock.patch("garterfossil.coordinator.LONGEST_END", 0):
+            coordinator = Coordinator([sys.executable, "-c", slow], patience=2.0)
+            replies = [coordinator.post(f"join {number}", number) for number in range(11)]
+            # The last one sleeps longer than a silent one is waited for, since another thread reads.
+            with ThreadPoolExecutor(2) as pool:
+                waits = [pool.submit(coordinator.wait, reply) for reply in replies[-2:]]
+                self.assertEqual([it.result() for it in waits], ["echo join 9", "echo join 10"])
+        coordinator.kill()
+
     def test_one_that_is_stopped_is_waited_for_no_longer_than_the_patience(self):
         # A reply that never comes, to who reads and to who waits for that one; and a pipe that is full.
         for lines in (1, 3, 4000):
