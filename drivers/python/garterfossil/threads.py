@@ -58,7 +58,7 @@ class Line:
 
     def close(self) -> None:
         """Closes the connection, in a session that is over."""
-        self._leave(Connection.close)
+        self._leave(lambda connection: connection.close())
 
     def _leave(self, end: Callable[[Connection], None]) -> None:
         connection, self.connection = self.connection, None
