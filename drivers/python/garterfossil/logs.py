@@ -40,7 +40,7 @@ WORKER, MOST_WORKERS = "{worker}", 1024
 #: several machines, and those that are gone after a stop.
 MOUNTS = "/proc/self/mountinfo"
 SHARED = ("nfs", "nfs4", "cifs", "smb3", "fuse.sshfs", "fuse.glusterfs")
-PASSING = ("overlay", "tmpfs", "ramfs")
+SHORT_LIVED = ("overlay", "tmpfs", "ramfs")
 
 
 class LookKilled(SetupError):
@@ -180,7 +180,7 @@ def see_place(path: str) -> None:
     kind = _kind_of_place(os.path.dirname(os.path.abspath(path)))
     if kind in SHARED:
         log.warning("the log %s lies on %s: nothing sees there whether a program of another machine has it too", path, kind)
-    elif kind in PASSING:
+    elif kind in SHORT_LIVED:
         lost = "the log %s lies on %s, and is lost with the container or the machine: what is prepared then waits for somebody"
         log.warning(lost, path, kind)
 

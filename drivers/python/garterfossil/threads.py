@@ -16,7 +16,7 @@ from .logger import log
 from .resource_manager import ResourceManager
 
 #: Whoever waits looks after so many seconds whether he is still waited for.
-GLANCE = 0.2
+LOOK = 0.2
 #: How a reply ends that tells a number's next transaction.
 NEXT = re.compile(r" next ([0-9a-f]{32})\Z")
 
@@ -128,7 +128,7 @@ class Threads:
         with self._change:
             self.waiting += 1
             try:
-                while not self._change.wait_for(self._has_one, min(GLANCE, until - time.monotonic())):
+                while not self._change.wait_for(self._has_one, min(LOOK, until - time.monotonic())):
                     if is_given_up() or time.monotonic() >= until:
                         raise Overdue("all threads of the coordinator are in use")
             finally:

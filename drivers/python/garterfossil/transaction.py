@@ -252,7 +252,7 @@ class Transaction:
         text = f"{label} voted {told.code.name}" if part.error is None else f"the connection to {label} was lost"
         return self._reason(part, text, told.code)
 
-    # ** its end
+    # ** how it ended
 
     def _roll_back(self) -> None:
         """Ends each branch by a rollback. Nothing of it is in the log."""
