@@ -20,8 +20,8 @@ from .xid import Xid
 MANAGERS = "garterfossil_manager (name {16} PRIMARY KEY, log text NOT NULL, rms text NOT NULL, incarnation bigint NOT NULL)"
 DECISIONS = "garterfossil_decision (name {16} NOT NULL, gtrid {32} NOT NULL, branches text NOT NULL, PRIMARY KEY (name, gtrid))"
 
-#: So many rows leave at once.
-AT_ONCE = 8
+#: So many rows leave at once, and so many by one statement at most.
+AT_ONCE, MOST_REMOVED = 8, 256
 #: By how much a failover raises the incarnation: more than the starts that the mirror may not have been told of, one for each process that
 #: waits for the log.
 MARGIN = 100
@@ -90,9 +90,12 @@ class Tables:
         return connection.run(statement, [*words, self._place.manager, incarnation]).rowcount
 
     def remove(self, connection: Connection, gtrids: Collection[str]) -> None:
-        """Takes these decisions away, of which there is one at least."""
-        which = f"gtrid IN ({', '.join(['%s'] * len(gtrids))})"
-        connection.run(f"DELETE FROM garterfossil_decision WHERE name = %s AND {which}", [self._place.manager, *gtrids])
+        """Takes these decisions away, some by each statement: no database takes any number of parameters."""
+        left = list(gtrids)
+        while left:
+            some, left = left[:MOST_REMOVED], left[MOST_REMOVED:]
+            which = f"gtrid IN ({', '.join(['%s'] * len(some))})"
+            connection.run(f"DELETE FROM garterfossil_decision WHERE name = %s AND {which}", [self._place.manager, *some])
 
     def incarnation(self, connection: Connection) -> int | None:
         """The incarnation of the manager, which stays as it is until the transaction ends. None, if the mirror doesn't know it."""
@@ -209,9 +212,7 @@ class Mirror:
                 raise self._older(incarnation, before)
             self._note(connection, incarnation, before is None)
             held = set(self._adding.decisions(connection))
-            over = held & self._over - set(decisions)
-            if over:
-                self._adding.remove(connection, over)
+            self._adding.remove(connection, held & self._over - set(decisions))
             new = [decision for decision in decisions.items() if decision[0] not in held]
             if new:
                 self._adding.insert(connection, new, incarnation)

@@ -229,6 +229,15 @@ class Mirrors(Case):
                 self.move(xa)
         self.assertEqual(self.started(), 1)
 
+    def test_many_rows_leave_by_statements_that_a_database_takes(self):
+        self.manager().close()
+        with sqlite3.connect(self.mirror.path) as it:
+            for gtrid in (f"{number:032x}" for number in range(1000)):
+                it.execute("INSERT INTO garterfossil_decision SELECT name, ?, ? FROM garterfossil_manager", [gtrid, f"7:{gtrid}:{1:016x}"])
+        self.manager().close()
+        self.assertEqual(self.mirror.decided(), [])
+        self.assertLess(max(statement.count("%s") for statement in self.mirror.statements), 300)
+
     def test_starts_that_the_mirror_was_not_told_of_are_fewer_than_a_failover_adds(self):
         self.manager().close()
         for _ in range(3):
