@@ -261,7 +261,10 @@ class Coordinator {
             }
             isPutOff = mayWait ? isPutOff : isLeft;
         } catch (IOException error) {
-            process.destroyForcibly();
+            // Mostly it has ended by itself. To destroy it would close what it has replied.
+            if (!Aside.<Boolean, RuntimeException>uninterrupted(() -> process.waitFor(1, TimeUnit.SECONDS))) {
+                process.destroyForcibly();
+            }
         } catch (RuntimeException | Error error) {
             // What was taken to be written may never be, and others wait for its replies.
             failed(error);

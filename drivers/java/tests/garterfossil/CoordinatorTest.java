@@ -123,4 +123,18 @@ public class CoordinatorTest {
         assertTrue(coordinator.isGone());
         assertEquals("the coordinator is gone: a reason", coordinator.lost().getMessage());
     }
+
+    @Test
+    public void whatItRepliedBeforeItEndedIsRead() throws Exception {
+        Process[] ended = new Process[1];
+        coordinator = new Coordinator(words -> ended[0] = Coordinator.start(words),
+            List.of("sh", "-c", "echo restarted 1 0 0; read move; echo committed"), Duration.ofSeconds(20));
+        Coordinator.Reply first = coordinator.post("tell 1 0 0"), second = coordinator.post("tell 2 0 0");
+        coordinator.flush();
+        ended[0].waitFor();
+        Coordinator.Reply last = coordinator.post("tell 3 0 0");
+        assertThrows(Fault.Gone.class, () -> coordinator.await(last));
+        assertEquals("committed", coordinator.await(first));
+        assertThrows(Fault.Gone.class, () -> coordinator.await(second));
+    }
 }
