@@ -132,6 +132,8 @@ def _printed(program: str, path: str, *options: str) -> tuple[list[str], str]:
     if done.returncode < 0:
         # It may have printed only a part.
         raise LookKilled(f"{program} was ended by the signal {-done.returncode}, while it read the log {path}")
+    if done.stdout and not done.stdout.endswith("\n"):
+        raise LookKilled(f"{program} was ended while it told a line of the log {path}")
     return done.stdout.splitlines(), done.stderr.strip()
 
 

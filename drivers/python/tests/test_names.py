@@ -201,6 +201,20 @@ class Kept(Case):
             self.assertEqual(list(map(str, found[gtrid])), [f"7:{gtrid}:0000000100000000"])
             os.remove(f"{self.folder}/once")
 
+    def test_a_look_that_ends_within_a_line_is_made_again(self):
+        program, gtrid = os.path.join(self.folder, "is_cut"), "0" * 15 + "1" + "0" * 15 + "1"
+        says = f"incarnation 3\\n{gtrid} is decided to commit, and its row "
+        with open(program, "w") as it:
+            it.write(
+                f"#!/bin/sh\nprintf '{says}'\n[ -e {self.folder}/once ] || {{ touch {self.folder}/once; exit 0; }}\n"
+                f"printf 'waits for 1 branch:\\n    7:{gtrid}:0000000100000000 at resource manager 0\\n'\n"
+            )
+        os.chmod(program, 0o755)
+        with open(self.log, "wb") as it:
+            it.write(b"SQLite format 3\0")
+        found = log_at_rest(program, self.log, 5.0).decisions
+        self.assertEqual(list(map(str, found[gtrid])), [f"7:{gtrid}:0000000100000000"])
+
     def test_a_log_that_was_in_use_as_it_was_looked_at_is_looked_at_again(self):
         program = os.path.join(self.folder, "in_use")
         # Its look takes longer than a moment, and it is shown as a copy has it.
