@@ -398,7 +398,8 @@ class Guards:
             for server in self.world.servers:
                 kind = "mariadb" if isinstance(server, MariaDBServer) else "postgresql"
                 it.write(f'[[database]]\nkind = "{kind}"\n{server.in_toml()}\n')
-        with self.started("under load", 60) as program:
+        # A look may take ten seconds, and longer on a busy machine.
+        with self.started("under load", 600) as program:
             program.stdout.readline()
             words = [sys.executable, "-m", "garterfossil", "status", "--config", path]
             found = []
