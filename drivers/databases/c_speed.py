@@ -33,7 +33,7 @@ def see(world, folder, threads, seconds, rounds):
     rates = {way: statistics.median(rate for rate, _, _ in found[way]) for way in WAYS}
     own, coordinator = (statistics.median(it[place] for it in found["tx"]) for place in (1, 2))
     texts = ", ".join(f"{rates[way]:.0f} {text}" for way, text in WAYS.items() if way != "tx")
-    print(f"speed: C, {threads} threads, load {os.getloadavg()[0]:.0f}: {rates['tx']:.0f} transfers a second; {texts}: "
+    print(f"speed: C, {threads} threads{world.network}, load {os.getloadavg()[0]:.0f}: {rates['tx']:.0f} transfers a second; {texts}: "
           f"{rates['tx'] / rates['hand']:.2f} of by hand; {own:.0f} microseconds of a processor in the program, {coordinator:.0f} in the "
           "coordinator", flush=True)
 

@@ -120,24 +120,25 @@ def told(cost):
 THREADS = [1, 4, 8, 32, 64]
 
 
-def run(world, seconds, rounds):
-    """Prints the figures. The servers listen on TCP meanwhile, which is all that the drivers know."""
+def run(world, seconds, rounds, threads):
+    """Prints the figures, for each number of threads. The servers listen on TCP meanwhile, which is all that the drivers know."""
     try:
         java = Java(world)
     except Missing as missing:
         print(f"speed: without Java: {missing}")
         return
-    for server in world.servers:
+    silent = [server for server in world.servers if server.port is None]
+    for server in silent:
         server.restart(free_port())
     try:
-        for threads in THREADS:
-            rates = java.rates(threads, seconds, rounds)
+        for number in threads:
+            rates = java.rates(number, seconds, rounds)
             mine, _ = rates["coordinator"]
             others = [(rates[way][0], WAYS[way]) for way in WAYS if way in rates and way != "coordinator"]
             beside = [f"{rate:.0f} {way}: {mine / rate:.2f} of that" for rate, way in others]
-            print(f"speed: Java, {threads} threads: {mine:.0f} transfers a second; {'; '.join(beside)}", flush=True)
+            print(f"speed: Java, {number} threads{world.network}: {mine:.0f} transfers a second; {'; '.join(beside)}", flush=True)
             costs = [f"{WAYS[way]} {told(rates[way][1])}" for way in WAYS if way in rates]
-            print(f"speed: Java, {threads} threads: microseconds of processor a transfer: {'; '.join(costs)}", flush=True)
+            print(f"speed: Java, {number} threads{world.network}: microseconds of processor a transfer: {'; '.join(costs)}", flush=True)
     finally:
-        for server in world.servers:
+        for server in silent:
             server.restart(None)

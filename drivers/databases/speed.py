@@ -9,7 +9,9 @@ import threading
 import time
 
 import c_speed
+import delay
 import jdbc
+from servers import Missing
 from world import ACCOUNTS
 
 from garterfossil import Xid
@@ -77,25 +79,52 @@ def per_second(work, threads, seconds):
     return sum(counts) / (time.monotonic() - begun)
 
 
-def run(world, seconds):
+def run_python(world, seconds, threads):
     """Prints the figures, by turns one way and the other."""
     world.prepare()
     numbers = itertools.count(random.randrange(1 << 40))
-    for threads in THREADS:
+    for number in threads:
         rates, rates_by_hand = [], []
-        with world.manager(threads) as xa:
+        with world.manager(number) as xa:
             for _ in range(ROUNDS):
-                rates.append(per_second(functools.partial(through_the_coordinator, xa), threads, seconds))
-                rates_by_hand.append(per_second(functools.partial(by_hand, world.databases(), numbers), threads, seconds))
+                rates.append(per_second(functools.partial(through_the_coordinator, xa), number, seconds))
+                rates_by_hand.append(per_second(functools.partial(by_hand, world.databases(), numbers), number, seconds))
         rate, hand = statistics.median(rates), statistics.median(rates_by_hand)
-        print(f"speed: Python, {threads} threads: {rate:.0f} transfers a second; {hand:.0f} by hand: {rate / hand:.2f} of that", flush=True)
-    c_speed.run(world, seconds, ROUNDS, THREADS)
-    jdbc.run(world, seconds, ROUNDS)
-    return 0
+        print(f"speed: Python, {number} threads{world.network}: {rate:.0f} transfers a second; {hand:.0f} by hand: {rate / hand:.2f} of that",
+              flush=True)
 
 
-def run_c(world, seconds):
-    """The same of C alone."""
+def run_c(world, seconds, threads):
+    """The same of C."""
     world.prepare()
-    c_speed.run(world, seconds, ROUNDS, THREADS)
-    return 0
+    c_speed.run(world, seconds, ROUNDS, threads)
+
+
+def run_java(world, seconds, threads):
+    """The same of Java."""
+    jdbc.run(world, seconds, ROUNDS, threads)
+
+
+#: What the parts measure: each with its numbers of threads.
+LANGUAGES = {"python-speed": (run_python, THREADS), "c-speed": (run_c, THREADS), "java-speed": (run_java, jdbc.THREADS)}
+
+
+def run_here(world, part, seconds, threads):
+    for language in LANGUAGES if part == "speed" else [part]:
+        measure, usual = LANGUAGES[language]
+        measure(world, seconds, threads or usual)
+
+
+def run(world, part, given):
+    """Measures what a part names, in the languages that it is of, over a network if one is asked for. How much was wrong of the network."""
+    if not given.delay:
+        run_here(world, part, given.seconds, given.threads)
+        return 0
+    try:
+        with delay.network(world, given.delay) as far:
+            wrong = delay.see(world, far, given.delay)
+            run_here(far, part, given.seconds, given.threads)
+            return wrong
+    except Missing as missing:
+        print(f"speed: not over a network: {missing}")
+        return 0

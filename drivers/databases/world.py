@@ -46,6 +46,9 @@ def see_module(kind):
 class World:
     """Two servers of databases in a folder, and what a driver of both needs."""
 
+    #: What lies between the programs and the servers, as a line of figures says it.
+    network = ""
+
     def __init__(self, home, kinds, coordinator):
         self.home = home
         self.coordinator = coordinator
