@@ -269,6 +269,11 @@ final class Recovery {
     private String make(String asked, BranchXid of) {
         try {
             connect();
+            // What was told before its session ended the next session may have listed already. A
+            // connection that was made before is ended by that one first.
+            if (isOver) {
+                return "lost";
+            }
             int answer = Calls.end(asked, link.xaResource(), of);
             note(asked, of, answer);
             return Integer.toString(answer);

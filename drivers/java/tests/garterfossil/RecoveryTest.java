@@ -18,6 +18,7 @@ import java.util.concurrent.CountDownLatch;
 import java.util.concurrent.FutureTask;
 import java.util.concurrent.TimeUnit;
 import java.util.concurrent.atomic.AtomicInteger;
+import java.util.concurrent.atomic.AtomicReference;
 import javax.transaction.xa.XAException;
 import org.junit.Rule;
 import org.junit.Test;
@@ -891,6 +892,44 @@ public class RecoveryTest {
             world.b.branches.put(xid, StandInResource.State.PREPARED);
         }
         world.put("rows", rows.toString());
+    }
+
+    @Test
+    public void aRecoveryMakesNoCallOnceItsSessionIsOver() throws Exception {
+        world.manager.close();
+        BranchXid one = BranchXid.of(world.manager.name(), "0000000000000001" + "0000000000000008", 1, 1);
+        BranchXid other = BranchXid.of(world.manager.name(), "0000000000000001" + "0000000000000009", 1, 1);
+        rowsOfAnEarlierSession(one, other);
+        world.b.isDown = true;
+        world.manager = world.builder().start();
+        Session before = world.manager.session();
+        ResourceManager rm = before.recoveries.stream().map(it -> it.rm).filter(it -> it.resource == world.b).findFirst().orElseThrow();
+        CountDownLatch isTold = new CountDownLatch(1), mayGoOn = new CountDownLatch(1);
+        AtomicReference<Thread> recovery = new AtomicReference<>();
+        AtomicInteger late = new AtomicInteger();
+        world.b.calls.clear();
+        world.b.before = () -> {
+            if (world.b.calls.contains("recover") && recovery.compareAndSet(null, Thread.currentThread())) {
+                // It is told a call for what it lists, and connects anew for that.
+                rm.noteStray();
+                world.b.beforeConnect = () -> {
+                    isTold.countDown();
+                    World.await(mayGoOn);
+                };
+            } else if (mayGoOn.getCount() == 0 && Thread.currentThread() == recovery.get()) {
+                late.incrementAndGet();
+            }
+        };
+        world.b.isDown = false;
+        World.await(isTold);
+        before.coordinator.kill("a test");
+        FutureTask<Session> next = new FutureTask<>(world.manager::session);
+        new Thread(next).start();
+        next.get(6, TimeUnit.SECONDS);
+        mayGoOn.countDown();
+        World.eventually(() -> world.b.committed.size() == 2 && world.rows().isEmpty());
+        assertEquals(0, late.get());
+        world.manager.close();
     }
 
     @Test
